@@ -1,0 +1,165 @@
+-- What each call answers and leaves behind, refused or not. A work area is all zeros afterwards.
+--
+--   zeros w               the work area after a call
+--   front new old         the first entries are new, the others as they were
+--   writeRefusal          the first refusal of writing; 0 if none
+--   writeAnswer           the answer of writing
+--   writtenOutput         the output after writing
+--   Wrote                 all that writing promises
+--   readRefusal           the first of reading's refusals but 13; 0 if none
+--   Reads                 what reading answers and the output after it
+--   shelveRefusal, shelveAnswer, shelvedBytes   shelving: first refusal, answer, the shelf afterwards
+--   fetchRefusal, fetched fetching: the number that is set, and the part that is returned
+--   stepped               one step of a walk over the shelf
+--   numberOf..            the paper's number and values for each case of an answer
+use Prim.Native.Nat.{ℕ, zero, suc, _+_, _-_, _*_, _<_}
+use mathlib.Core.Path.{_≡_}
+use mathlib.Core.Bool.{Bool, true, false, not, _&&_, _||_, cond}
+use mathlib.Core.List.{List, [], _∷_, _++_}
+use mathlib.Core.Logic.{_≢_}
+use lib.Dec.{eqb, ltb}
+use lib.IntN.{ℤ, pos}
+use lib.ListN.{length, getD, take, drop, replicate}
+use Rattle.model.specs.declared.Written.{Written}
+use Rattle.model.specs.declared.Written.the-variants as written
+use Rattle.model.specs.declared.ReadBack.{ReadBack}
+use Rattle.model.specs.declared.ReadBack.the-variants as readback
+use Rattle.model.specs.declared.Shelved.{Shelved}
+use Rattle.model.specs.declared.Shelved.the-variants as shelved
+use Rattle.model.specs.Numbers.{firstRefusal, refuse, isPermutation}
+use Rattle.model.specs.Map.{Plan, darts, edges, isKind, dartCountFits, connected, planar, characteristic, hasLoop, degreeRefused, fit}
+use Rattle.model.specs.Traversal.{standardPlan}
+use Rattle.model.specs.Record.{recordLength, recordOf}
+use Rattle.model.specs.Shelf.{kindOf, edgesOf, headRefusal, recordsIn, firstEqual, shelfRefused}
+
+-- "The work area, short or not, is zeros on every return."
+unfoldable pub zeros : List ℕ → List ℕ
+zeros w = replicate (length w) 0
+
+-- "Other output is untouched."
+unfoldable pub front : List ℕ → List ℕ → List ℕ
+front new old = new ++ drop (length new) old
+
+-- ---- writing
+
+-- "Writing meets 2, 3, 4, 6 to 12", for a work area and an output of these lengths
+unfoldable pub writeRefusal : ℕ → Plan → ℕ → ℕ → ℕ
+writeRefusal k p workLength outLength = firstRefusal
+    (refuse 2 (not (isKind k))
+    ∷ refuse 3 (not (dartCountFits (darts p)))
+    ∷ refuse 4 (not (ltb (p .root) (darts p)))
+    ∷ refuse 6 (not (isPermutation (p .rotation)))
+    ∷ refuse 7 (ltb workLength (32 * edges (p .rotation)))
+    ∷ refuse 8 (ltb outLength (recordLength k (edges (p .rotation))))
+    ∷ refuse 9 (not (connected (p .rotation)))
+    ∷ refuse 10 (not (planar (p .rotation)))
+    ∷ refuse 11 (hasLoop (p .rotation))
+    ∷ refuse 12 (degreeRefused k p)
+    ∷ [])
+
+-- "Writing returns the record's length"; refusal 10 "also gives the characteristic"
+unfoldable pub writeAnswer : ℕ → Plan → ℕ → ℕ → Written
+writeAnswer k p workLength outLength =
+    let r = writeRefusal k p workLength outLength in
+    cond (eqb r 0) (written.Length (recordLength k (edges (p .rotation))))
+    (cond (eqb r 10) (written.NotPlanar (characteristic (p .rotation))) (written.Refused r))
+
+-- "and fills that many output bytes"
+unfoldable pub writtenOutput : ℕ → Plan → ℕ → List ℕ → List ℕ
+writtenOutput k p workLength out = cond (eqb (writeRefusal k p workLength (length out)) 0) (front (recordOf k p) out) out
+
+pub record Wrote (k : ℕ) (p : Plan) (work out : List ℕ) (answer : Written) (work′ out′ : List ℕ) : Type 0 where
+  pub answered : answer ≡ writeAnswer k p (length work) (length out)
+  pub filled : out′ ≡ writtenOutput k p (length work) out
+  pub cleared : work′ ≡ zeros work
+
+-- ---- reading
+
+-- "reading 1, 2, 3, 5, 7, 8, 13"
+unfoldable pub readRefusal : List ℕ → ℕ → ℕ → ℕ
+readRefusal r workLength outLength = firstRefusal
+    (refuse (headRefusal r) (not (eqb (headRefusal r) 0))
+    ∷ refuse 7 (ltb workLength (32 * edgesOf r))
+    ∷ refuse 8 (ltb outLength (2 * edgesOf r))
+    ∷ [])
+
+-- the plan p is fit for the kind that the record r names, and r is its record
+abbrev pub HasRecord : List ℕ → Plan → Type 0
+HasRecord r p = (fit (kindOf r) p ≡ true) × (recordOf (kindOf r) p ≡ r)
+
+-- 13. "No fit plan of this kind has this record." "Reading returns m, with the standard plan in the first 2m entries and start 0."
+pub data Reads (r : List ℕ) (workLength : ℕ) (out : List ℕ) (answer : ReadBack) (out′ : List ℕ) : Type 0 where
+  refused : (readRefusal r workLength (length out) ≢ 0) → answer ≡ readback.Refused (readRefusal r workLength (length out)) → out′ ≡ out
+      → Reads r workLength out answer out′
+  read : (readRefusal r workLength (length out) ≡ 0) → (p : Plan) → HasRecord r p → answer ≡ readback.Edges (edgesOf r)
+      → out′ ≡ front (standardPlan p .rotation) out → Reads r workLength out answer out′
+  unreadable : (readRefusal r workLength (length out) ≡ 0) → ((p : Plan) → HasRecord r p → ⊥) → answer ≡ readback.Refused 13 → out′ ≡ out
+      → Reads r workLength out answer out′
+
+-- ---- the shelf
+
+-- "shelving 1, 2, 3, 5, 14, 16". 16. "The record isn't on the shelf and exceeds the bytes past the used length."
+unfoldable pub shelveRefusal : List ℕ → List ℕ → ℕ → ℕ
+shelveRefusal r shelf used =
+    let rs = recordsIn (take used shelf) in
+    firstRefusal
+    (refuse (headRefusal r) (not (eqb (headRefusal r) 0))
+    ∷ refuse 14 (shelfRefused shelf used)
+    ∷ refuse 16 (eqb (firstEqual r rs) (length rs) && ltb (length shelf - used) (length r))
+    ∷ [])
+
+-- "Shelving returns the record's number and the new used length: if equal bytes are already there, the first such number, with nothing stored; else
+-- they are put just past the used bytes."
+unfoldable pub shelveAnswer : List ℕ → List ℕ → ℕ → Shelved
+shelveAnswer r shelf used =
+    let rs = recordsIn (take used shelf) in
+    let n = firstEqual r rs in
+    cond (eqb (shelveRefusal r shelf used) 0) (shelved.At n (cond (eqb n (length rs)) (used + length r) used)) (shelved.Refused (shelveRefusal r shelf used))
+
+unfoldable pub shelvedBytes : List ℕ → List ℕ → ℕ → List ℕ
+shelvedBytes r shelf used =
+    let rs = recordsIn (take used shelf) in
+    cond (eqb (shelveRefusal r shelf used) 0 && eqb (firstEqual r rs) (length rs)) (take used shelf ++ front r (drop used shelf)) shelf
+
+pub record Stored (r shelf : List ℕ) (used : ℕ) (answer : Shelved) (shelf′ : List ℕ) : Type 0 where
+  pub answered : answer ≡ shelveAnswer r shelf used
+  pub bytes : shelf′ ≡ shelvedBytes r shelf used
+
+-- "fetching 14, 15". 15. "The shelf holds no record with this number, counting from 0."
+unfoldable pub fetchRefusal : List ℕ → ℕ → ℕ → ℕ
+fetchRefusal shelf used n = firstRefusal (refuse 14 (shelfRefused shelf used) ∷ refuse 15 (not (ltb n (length (recordsIn (take used shelf))))) ∷ [])
+
+-- "Fetching returns the part of the lent shelf that is record n"; "a refused fetch returns an empty part"
+unfoldable pub fetched : List ℕ → ℕ → ℕ → List ℕ
+fetched shelf used n = cond (eqb (fetchRefusal shelf used n) 0) (getD (recordsIn (take used shelf)) n []) []
+
+pub record Fetched (shelf : List ℕ) (used n : ℕ) (part : List ℕ) (number : ℕ) : Type 0 where
+  pub part-is : part ≡ fetched shelf used n
+  pub number-is : number ≡ fetchRefusal shelf used n
+
+-- ---- the paper's number and values for each case of an answer; 0 is no refusal
+
+abbrev pub numberOfWritten : Written → ℕ
+numberOfWritten (written.Length n) = 0
+numberOfWritten (written.Refused r) = r
+numberOfWritten (written.NotPlanar x) = 10
+
+-- the length that is returned; 0 where writing is refused
+abbrev pub lengthOfWritten : Written → ℕ
+lengthOfWritten (written.Length n) = n
+lengthOfWritten (written.Refused r) = 0
+lengthOfWritten (written.NotPlanar x) = 0
+
+-- the characteristic that refusal 10 gives; 0 elsewhere
+abbrev pub characteristicOfWritten : Written → ℤ
+characteristicOfWritten (written.Length n) = pos 0
+characteristicOfWritten (written.Refused r) = pos 0
+characteristicOfWritten (written.NotPlanar x) = x
+
+abbrev pub numberOfRead : ReadBack → ℕ
+numberOfRead (readback.Edges m) = 0
+numberOfRead (readback.Refused r) = r
+
+abbrev pub numberOfShelved : Shelved → ℕ
+numberOfShelved (shelved.At n used) = 0
+numberOfShelved (shelved.Refused r) = r

@@ -1,0 +1,9 @@
+pub mod Numbers
+pub mod Map
+pub mod Traversal
+pub mod LabelledTree
+pub mod Record
+pub mod Renumbering
+pub mod Shelf
+pub mod Calls
+pub mod Writings

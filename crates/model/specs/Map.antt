@@ -1,0 +1,126 @@
+-- A plan (document 01) is a rooted map: a rotation of darts and a root dart. `rot` is always the rotation, a list of N = 2m numbers.
+--
+--   Plan                 a rotation and a root
+--   opposite d           the other dart of d's edge
+--   next rot d           the next dart counterclockwise around d's vertex
+--   vertexOf rot d       d's vertex, named by its least dart
+--   faceNext rot d       one step of d's face
+--   faceOf rot d         d's face, named by its least dart
+--   edges, vertices, faces rot   how many there are
+--   degreeOne rot d      d is alone at its vertex
+--   reached rot          the darts reached from dart 0, as 0/1 marks
+--   connected rot        every dart is reached
+--   characteristic rot   vertices minus edges plus faces, a signed number
+--   planar rot           the characteristic is 2
+--   hasLoop rot          some edge has both darts at one vertex
+--   hasDegreeOne rot     some vertex has degree one
+--   isKind k             k is a kind of record: 1 or 2
+--   dartCountFits n      n is a dart count that a plan may have
+--   degreeRefused k p    kind k does not take p for a vertex of degree one
+--   fit k p              the plan p is fit for kind k
+use Prim.Native.Nat.{ℕ, zero, suc, _+_, _-_, _*_, _/_, _%_}
+use mathlib.Core.Bool.{Bool, true, false, not, _&&_, _||_, cond}
+use mathlib.Core.List.{List}
+use lib.Dec.{eqb, ltb, leb}
+use lib.IntN.{ℤ, pos, negsuc, _+ℤ_, _-ℤ_}
+use lib.ListN.{length, getD, set, replicate}
+use Rattle.model.specs.Numbers.{some, least, cycles, isPermutation}
+
+-- "A plan has m trails .. and 2m darts (trail ends), numbered from 0": an edge is a trail, a dart a trail end, the rotation the turning order,
+-- the root the start.
+pub record Plan : Type 0 where
+  pub rotation : List ℕ
+  pub root : ℕ
+
+-- "the list's length is the dart count"
+abbrev pub darts : Plan → ℕ
+darts p = length (p .rotation)
+
+-- "Darts 2e and 2e+1 are the two ends of trail e, each the opposite of the other."
+unfoldable pub opposite : ℕ → ℕ
+opposite d = suc d - 2 * (d % 2)
+
+-- "entry d is the next dart counterclockwise around d's junction"
+unfoldable pub next : List ℕ → ℕ → ℕ
+next rot d = getD rot d 0
+
+-- "Its cycles are the junctions": a vertex is a junction.
+unfoldable pub vertexOf : List ℕ → ℕ → ℕ
+vertexOf rot d = least (next rot) (length rot) d
+
+-- "An area walk goes from dart d to the entry at the opposite of d; its cycles are the areas": a face is an area.
+unfoldable pub faceNext : List ℕ → ℕ → ℕ
+faceNext rot d = next rot (opposite d)
+
+unfoldable pub faceOf : List ℕ → ℕ → ℕ
+faceOf rot d = least (faceNext rot) (length rot) d
+
+unfoldable pub edges : List ℕ → ℕ
+edges rot = length rot / 2
+
+unfoldable pub vertices : List ℕ → ℕ
+vertices rot = cycles (next rot) (length rot)
+
+unfoldable pub faces : List ℕ → ℕ
+faces rot = cycles (faceNext rot) (length rot)
+
+-- "a junction with one dart has degree one"
+unfoldable pub degreeOne : List ℕ → ℕ → Bool
+degreeOne rot d = eqb (next rot d) d
+
+-- ---- "A plan is connected when every dart is reached from dart 0 by opposites and entries."
+
+-- every marked dart below n marks its opposite and its entry
+unfoldable pub spread : List ℕ → ℕ → List ℕ → List ℕ
+spread rot zero marks = marks
+spread rot (suc d) marks =
+    let so-far = spread rot d marks in cond (eqb (getD so-far d 0) 0) so-far (set (set so-far (opposite d) 1) (next rot d) 1)
+
+unfoldable pub spreads : List ℕ → ℕ → List ℕ → List ℕ
+spreads rot zero marks = marks
+spreads rot (suc k) marks = spreads rot k (spread rot (length rot) marks)
+
+unfoldable pub reached : List ℕ → List ℕ
+reached rot = spreads rot (length rot) (set (replicate (length rot) 0) 0 1)
+
+unfoldable pub connected : List ℕ → Bool
+connected rot = not (some (λ d. eqb (getD (reached rot) d 0) 0) (length rot))
+
+-- ---- "A connected plan is planar when its characteristic, junctions minus trails plus areas, is 2."
+
+unfoldable pub characteristic : List ℕ → ℤ
+characteristic rot = (pos (vertices rot) -ℤ pos (edges rot)) +ℤ pos (faces rot)
+
+-- an integer is the number n
+abbrev pub is : ℤ → ℕ → Bool
+is (pos k) n = eqb k n
+is (negsuc k) n = false
+
+unfoldable pub planar : List ℕ → Bool
+planar rot = is (characteristic rot) 2
+
+-- "A loop is a trail whose two darts belong to one junction."
+unfoldable pub hasLoop : List ℕ → Bool
+hasLoop rot = some (λ d. eqb (vertexOf rot d) (vertexOf rot (opposite d))) (length rot)
+
+unfoldable pub hasDegreeOne : List ℕ → Bool
+hasDegreeOne rot = some (degreeOne rot) (length rot)
+
+-- ---- fitness
+
+unfoldable pub isKind : ℕ → Bool
+isKind k = eqb k 1 || eqb k 2
+
+-- "A plan has m trails, m from 1 to 4,096"
+unfoldable pub dartCountFits : ℕ → Bool
+dartCountFits n = ltb 0 n && (eqb (n % 2) 0 && leb n 8192)
+
+-- "Kind 1 takes connected planar plans with no loop and no junction of degree one. Kind 2 takes connected planar plans with no loop."
+unfoldable pub degreeRefused : ℕ → Plan → Bool
+degreeRefused k p = eqb k 1 && hasDegreeOne (p .rotation)
+
+-- "A plan as set down here, its entries all different and, like the start, below the dart count, is fit for each kind that takes it."
+unfoldable pub fit : ℕ → Plan → Bool
+fit k p =
+    isKind k && (dartCountFits (darts p) && (ltb (p .root) (darts p) && (isPermutation (p .rotation)
+    && (connected (p .rotation) && (planar (p .rotation) && (not (hasLoop (p .rotation)) && not (degreeRefused k p)))))))

@@ -1,0 +1,54 @@
+-- The bytes of a record.
+--
+--   digits base w ds      the number whose w digits are the first of ds, highest first, filled up with 0
+--   pack base w n ds      n such numbers: ds in groups of w
+--   bytesFor n w          how many groups of w hold n digits
+--   le16 n                n in two bytes, the low one first
+--   recordLength k m      the length of a record of kind k with m edges
+--   payload k bits labels what follows the head
+--   layOut k m bits labels   a whole record
+--   recordOf k p          the record of plan p in kind k
+use Prim.Native.Nat.{ℕ, zero, suc, _+_, _-_, _*_, _/_, _%_}
+use mathlib.Core.Bool.{Bool, cond}
+use mathlib.Core.List.{List, [], _∷_, _++_}
+use lib.Dec.{eqb}
+use lib.ListN.{length, drop}
+use Rattle.model.specs.Map.{Plan, edges}
+use Rattle.model.specs.LabelledTree.{labels, treeBits}
+
+-- `so-far` is the number that the digits before make
+unfoldable pub digitsFrom : ℕ → ℕ → ℕ → List ℕ → ℕ
+digitsFrom base so-far zero ds = so-far
+digitsFrom base so-far (suc w) [] = digitsFrom base (so-far * base) w []
+digitsFrom base so-far (suc w) (d ∷ ds) = digitsFrom base (so-far * base + d) w ds
+
+abbrev pub digits : ℕ → ℕ → List ℕ → ℕ
+digits base w ds = digitsFrom base 0 w ds
+
+unfoldable pub pack : ℕ → ℕ → ℕ → List ℕ → List ℕ
+pack base w zero ds = []
+pack base w (suc n) ds = digits base w ds ∷ pack base w n (drop w ds)
+
+abbrev pub bytesFor : ℕ → ℕ → ℕ
+bytesFor n w = (n + (w - 1)) / w
+
+-- "All fields are little-endian"
+unfoldable pub le16 : ℕ → List ℕ
+le16 n = n % 256 ∷ n / 256 % 256 ∷ []
+
+-- "Kind 1: .. Length 6 plus 3m/8 rounded up"; "Kind 2: .. Length 6 plus 2m/8 rounded up plus m/5 rounded up"
+unfoldable pub recordLength : ℕ → ℕ → ℕ
+recordLength k m = cond (eqb k 1) (6 + bytesFor (3 * m) 8) (6 + bytesFor (2 * m) 8 + bytesFor m 5)
+
+-- "Kind 1: tree bits, then m label bits, unbroken; padded once." "Kind 2: tree bits padded to a byte, then labels in groups of five (0, 1, star = 2),
+-- first label highest in base 3, one byte a group, the last group filled with 0." "Bits fill a byte from its highest bit; unused low bits are 0."
+unfoldable pub payload : ℕ → ℕ → List ℕ → List ℕ → List ℕ
+payload k m bits labels =
+    cond (eqb k 1) (pack 2 8 (bytesFor (3 * m) 8) (bits ++ labels)) (pack 2 8 (bytesFor (2 * m) 8) bits ++ pack 3 5 (bytesFor m 5) labels)
+
+-- "length of the whole record (2 bytes), kind (2 bytes, 1 or 2), m (2 bytes), payload"
+unfoldable pub layOut : ℕ → ℕ → List ℕ → List ℕ → List ℕ
+layOut k m bits labels = le16 (recordLength k m) ++ (le16 k ++ (le16 m ++ payload k m bits labels))
+
+unfoldable pub recordOf : ℕ → Plan → List ℕ
+recordOf k p = layOut k (edges (p .rotation)) (treeBits p) (labels p)

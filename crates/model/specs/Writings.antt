@@ -1,0 +1,66 @@
+-- Two lists of writings (document 01), and what demand 3 says of them.
+--
+--   Writing               one writing call as it happened: what it was handed, what it answered and left
+--   Honest c              the call did what writing promises
+--   isAccepted c          the call was not refused
+--   bytesWritten c        the bytes that the call adds: its record, or none if it was refused
+--   laidOut cs            the records of a list laid end to end
+--   accepted cs           the calls not refused
+--   Alike c d             two calls match: one kind, and a renumbering between their plans
+--   PlaceByPlace cs ds    the lists match place by place
+--   AllHonest cs          every call of the list did what writing promises
+use Prim.Native.Nat.{ℕ}
+use mathlib.Core.Path.{_≡_}
+use mathlib.Core.Bool.{Bool, true, false, cond}
+use mathlib.Core.List.{List, [], _∷_, _++_}
+use lib.Dec.{eqb}
+use lib.ListN.{take}
+use Rattle.model.specs.declared.Written.{Written}
+use Rattle.model.specs.Map.{Plan}
+use Rattle.model.specs.Renumbering.{Renumbering}
+use Rattle.model.specs.Calls.{Wrote, numberOfWritten, lengthOfWritten}
+
+-- "each call is handed a plan, a kind, a work area and an output, with any content"
+pub record Writing : Type 0 where
+  pub kind : ℕ
+  pub plan : Plan
+  pub work : List ℕ
+  pub output : List ℕ
+  pub answer : Written
+  pub work-after : List ℕ
+  pub output-after : List ℕ
+
+abbrev pub Honest : Writing → Type 0
+Honest c = Wrote (c .kind) (c .plan) (c .work) (c .output) (c .answer) (c .work-after) (c .output-after)
+
+unfoldable pub isAccepted : Writing → Bool
+isAccepted c = eqb (numberOfWritten (c .answer)) 0
+
+-- "Its record, if the call isn't refused, is the first bytes of its output at its return, as many as the returned length."
+unfoldable pub bytesWritten : Writing → List ℕ
+bytesWritten c = cond (isAccepted c) (take (lengthOfWritten (c .answer)) (c .output-after)) []
+
+-- "a refused call adds no byte, and an empty list has none"
+unfoldable pub laidOut : List Writing → List ℕ
+laidOut [] = []
+laidOut (c ∷ cs) = bytesWritten c ++ laidOut cs
+
+unfoldable pub accepted : List Writing → List Writing
+accepted [] = []
+accepted (c ∷ cs) = cond (isAccepted c) (c ∷ accepted cs) (accepted cs)
+
+pub record Alike (c d : Writing) : Type 0 where
+  pub one-kind : c .kind ≡ d .kind
+  pub partners : List ℕ
+  pub carried : Renumbering (c .plan) (d .plan) partners
+
+-- "the first call not refused of one list beside the first of the other, and so on"
+abbrev pub PlaceByPlace : List Writing → List Writing → Type 0
+PlaceByPlace [] [] = Unit
+PlaceByPlace [] (d ∷ ds) = ⊥
+PlaceByPlace (c ∷ cs) [] = ⊥
+PlaceByPlace (c ∷ cs) (d ∷ ds) = Alike c d × PlaceByPlace cs ds
+
+abbrev pub AllHonest : List Writing → Type 0
+AllHonest [] = Unit
+AllHonest (c ∷ cs) = Honest c × AllHonest cs

@@ -1,0 +1,21 @@
+// The definitions of document 01, in specs/, and the answers of the calls, which those definitions speak of. No code stands here: what the calls do is
+// in the crates above, and their contracts cite these definitions.
+
+// The answer of writing: the record's length; a refusal other than 10; refusal 10 with the characteristic.
+pub enum Written {
+    Length(u16),
+    Refused(u16),
+    NotPlanar(i32),
+}
+
+// The answer of reading: the number of edges, or a refusal.
+pub enum ReadBack {
+    Edges(u16),
+    Refused(u16),
+}
+
+// The answer of shelving: the record's number and the new used length, or a refusal.
+pub enum Shelved {
+    At(usize, usize),
+    Refused(u16),
+}

@@ -1,0 +1,12 @@
+pub mod Order
+pub mod Tally
+pub mod Cycle
+pub mod Transversal
+pub mod Chord
+pub mod Stack
+pub mod Decode
+pub mod Tour
+pub mod Merge
+pub mod Number
+pub mod Span
+pub mod Euler

@@ -1,0 +1,102 @@
+-- A permutation with one cycle numbers what it permutes: from any r, the j-th iterate of r runs through all the numbers below N, each once
+-- (`dart`, `pos`), and the permutation is then the step to the next number (`pos-step`). Assumes nothing.
+use Prim.Native.Nat.{ℕ, zero, suc, pred, _≤_, _<_, zero-le}
+use native.Mathlib.Decide.{ℕ-discrete}
+use native.Mathlib.Omega.{arith}
+use mathlib.Core.Path.{_≡_, refl, sym, ap, subst, _∙_}
+use mathlib.Core.Logic.{_⊎_, inl, inr, ⊎-elim}
+use mathlib.Core.Bool.{true}
+use lib.Dec.{T}
+use Rattle.model.specs.Numbers.{count, iter, least, isLeast, cycles}
+use Rattle.orbits.specs.Permutation.{Perm}
+use Rattle.orbits.specs.Chord.{next}
+use Rattle.orbits.proofs.Order.{eq-split, eq→eqb, find-below}
+use Rattle.orbits.proofs.Tally.{except, except-in, count-except, count-inj}
+use Rattle.orbits.proofs.Cycle.{least-bound, least-idem, iter-bound, iter-inj, iter-out, comes-back, same-reach, Back, On, on-step}
+use Rattle.orbits.proofs.Chord.{next-cases}
+
+-- every number passes: there are n below n
+pub count-all : (n : ℕ) → count (λ i. true) n ≡ n
+unfolding count
+count-all zero = refl
+count-all (suc n) = ap suc (count-all n)
+
+module _ (N : ℕ) (p : ℕ → ℕ) (perm : Perm N p) (single : cycles p N ≡ 1) where
+  -- one cycle has one label
+  pub one-label : (x y : ℕ) → x < N → y < N → least p N x ≡ least p N y
+  unfolding cycles
+  one-label x y hx hy = eq-split (least p N y) (least p N x) sym (λ n. absurd (
+      let g = isLeast p N in
+      let own : (z : ℕ) → z < N → T (g (least p N z)) = λ z h. eq→eqb (least p N (least p N z)) (least p N z) (least-idem N p perm z h) in
+      let one = count-except g (least p N x) N (least-bound N p perm x hx) (own x hx) in
+      let two = count-except (except g (least p N x)) (least p N y) N (least-bound N p perm y hy) (except-in g (least p N x) (least p N y) (own y hy) n) in
+      omega arith))
+
+  module _ (r : ℕ) (hr : r < N) where
+    abbrev pub dart : ℕ → ℕ
+    dart i = iter p i r
+
+    -- where r comes back after suc q steps, all are within the first q
+    within : (q : ℕ) → Back p q r → (d : ℕ) → d < N → On p q r d
+    unfolding iter
+    within q back d hd = let (j, e) = same-reach N p perm r d hd (one-label r d hr hd) in subst (On p q r) e (walk j)
+      where
+        walk : (j : ℕ) → On p q r (iter p j r)
+        walk zero = (zero, zero-le, refl)
+        walk (suc j) = subst (On p q r) (sym (iter-out p j r)) (on-step p q r back (iter p j r) (walk j))
+
+    -- so r does not come back before all N are met
+    long : (q : ℕ) → Back p q r → N ≤ suc q
+    long q back =
+        let more = count-inj (λ i. true) (λ i. true) N (suc q) (record {
+          to = λ d h t. within q back d h .0;
+          bound = λ d h t. let k = within q back d h .1 in omega arith;
+          passes = λ d h t. tt;
+          inj = λ d e hd he t u f. sym (within q back d hd .2) ∙ ap dart f ∙ within q back e he .2;
+        }) in
+        omega (arith, count-all N, count-all (suc q))
+
+    -- and comes back then
+    round : iter p N r ≡ r
+    round = let (q, hq, back) = comes-back N p perm r hr in let e : N ≡ suc q = omega (arith, long q back) in ap dart e ∙ back
+
+    pub dart-bound : (i : ℕ) → i < N → dart i < N
+    dart-bound i h = iter-bound N p perm i r hr
+
+    dart-inj : (i j : ℕ) → i < N → j < N → dart i ≡ dart j → i ≡ j
+    dart-inj i j hi hj = iter-inj N p perm (pred N) r hr (λ q h back. omega (arith, long q back)) i j (omega arith) (omega arith)
+
+    -- when d comes: found by search
+    found : (d : ℕ) → ((i : ℕ) × (i < N) × (dart i ≡ d)) ⊎ ((i : ℕ) → i < N → dart i ≡ d → ⊥)
+    found d = find-below (λ i. dart i ≡ d) (λ i. ℕ-discrete (dart i) d) N
+
+    pub pos : ℕ → ℕ
+    pos d = ⊎-elim (λ f. f .0) (λ f. zero) (found d)
+
+    pos-is : (d : ℕ) → d < N → (pos d < N) × (dart (pos d) ≡ d)
+    unfolding pos
+    pos-is d h = go (found d)
+      where
+        go : (f : ((i : ℕ) × (i < N) × (dart i ≡ d)) ⊎ ((i : ℕ) → i < N → dart i ≡ d → ⊥))
+            → (⊎-elim (λ f. f .0) (λ f. zero) f < N) × (dart (⊎-elim (λ f. f .0) (λ f. zero) f) ≡ d)
+        go (inl f) = (f .1, f .2)
+        go (inr f) = let (q, hq, back) = comes-back N p perm r hr in let (i, hi, e) = within q back d h in absurd (f i (omega arith) e)
+
+    pub pos-bound : (d : ℕ) → d < N → pos d < N
+    pos-bound d h = pos-is d h .0
+
+    pub dart-pos : (d : ℕ) → d < N → dart (pos d) ≡ d
+    dart-pos d h = pos-is d h .1
+
+    pub pos-dart : (i : ℕ) → i < N → pos (dart i) ≡ i
+    pos-dart i h = let (b, e) = pos-is (dart i) (dart-bound i h) in dart-inj (pos (dart i)) i b h e
+
+    pub pos-step : (d : ℕ) → d < N → pos (p d) ≡ next N (pos d)
+    unfolding iter
+    pos-step d h =
+        let (b, e) = pos-is d h in
+        let on : p d ≡ dart (suc (pos d)) = ap p (sym e) ∙ sym (iter-out p (pos d) r) in
+        ⊎-elim
+        (λ k. ap pos on ∙ pos-dart (suc (pos d)) (k .0) ∙ sym (k .1))
+        (λ k. ap pos (on ∙ ap dart (k .0) ∙ round) ∙ pos-dart zero (omega arith) ∙ sym (k .1))
+        (next-cases N (pos d) b)

@@ -1,0 +1,4 @@
+pub mod Permutation
+pub mod Chord
+pub mod Stack
+pub mod Tour

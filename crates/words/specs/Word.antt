@@ -1,0 +1,242 @@
+-- The contour word: the letters of a plan's traversal. The record, the standard plan and fitness can all be read off it.
+--
+--   nested n here below opens w   the word w goes on well from this state: n vertices entered, `here` the present one, `below` those that it hangs from,
+--                         `opens` the vertices where edges outside the tree are open, the last opened first
+--   bareLeaf w            some vertex but the root has degree one: a down stands right before an up
+--   rootDegree n w        how many darts the root has, where the traversal stands n tree edges below it
+--   valid k w             w is the word of a plan that is fit for kind k
+--   startsSecond w        1 if w begins with second, else 0
+--   Ends, ends w          the labels of the edges that w opens, and those of the edges that it ends without opening them, tree and others
+--   wordLabels w          the labels; a star is 2
+--   wordBits b w          the tree bits, where b says that the letter before w is down
+--   wordDarts             the standard dart at each place, from stacks of open tree edges and of other open edges
+--   planOf w              the standard plan
+--   Found                 a word or none
+--   Machine, Turn         the state of the reading machine, and what one turn of it does
+--   turn s                one turn: tree bits and labels are read in step
+--   decode f s            the word that the machine reads in at most f turns
+--   decodeWord k          the same for the tree bits and labels of kind k
+use Prim.Native.Nat.{ℕ, zero, suc, _+_, _*_}
+use mathlib.Core.Bool.{Bool, true, false, not, _&&_, _||_, cond}
+use mathlib.Core.List.{List, [], _∷_, _++_}
+use lib.Dec.{eqb, ltb}
+use lib.ListN.{length, set, replicate}
+use Rattle.model.specs.Map.{Plan, dartCountFits, isKind, opposite}
+use Rattle.model.specs.Traversal.{Letter, down, up, first, second}
+use Rattle.model.specs.LabelledTree.{star}
+
+-- ---- which words are words of fit plans
+
+-- An edge outside the tree ends at a proper ancestor of the vertex where it began: one that was entered earlier and is not left yet.
+unfoldable pub nested : ℕ → ℕ → List ℕ → List ℕ → List Letter → Bool
+nested n here [] [] [] = true
+nested n here [] (o ∷ os) [] = false
+nested n here (b ∷ bs) opens [] = false
+nested n here below opens (down ∷ w) = nested (suc n) n (here ∷ below) opens w
+nested n here [] opens (up ∷ w) = false
+nested n here (b ∷ bs) opens (up ∷ w) = nested n b bs opens w
+nested n here below opens (first ∷ w) = nested n here below (here ∷ opens) w
+nested n here below [] (second ∷ w) = false
+nested n here below (o ∷ os) (second ∷ w) = ltb here o && nested n here below os w
+
+unfoldable pub startsUp : List Letter → Bool
+startsUp [] = false
+startsUp (down ∷ w) = false
+startsUp (up ∷ w) = true
+startsUp (first ∷ w) = false
+startsUp (second ∷ w) = false
+
+unfoldable pub bareLeaf : List Letter → Bool
+bareLeaf [] = false
+bareLeaf (down ∷ w) = startsUp w || bareLeaf w
+bareLeaf (up ∷ w) = bareLeaf w
+bareLeaf (first ∷ w) = bareLeaf w
+bareLeaf (second ∷ w) = bareLeaf w
+
+-- one more where the traversal stands at the root
+abbrev pub atRoot : ℕ → ℕ → ℕ
+atRoot zero c = suc c
+atRoot (suc n) c = c
+
+abbrev pub pred : ℕ → ℕ
+pred zero = zero
+pred (suc n) = n
+
+unfoldable pub rootDegree : ℕ → List Letter → ℕ
+rootDegree n [] = 0
+rootDegree n (down ∷ w) = atRoot n (rootDegree (suc n) w)
+rootDegree n (up ∷ w) = rootDegree (pred n) w
+rootDegree n (first ∷ w) = atRoot n (rootDegree n w)
+rootDegree n (second ∷ w) = atRoot n (rootDegree n w)
+
+unfoldable pub valid : ℕ → List Letter → Bool
+valid k w =
+    isKind k && (dartCountFits (length w) && (nested 1 0 [] [] w && not (eqb k 1 && (bareLeaf w || eqb (rootDegree 0 w) 1))))
+
+-- ---- labels and bits
+
+unfoldable pub startsSecond : List Letter → ℕ
+startsSecond [] = 0
+startsSecond (down ∷ w) = 0
+startsSecond (up ∷ w) = 0
+startsSecond (first ∷ w) = 0
+startsSecond (second ∷ w) = 1
+
+pub record Ends : Type 0 where
+  pub labels : List ℕ
+  pub ups : List ℕ
+  pub seconds : List ℕ
+
+abbrev pub head : List ℕ → ℕ
+head [] = 0
+head (x ∷ xs) = x
+
+abbrev pub tail : List ℕ → List ℕ
+tail [] = []
+tail (x ∷ xs) = xs
+
+-- An edge's label is 1 exactly where the letter right after its end is second. `rest` is `ends` of what follows, w.
+unfoldable pub endsOne : Letter → List Letter → Ends → Ends
+endsOne down w rest = record { labels = cond (startsUp w) star (head (rest .ups)) ∷ rest .labels; ups = tail (rest .ups); seconds = rest .seconds }
+endsOne up w rest = record { labels = rest .labels; ups = startsSecond w ∷ rest .ups; seconds = rest .seconds }
+endsOne first w rest = record { labels = head (rest .seconds) ∷ rest .labels; ups = rest .ups; seconds = tail (rest .seconds) }
+endsOne second w rest = record { labels = rest .labels; ups = rest .ups; seconds = startsSecond w ∷ rest .seconds }
+
+unfoldable pub ends : List Letter → Ends
+ends [] = record { labels = []; ups = []; seconds = [] }
+ends (l ∷ w) = endsOne l w (ends w)
+
+unfoldable pub wordLabels : List Letter → List ℕ
+wordLabels w = ends w .labels
+
+unfoldable pub wordBits : Bool → List Letter → List ℕ
+wordBits b [] = []
+wordBits b (down ∷ w) = 1 ∷ wordBits true w
+wordBits b (up ∷ w) = cond b (startsSecond w) 0 ∷ wordBits false w
+wordBits b (first ∷ w) = 1 ∷ 0 ∷ wordBits false w
+wordBits b (second ∷ w) = wordBits false w
+
+-- ---- the standard plan
+
+-- e edges have their numbers; `trees` and `opens` are the edges that are open, the last opened first
+unfoldable pub wordDarts : ℕ → List ℕ → List ℕ → List Letter → List ℕ
+wordDarts e trees opens [] = []
+wordDarts e trees opens (down ∷ w) = 2 * e ∷ wordDarts (suc e) (e ∷ trees) opens w
+wordDarts e trees opens (up ∷ w) = (2 * head trees + 1) ∷ wordDarts e (tail trees) opens w
+wordDarts e trees opens (first ∷ w) = 2 * e ∷ wordDarts (suc e) trees (e ∷ opens) w
+wordDarts e trees opens (second ∷ w) = (2 * head opens + 1) ∷ wordDarts e trees (tail opens) w
+
+-- the dart whose entry is the dart that comes after x in the traversal
+unfoldable pub placeOf : Letter → ℕ → ℕ
+placeOf down x = opposite x
+placeOf up x = opposite x
+placeOf first x = x
+placeOf second x = x
+
+-- each dart's successor is entered; after the last comes dart 0
+unfoldable pub link : List Letter → List ℕ → List ℕ → List ℕ
+link [] xs out = out
+link (l ∷ w) [] out = out
+link (l ∷ w) (x ∷ xs) out = link w xs (set out (placeOf l x) (head xs))
+
+unfoldable pub rotationOf : List Letter → List ℕ
+rotationOf w = link w (wordDarts 0 [] [] w) (replicate (length w) 0)
+
+unfoldable pub planOf : List Letter → Plan
+planOf w = record { rotation = rotationOf w; root = 0 }
+
+-- ---- reading
+
+pub data Found : Type 0 where
+  found : List Letter → Found
+  none : Found
+
+abbrev pub after : List Letter → Found → Found
+after [] r = r
+after (l ∷ ls) none = none
+after (l ∷ ls) (found w) = found (l ∷ ls ++ w)
+
+-- n, here, below and opens as in `nested`; `ups` and `seconds` are the labels of the open edges; `label` is the label of the edge that has just ended, 0
+-- elsewhere; `bits` and `labels` are what is still to be read.
+pub record Machine : Type 0 where
+  pub n : ℕ
+  pub here : ℕ
+  pub below : List ℕ
+  pub ups : List ℕ
+  pub opens : List ℕ
+  pub seconds : List ℕ
+  pub label : ℕ
+  pub bits : List ℕ
+  pub labels : List ℕ
+
+pub data Turn : Type 0 where
+  done stuck : Turn
+  goes : List Letter → Machine → Turn
+
+-- an edge of label 1 has ended: the last open edge outside the tree ends too, at a proper ancestor of where it began
+unfoldable pub closeEdge : Machine → List ℕ → Turn
+closeEdge s [] = stuck
+closeEdge s (o ∷ os) = cond (ltb (s .here) o)
+    (goes (second ∷ []) (record {
+      n = s .n; here = s .here; below = s .below; ups = s .ups; opens = os; seconds = tail (s .seconds); label = head (s .seconds);
+      bits = s .bits; labels = s .labels }))
+    stuck
+
+-- nothing is open and nothing is left
+unfoldable pub finish : List ℕ → List ℕ → List ℕ → Turn
+finish [] [] [] = done
+finish [] [] (l ∷ ls) = stuck
+finish [] (o ∷ os) labels = stuck
+finish (v ∷ vs) opens labels = stuck
+
+unfoldable pub goUp : Machine → List ℕ → List ℕ → Turn
+goUp s bits [] = stuck
+goUp s bits (v ∷ vs) = goes (up ∷ []) (record {
+      n = s .n; here = v; below = vs; ups = tail (s .ups); opens = s .opens; seconds = s .seconds; label = head (s .ups);
+      bits = bits; labels = s .labels })
+
+-- a star is a leaf, and the bit b after it its saved label; else b is 0 where the edge is no tree edge
+unfoldable pub goDown : Machine → List ℕ → List ℕ → Turn
+goDown s [] labels = stuck
+goDown s (b ∷ bs) [] = stuck
+goDown s (b ∷ bs) (l ∷ ls) = cond (eqb l star)
+    (goes (down ∷ up ∷ []) (record {
+      n = suc (s .n); here = s .here; below = s .below; ups = s .ups; opens = s .opens; seconds = s .seconds; label = b;
+      bits = bs; labels = ls }))
+    (cond (eqb b 0)
+    (goes (first ∷ []) (record {
+      n = s .n; here = s .here; below = s .below; ups = s .ups; opens = s .here ∷ s .opens; seconds = l ∷ s .seconds; label = 0;
+      bits = bs; labels = ls }))
+    (goes (down ∷ []) (record {
+      n = suc (s .n); here = s .n; below = s .here ∷ s .below; ups = l ∷ s .ups; opens = s .opens; seconds = s .seconds; label = 0;
+      bits = b ∷ bs; labels = ls })))
+
+-- 0: up; 1: down, with the next label
+unfoldable pub readBit : Machine → List ℕ → Turn
+readBit s [] = finish (s .below) (s .opens) (s .labels)
+readBit s (b ∷ bs) = cond (eqb b 0) (goUp s bs (s .below)) (goDown s bs (s .labels))
+
+unfoldable pub turn : Machine → Turn
+turn s = cond (eqb (s .label) 1) (closeEdge s (s .opens)) (readBit s (s .bits))
+
+abbrev pub follow : (Machine → Found) → Turn → Found
+follow go done = found []
+follow go stuck = none
+follow go (goes ls s) = after ls (go s)
+
+-- at most f turns
+unfoldable pub decode : ℕ → Machine → Found
+decode zero s = none
+decode (suc f) s = follow (decode f) (turn s)
+
+unfoldable pub start : List ℕ → List ℕ → Machine
+start bits labels = record {
+  n = 1; here = 0; below = []; ups = []; opens = []; seconds = []; label = 0; bits = bits; labels = labels }
+
+-- in kind 1 the root has not degree one
+abbrev pub checkRoot : ℕ → Found → Found
+checkRoot k none = none
+checkRoot k (found w) = cond (eqb k 1 && eqb (rootDegree 0 w) 1) none (found w)
+
+unfoldable pub decodeWord : ℕ → List ℕ → List ℕ → Found
+decodeWord k bits labels = checkRoot k (decode (suc (length bits)) (start bits labels))
