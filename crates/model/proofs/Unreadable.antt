@@ -1,0 +1,100 @@
+-- The two lines of the starred table on reading: "07 00 01 00 02 00 CC and the same with C9: refusal 13." No fit plan has these records.
+--
+--   two-edges x                    a record of two edges in kind 1 whose payload is the byte x
+--   unreadable-CC, unreadable-C9   no plan that is fit for kind 1 has the record
+use mathlib.Core.Path.{_≡_, refl, sym, ap, _∙_}
+use mathlib.Core.Bool.{Bool, true, false, not, _&&_, _||_, cond, true≢false}
+use mathlib.Core.List.{List, [], _∷_, _++_}
+use Prim.Native.Nat.{ℕ, zero, suc, _*_, _/_, _%_, _≤_, _<_}
+use native.Mathlib.Omega.{arith}
+use lib.ListN.{length, getD}
+use Rattle.model.specs.Numbers.{count, some, elem, distinct, allBelow, isPermutation, position, least, cycles, firstRefusal}
+use Rattle.model.specs.Map.{Plan, darts, opposite, next, vertexOf, faceNext, edges, vertices, faces, degreeOne, spread, spreads, reached, connected, characteristic, planar, hasLoop, hasDegreeOne, isKind, dartCountFits, degreeRefused, fit}
+use Rattle.model.specs.Traversal.{letterAt, onward, seenAfter, walk, visits}
+use Rattle.model.specs.LabelledTree.{codesOf, codes, unlabelled, isUpper, gone, before, labelOne, removeCut, takeLeaf, takeOne, takeLeaves, treeLabels, labelOf, bitsOf, along, labels, treeBits}
+use Rattle.model.specs.Record.{digitsFrom, pack, le16, recordLength, payload, layOut, recordOf}
+use Rattle.model.specs.Shelf.{same, word16}
+use Rattle.model.specs.Calls.{HasRecord}
+use Rattle.model.proofs.Booleans.{and-left, and-right, not-left, all, at}
+use Rattle.model.proofs.Fitness.{below-all, Fit, fit-parts, count-parts, even-darts}
+
+abbrev pub two-edges : ℕ → List ℕ
+two-edges x = 0x07 ∷ 0x00 ∷ 0x01 ∷ 0x00 ∷ 0x02 ∷ 0x00 ∷ x ∷ []
+
+-- no plan of two edges that is fit for kind 1 has the payload CC or C9
+unfoldable without : Plan → Bool
+without p = not (fit 1 p && (same (recordOf 1 p) (two-edges 0xCC) || same (recordOf 1 p) (two-edges 0xC9)))
+
+abbrev plan : ℕ → ℕ → ℕ → ℕ → ℕ → Plan
+plan a b c d r = record { rotation = a ∷ b ∷ c ∷ d ∷ []; root = r }
+
+none-of-two : all 4 (λ a. all 4 (λ b. all 4 (λ c. all 4 (λ d. all 4 (λ r. without (plan a b c d r)))))) ≡ true
+unfolding without fit isKind dartCountFits isPermutation allBelow distinct elem edges recordLength connected some reached spreads spread opposite next planar characteristic vertices faces cycles count least faceNext hasLoop vertexOf degreeRefused hasDegreeOne degreeOne same recordOf layOut le16 payload pack digitsFrom treeBits labels along bitsOf labelOf treeLabels takeLeaves takeOne takeLeaf removeCut labelOne before gone isUpper unlabelled codes codesOf position visits walk letterAt onward seenAfter
+none-of-two = refl
+
+-- ---- a plan with such a record has two edges
+
+-- the bytes of m in a record
+third-field : (k : ℕ) (p : Plan) → (getD (recordOf k p) 4 0 ≡ edges (p .rotation) % 256) × (getD (recordOf k p) 5 0 ≡ edges (p .rotation) / 256 % 256)
+unfolding recordOf layOut le16
+third-field k p = (refl, refl)
+
+small : (q : ℕ) → q ≤ 16 → q % 256 ≡ 0 → q ≡ 0
+small q h e = omega arith
+
+from-bytes : (m : ℕ) → m ≤ 4096 → m % 256 ≡ 2 → m / 256 % 256 ≡ 0 → m ≡ 2
+from-bytes m h low high = let q : m / 256 ≡ 0 = small (m / 256) (omega arith) high in omega arith
+
+two : (p : Plan) (x : ℕ) → HasRecord (two-edges x) p → darts p ≡ 4
+unfolding word16
+two p x (f, e) =
+    let parts = fit-parts 1 p f in
+    let c = count-parts (darts p) (parts .count) in
+    let even = even-darts p (parts .count) in
+    let low : edges (p .rotation) % 256 ≡ 2 = sym (third-field 1 p .0) ∙ ap (λ (r : List ℕ). getD r 4 0) e in
+    let high : edges (p .rotation) / 256 % 256 ≡ 0 = sym (third-field 1 p .1) ∙ ap (λ (r : List ℕ). getD r 5 0) e in
+    let m = from-bytes (edges (p .rotation)) (omega arith) low high in
+    omega arith
+
+-- ---- and every plan of two edges is one of those that were tried
+
+-- a list of four numbers below 4, by its entries
+four : (P : List ℕ → Type 0) (xs : List ℕ) → length xs ≡ 4
+    → ((a b c d : ℕ) → (a ≡ getD xs 0 0) → (b ≡ getD xs 1 0) → (c ≡ getD xs 2 0) → (d ≡ getD xs 3 0) → P (a ∷ b ∷ c ∷ d ∷ [])) → P xs
+four P [] e f = absurd (omega arith)
+four P (a ∷ []) e f = absurd (omega arith)
+four P (a ∷ b ∷ []) e f = absurd (omega arith)
+four P (a ∷ b ∷ c ∷ []) e f = absurd (omega arith)
+four P (a ∷ b ∷ c ∷ d ∷ []) e f = f a b c d refl refl refl refl
+four P (a ∷ b ∷ c ∷ d ∷ x ∷ xs) e f = absurd (omega arith)
+
+tried : (p : Plan) → Fit 1 p → darts p ≡ 4 → without p ≡ true
+unfolding isPermutation
+tried p parts n =
+    let below = and-left (allBelow (darts p) (p .rotation)) (distinct (p .rotation)) (parts .entries) in
+    let bound : (k : ℕ) → k < 4 → getD (p .rotation) k 0 < 4 = λ k h. let z = below-all (darts p) (p .rotation) below k (omega arith) in omega arith in
+    let root : p .root < 4 = let z = parts .root in omega arith in
+    four (λ xs. without (record { rotation = xs; root = p .root }) ≡ true) (p .rotation) n (λ a b c d ea eb ec ed.
+    let ha : a < 4 = let z = bound 0 (omega arith) in omega arith in
+    let hb : b < 4 = let z = bound 1 (omega arith) in omega arith in
+    let hc : c < 4 = let z = bound 2 (omega arith) in omega arith in
+    let hd : d < 4 = let z = bound 3 (omega arith) in omega arith in
+    at 4 (λ r. without (plan a b c d r)) (at 4 (λ d. all 4 (λ r. without (plan a b c d r)))
+    (at 4 (λ c. all 4 (λ d. all 4 (λ r. without (plan a b c d r)))) (at 4 (λ b. all 4 (λ c. all 4 (λ d. all 4 (λ r. without (plan a b c d r)))))
+    (at 4 (λ a. all 4 (λ b. all 4 (λ c. all 4 (λ d. all 4 (λ r. without (plan a b c d r)))))) none-of-two a ha) b hb) c hc) d hd) (p .root) root)
+
+-- x is a payload that was tried
+none : (x : ℕ) → (p : Plan) → (same (two-edges x) (two-edges 0xCC) || same (two-edges x) (two-edges 0xC9)) ≡ true → HasRecord (two-edges x) p → ⊥
+unfolding without word16
+none x p hit (f, e) =
+    let w = tried p (fit-parts 1 p f) (two p x (f, e)) in
+    let z = not-left (fit 1 p && (same (recordOf 1 p) (two-edges 0xCC) || same (recordOf 1 p) (two-edges 0xC9))) w in
+    true≢false (sym (rw (f, e) hit) ∙ z)
+
+pub unreadable-CC : (p : Plan) → HasRecord (two-edges 0xCC) p → ⊥
+unfolding same
+unreadable-CC p = none 0xCC p refl
+
+pub unreadable-C9 : (p : Plan) → HasRecord (two-edges 0xC9) p → ⊥
+unfolding same
+unreadable-C9 p = none 0xC9 p refl

@@ -1,0 +1,88 @@
+-- Small plans of both kinds, accepted and refused, with the answers of the second coder (tests/second_coder). `tests/vectors.py` prints the lines.
+--
+--   vectors              the lines
+--   vectors-hold         the definitions say the same
+use Prim.Native.Nat.{ℕ}
+use mathlib.Core.List.{List, [], _∷_}
+use lib.Dec.{T}
+use lib.IntN.{ℤ, pos, negsuc}
+use Rattle.model.specs.Numbers.{count, some, elem, distinct, allBelow, isPermutation, position, least, cycles, firstRefusal}
+use Rattle.model.specs.Map.{opposite, next, vertexOf, faceNext, edges, vertices, faces, degreeOne, spread, spreads, reached, connected, characteristic, planar, hasLoop, hasDegreeOne, isKind, dartCountFits, degreeRefused}
+use Rattle.model.specs.Traversal.{letterAt, onward, seenAfter, walk, visits, number, standardNumbers, renumbered, standardPlan}
+use Rattle.model.specs.LabelledTree.{codesOf, codes, unlabelled, isUpper, gone, before, labelOne, removeCut, takeLeaf, takeOne, takeLeaves, treeLabels, labelOf, bitsOf, along, labels, treeBits}
+use Rattle.model.specs.Record.{digitsFrom, pack, le16, recordLength, payload, layOut, recordOf}
+use Rattle.model.specs.Shelf.{same}
+use Rattle.model.specs.Calls.{writeRefusal}
+use Rattle.model.proofs.Line.{Line, standard-is, refused, not-planar, refusal, agrees, holds, allHold}
+
+unfoldable pub vectors : List Line
+vectors =
+    record { kind = 1; root = 0; rotation = 0 ∷ 1 ∷ 2 ∷ 3 ∷ []; says = refused 9 }
+    ∷ record { kind = 2; root = 0; rotation = 0 ∷ 1 ∷ 2 ∷ 3 ∷ []; says = refused 9 }
+    ∷ record { kind = 1; root = 0; rotation = 0 ∷ 1 ∷ 3 ∷ 2 ∷ []; says = refused 9 }
+    ∷ record { kind = 2; root = 0; rotation = 0 ∷ 1 ∷ 3 ∷ 2 ∷ []; says = refused 9 }
+    ∷ record { kind = 1; root = 0; rotation = 0 ∷ 2 ∷ 1 ∷ 3 ∷ []; says = refused 12 }
+    ∷ record { kind = 2; root = 0; rotation = 0 ∷ 2 ∷ 1 ∷ 3 ∷ []; says = standard-is (8 ∷ 0 ∷ 2 ∷ 0 ∷ 2 ∷ 0 ∷ 192 ∷ 54 ∷ []) (0 ∷ 2 ∷ 1 ∷ 3 ∷ []) }
+    ∷ record { kind = 1; root = 0; rotation = 0 ∷ 2 ∷ 3 ∷ 1 ∷ []; says = refused 11 }
+    ∷ record { kind = 2; root = 0; rotation = 0 ∷ 2 ∷ 3 ∷ 1 ∷ []; says = refused 11 }
+    ∷ record { kind = 1; root = 0; rotation = 0 ∷ 3 ∷ 1 ∷ 2 ∷ []; says = refused 11 }
+    ∷ record { kind = 2; root = 0; rotation = 0 ∷ 3 ∷ 1 ∷ 2 ∷ []; says = refused 11 }
+    ∷ record { kind = 1; root = 0; rotation = 0 ∷ 3 ∷ 2 ∷ 1 ∷ []; says = refused 12 }
+    ∷ record { kind = 2; root = 0; rotation = 0 ∷ 3 ∷ 2 ∷ 1 ∷ []; says = standard-is (8 ∷ 0 ∷ 2 ∷ 0 ∷ 2 ∷ 0 ∷ 192 ∷ 54 ∷ []) (0 ∷ 2 ∷ 1 ∷ 3 ∷ []) }
+    ∷ record { kind = 1; root = 0; rotation = 2 ∷ 1 ∷ 0 ∷ 3 ∷ []; says = refused 12 }
+    ∷ record { kind = 2; root = 0; rotation = 2 ∷ 1 ∷ 0 ∷ 3 ∷ []; says = standard-is (8 ∷ 0 ∷ 2 ∷ 0 ∷ 2 ∷ 0 ∷ 160 ∷ 216 ∷ []) (2 ∷ 1 ∷ 0 ∷ 3 ∷ []) }
+    ∷ record { kind = 1; root = 0; rotation = 2 ∷ 3 ∷ 0 ∷ 1 ∷ []; says = standard-is (7 ∷ 0 ∷ 1 ∷ 0 ∷ 2 ∷ 0 ∷ 200 ∷ []) (3 ∷ 2 ∷ 1 ∷ 0 ∷ []) }
+    ∷ record { kind = 2; root = 0; rotation = 2 ∷ 3 ∷ 0 ∷ 1 ∷ []; says = standard-is (8 ∷ 0 ∷ 2 ∷ 0 ∷ 2 ∷ 0 ∷ 192 ∷ 81 ∷ []) (3 ∷ 2 ∷ 1 ∷ 0 ∷ []) }
+    ∷ record { kind = 1; root = 0; rotation = 2 ∷ 3 ∷ 1 ∷ 0 ∷ []; says = not-planar (pos 0) }
+    ∷ record { kind = 2; root = 0; rotation = 2 ∷ 3 ∷ 1 ∷ 0 ∷ []; says = not-planar (pos 0) }
+    ∷ record { kind = 1; root = 0; rotation = 3 ∷ 1 ∷ 2 ∷ 0 ∷ []; says = refused 12 }
+    ∷ record { kind = 1; root = 0; rotation = 3 ∷ 2 ∷ 0 ∷ 1 ∷ []; says = not-planar (pos 0) }
+    ∷ record { kind = 2; root = 0; rotation = 3 ∷ 2 ∷ 0 ∷ 1 ∷ []; says = not-planar (pos 0) }
+    ∷ record { kind = 1; root = 0; rotation = 3 ∷ 2 ∷ 1 ∷ 0 ∷ []; says = standard-is (7 ∷ 0 ∷ 1 ∷ 0 ∷ 2 ∷ 0 ∷ 200 ∷ []) (3 ∷ 2 ∷ 1 ∷ 0 ∷ []) }
+    ∷ record { kind = 1; root = 7; rotation = 8 ∷ 3 ∷ 0 ∷ 4 ∷ 6 ∷ 2 ∷ 9 ∷ 5 ∷ 7 ∷ 1 ∷ []; says = standard-is (8 ∷ 0 ∷ 1 ∷ 0 ∷ 5 ∷ 0 ∷ 213 ∷ 46 ∷ []) (9 ∷ 2 ∷ 4 ∷ 0 ∷ 6 ∷ 3 ∷ 8 ∷ 5 ∷ 1 ∷ 7 ∷ []) }
+    ∷ record { kind = 2; root = 7; rotation = 7 ∷ 6 ∷ 4 ∷ 9 ∷ 2 ∷ 8 ∷ 3 ∷ 0 ∷ 5 ∷ 1 ∷ []; says = standard-is (9 ∷ 0 ∷ 2 ∷ 0 ∷ 5 ∷ 0 ∷ 241 ∷ 0 ∷ 108 ∷ []) (9 ∷ 2 ∷ 7 ∷ 4 ∷ 3 ∷ 6 ∷ 5 ∷ 8 ∷ 1 ∷ 0 ∷ []) }
+    ∷ record { kind = 1; root = 3; rotation = 2 ∷ 9 ∷ 8 ∷ 1 ∷ 3 ∷ 6 ∷ 5 ∷ 4 ∷ 0 ∷ 7 ∷ []; says = standard-is (8 ∷ 0 ∷ 1 ∷ 0 ∷ 5 ∷ 0 ∷ 211 ∷ 44 ∷ []) (5 ∷ 2 ∷ 4 ∷ 6 ∷ 1 ∷ 3 ∷ 9 ∷ 8 ∷ 7 ∷ 0 ∷ []) }
+    ∷ record { kind = 4; root = 65535; rotation = 3 ∷ 6 ∷ 1 ∷ 9 ∷ 7 ∷ 2 ∷ 8 ∷ 0 ∷ 5 ∷ 4 ∷ []; says = refused 2 }
+    ∷ record { kind = 1; root = 7; rotation = 6 ∷ 5 ∷ 4 ∷ 3 ∷ 2 ∷ 1 ∷ []; says = refused 4 }
+    ∷ record { kind = 2; root = 4; rotation = 5 ∷ 3 ∷ 2 ∷ 7 ∷ 4 ∷ 0 ∷ 6 ∷ 1 ∷ []; says = standard-is (8 ∷ 0 ∷ 2 ∷ 0 ∷ 4 ∷ 0 ∷ 232 ∷ 24 ∷ []) (0 ∷ 2 ∷ 1 ∷ 4 ∷ 6 ∷ 5 ∷ 3 ∷ 7 ∷ []) }
+    ∷ record { kind = 2; root = 6; rotation = 9 ∷ 6 ∷ 7 ∷ 5 ∷ 8 ∷ 3 ∷ 1 ∷ 0 ∷ 4 ∷ 2 ∷ []; says = standard-is (9 ∷ 0 ∷ 2 ∷ 0 ∷ 5 ∷ 0 ∷ 220 ∷ 0 ∷ 90 ∷ []) (3 ∷ 2 ∷ 4 ∷ 0 ∷ 9 ∷ 6 ∷ 5 ∷ 8 ∷ 7 ∷ 1 ∷ []) }
+    ∷ record { kind = 2; root = 7; rotation = 7 ∷ 5 ∷ 1 ∷ 0 ∷ 4 ∷ 2 ∷ 6 ∷ 3 ∷ []; says = standard-is (8 ∷ 0 ∷ 2 ∷ 0 ∷ 4 ∷ 0 ∷ 180 ∷ 195 ∷ []) (2 ∷ 1 ∷ 5 ∷ 4 ∷ 6 ∷ 0 ∷ 3 ∷ 7 ∷ []) }
+    ∷ record { kind = 1; root = 65535; rotation = 3 ∷ 4 ∷ 5 ∷ 0 ∷ 1 ∷ 2 ∷ 3 ∷ []; says = refused 3 }
+    ∷ record { kind = 1; root = 3; rotation = 6 ∷ 3 ∷ 0 ∷ 4 ∷ 9 ∷ 2 ∷ 8 ∷ 1 ∷ 5 ∷ 7 ∷ []; says = standard-is (8 ∷ 0 ∷ 1 ∷ 0 ∷ 5 ∷ 0 ∷ 213 ∷ 46 ∷ []) (9 ∷ 2 ∷ 4 ∷ 0 ∷ 6 ∷ 3 ∷ 8 ∷ 5 ∷ 1 ∷ 7 ∷ []) }
+    ∷ record { kind = 2; root = 5; rotation = 4 ∷ 2 ∷ 1 ∷ 5 ∷ 0 ∷ 3 ∷ []; says = standard-is (8 ∷ 0 ∷ 2 ∷ 0 ∷ 3 ∷ 0 ∷ 224 ∷ 81 ∷ []) (5 ∷ 2 ∷ 1 ∷ 4 ∷ 3 ∷ 0 ∷ []) }
+    ∷ record { kind = 2; root = 0; rotation = 5 ∷ 1 ∷ 0 ∷ 3 ∷ 4 ∷ 2 ∷ []; says = standard-is (8 ∷ 0 ∷ 2 ∷ 0 ∷ 3 ∷ 0 ∷ 168 ∷ 234 ∷ []) (2 ∷ 1 ∷ 4 ∷ 3 ∷ 0 ∷ 5 ∷ []) }
+    ∷ record { kind = 256; root = 5; rotation = 3 ∷ 4 ∷ 1 ∷ 5 ∷ 2 ∷ 0 ∷ []; says = refused 2 }
+    ∷ record { kind = 255; root = 7; rotation = 3 ∷ 4 ∷ 5 ∷ 0 ∷ 6 ∷ 7 ∷ 1 ∷ 2 ∷ []; says = refused 2 }
+    ∷ record { kind = 2; root = 2; rotation = 3 ∷ 2 ∷ 1 ∷ 5 ∷ 6 ∷ 9 ∷ 4 ∷ 7 ∷ 8 ∷ 0 ∷ []; says = standard-is (9 ∷ 0 ∷ 2 ∷ 0 ∷ 5 ∷ 0 ∷ 229 ∷ 0 ∷ 105 ∷ []) (9 ∷ 2 ∷ 6 ∷ 4 ∷ 3 ∷ 5 ∷ 8 ∷ 7 ∷ 1 ∷ 0 ∷ []) }
+    ∷ record { kind = 1; root = 3; rotation = 7 ∷ 6 ∷ 4 ∷ 9 ∷ 1 ∷ 8 ∷ 2 ∷ 0 ∷ 5 ∷ 3 ∷ []; says = standard-is (8 ∷ 0 ∷ 1 ∷ 0 ∷ 5 ∷ 0 ∷ 230 ∷ 36 ∷ []) (5 ∷ 2 ∷ 6 ∷ 4 ∷ 3 ∷ 0 ∷ 9 ∷ 8 ∷ 7 ∷ 1 ∷ []) }
+    ∷ record { kind = 2; root = 2; rotation = 4 ∷ 1 ∷ 2 ∷ 0 ∷ 3 ∷ 5 ∷ []; says = standard-is (8 ∷ 0 ∷ 2 ∷ 0 ∷ 3 ∷ 0 ∷ 208 ∷ 72 ∷ []) (0 ∷ 2 ∷ 4 ∷ 3 ∷ 1 ∷ 5 ∷ []) }
+    ∷ record { kind = 2; root = 6; rotation = 7 ∷ 3 ∷ 0 ∷ 5 ∷ 2 ∷ 6 ∷ 1 ∷ 4 ∷ []; says = standard-is (8 ∷ 0 ∷ 2 ∷ 0 ∷ 4 ∷ 0 ∷ 212 ∷ 93 ∷ []) (7 ∷ 2 ∷ 4 ∷ 0 ∷ 6 ∷ 3 ∷ 1 ∷ 5 ∷ []) }
+    ∷ record { kind = 2; root = 0; rotation = 4 ∷ 3 ∷ 0 ∷ 5 ∷ 2 ∷ 1 ∷ []; says = standard-is (8 ∷ 0 ∷ 2 ∷ 0 ∷ 3 ∷ 0 ∷ 208 ∷ 90 ∷ []) (5 ∷ 2 ∷ 4 ∷ 0 ∷ 1 ∷ 3 ∷ []) }
+    ∷ record { kind = 2; root = 1; rotation = 8 ∷ 4 ∷ 1 ∷ 3 ∷ 6 ∷ 0 ∷ 9 ∷ 5 ∷ 7 ∷ 2 ∷ []; says = standard-is (9 ∷ 0 ∷ 2 ∷ 0 ∷ 5 ∷ 0 ∷ 212 ∷ 128 ∷ 95 ∷ []) (7 ∷ 2 ∷ 4 ∷ 8 ∷ 6 ∷ 3 ∷ 1 ∷ 5 ∷ 0 ∷ 9 ∷ []) }
+    ∷ record { kind = 1; root = 0; rotation = 3 ∷ 4 ∷ 5 ∷ 0 ∷ 1 ∷ 2 ∷ []; says = standard-is (8 ∷ 0 ∷ 1 ∷ 0 ∷ 3 ∷ 0 ∷ 226 ∷ 0 ∷ []) (5 ∷ 2 ∷ 1 ∷ 4 ∷ 3 ∷ 0 ∷ []) }
+    ∷ record { kind = 1; root = 2; rotation = 5 ∷ 3 ∷ 4 ∷ 1 ∷ 2 ∷ 0 ∷ 6 ∷ []; says = refused 3 }
+    ∷ record { kind = 1; root = 3; rotation = 3 ∷ 5 ∷ 1 ∷ 4 ∷ 0 ∷ 2 ∷ []; says = standard-is (8 ∷ 0 ∷ 1 ∷ 0 ∷ 3 ∷ 0 ∷ 210 ∷ 128 ∷ []) (5 ∷ 2 ∷ 4 ∷ 0 ∷ 1 ∷ 3 ∷ []) }
+    ∷ record { kind = 1; root = 4; rotation = 3 ∷ 4 ∷ 1 ∷ 5 ∷ 2 ∷ 0 ∷ []; says = standard-is (8 ∷ 0 ∷ 1 ∷ 0 ∷ 3 ∷ 0 ∷ 210 ∷ 128 ∷ []) (5 ∷ 2 ∷ 4 ∷ 0 ∷ 1 ∷ 3 ∷ []) }
+    ∷ record { kind = 1; root = 6; rotation = 1 ∷ 3 ∷ 4 ∷ 5 ∷ 0 ∷ 1 ∷ []; says = refused 4 }
+    ∷ record { kind = 1; root = 4; rotation = 6 ∷ 4 ∷ 7 ∷ 1 ∷ 3 ∷ 0 ∷ 5 ∷ 2 ∷ 6 ∷ []; says = refused 3 }
+    ∷ record { kind = 1; root = 0; rotation = 5 ∷ 6 ∷ 4 ∷ 7 ∷ 1 ∷ 3 ∷ 2 ∷ 0 ∷ []; says = standard-is (8 ∷ 0 ∷ 1 ∷ 0 ∷ 4 ∷ 0 ∷ 212 ∷ 176 ∷ []) (7 ∷ 2 ∷ 4 ∷ 0 ∷ 6 ∷ 3 ∷ 1 ∷ 5 ∷ []) }
+    ∷ record { kind = 1; root = 2; rotation = 5 ∷ 3 ∷ 4 ∷ 1 ∷ 2 ∷ 0 ∷ []; says = standard-is (8 ∷ 0 ∷ 1 ∷ 0 ∷ 3 ∷ 0 ∷ 226 ∷ 0 ∷ []) (5 ∷ 2 ∷ 1 ∷ 4 ∷ 3 ∷ 0 ∷ []) }
+    ∷ record { kind = 2; root = 6; rotation = 0 ∷ 4 ∷ 1 ∷ 3 ∷ 2 ∷ 5 ∷ []; says = refused 4 }
+    ∷ record { kind = 2; root = 11; rotation = 8 ∷ 7 ∷ 9 ∷ 6 ∷ 1 ∷ 3 ∷ 5 ∷ 4 ∷ 0 ∷ 2 ∷ []; says = refused 4 }
+    ∷ record { kind = 2; root = 4; rotation = 0 ∷ 5 ∷ 7 ∷ 3 ∷ 4 ∷ 2 ∷ 6 ∷ 1 ∷ []; says = standard-is (8 ∷ 0 ∷ 2 ∷ 0 ∷ 4 ∷ 0 ∷ 212 ∷ 78 ∷ []) (0 ∷ 2 ∷ 4 ∷ 3 ∷ 6 ∷ 5 ∷ 1 ∷ 7 ∷ []) }
+    ∷ record { kind = 1; root = 5; rotation = 4 ∷ 3 ∷ 5 ∷ 2 ∷ 0 ∷ 65535 ∷ []; says = refused 6 }
+    ∷ record { kind = 1; root = 1; rotation = 9 ∷ 3 ∷ 1 ∷ 10 ∷ 6 ∷ 2 ∷ 4 ∷ 5 ∷ 7 ∷ 0 ∷ []; says = refused 6 }
+    ∷ record { kind = 4; root = 8192; rotation = 0 ∷ 3 ∷ 5 ∷ 4 ∷ 1 ∷ 2 ∷ []; says = refused 2 }
+    ∷ record { kind = 1; root = 4; rotation = 5 ∷ 3 ∷ 0 ∷ 4 ∷ 7 ∷ 2 ∷ []; says = refused 6 }
+    ∷ record { kind = 1; root = 1; rotation = 2 ∷ 6 ∷ 5 ∷ 1 ∷ 3 ∷ 7 ∷ 4 ∷ 0 ∷ []; says = standard-is (8 ∷ 0 ∷ 1 ∷ 0 ∷ 4 ∷ 0 ∷ 212 ∷ 176 ∷ []) (7 ∷ 2 ∷ 4 ∷ 0 ∷ 6 ∷ 3 ∷ 1 ∷ 5 ∷ []) }
+    ∷ record { kind = 1; root = 5; rotation = 4 ∷ 6 ∷ 7 ∷ 5 ∷ 0 ∷ 3 ∷ 1 ∷ 2 ∷ []; says = standard-is (8 ∷ 0 ∷ 1 ∷ 0 ∷ 4 ∷ 0 ∷ 240 ∷ 128 ∷ []) (7 ∷ 2 ∷ 1 ∷ 4 ∷ 3 ∷ 6 ∷ 5 ∷ 0 ∷ []) }
+    ∷ record { kind = 1; root = 5; rotation = 5 ∷ 4 ∷ 8 ∷ 1 ∷ 9 ∷ 6 ∷ 2 ∷ 7 ∷ 3 ∷ 0 ∷ []; says = not-planar (negsuc 1) }
+    ∷ record { kind = 1; root = 6; rotation = 5 ∷ 7 ∷ 6 ∷ 4 ∷ 1 ∷ 2 ∷ 0 ∷ 3 ∷ []; says = standard-is (8 ∷ 0 ∷ 1 ∷ 0 ∷ 4 ∷ 0 ∷ 212 ∷ 176 ∷ []) (7 ∷ 2 ∷ 4 ∷ 0 ∷ 6 ∷ 3 ∷ 1 ∷ 5 ∷ []) }
+    ∷ record { kind = 2; root = 6; rotation = 4 ∷ 2 ∷ 0 ∷ 7 ∷ 6 ∷ 3 ∷ 0 ∷ 5 ∷ []; says = refused 6 }
+    ∷ record { kind = 1; root = 4; rotation = 8 ∷ 4 ∷ 9 ∷ 5 ∷ 0 ∷ 7 ∷ 1 ∷ 2 ∷ 3 ∷ 6 ∷ []; says = not-planar (negsuc 1) }
+    ∷ record { kind = 1; root = 7; rotation = 2 ∷ 7 ∷ 4 ∷ 6 ∷ 9 ∷ 8 ∷ 5 ∷ 1 ∷ 3 ∷ []; says = refused 3 }
+    ∷ []
+
+pub vectors-hold : T (allHold vectors)
+unfolding vectors allHold holds agrees refusal writeRefusal firstRefusal isKind dartCountFits isPermutation allBelow distinct elem edges recordLength connected some reached spreads spread opposite next planar characteristic vertices faces cycles count least faceNext hasLoop vertexOf degreeRefused hasDegreeOne degreeOne same recordOf layOut le16 payload pack digitsFrom treeBits labels along bitsOf labelOf treeLabels takeLeaves takeOne takeLeaf removeCut labelOne before gone isUpper unlabelled codes codesOf position visits walk letterAt onward seenAfter number standardNumbers renumbered standardPlan
+vectors-hold = tt
