@@ -1,6 +1,18 @@
-# `make` shows the main job; `make test` is the gate. Both need the Rattle kit (rt) on the PATH.
-.PHONY: all test
+# `make` runs the main job, `make test` the gate. Both need the Rattle kit: `rt` on the PATH.
+.PHONY: all test second_coder vectors
+
 all:
 	rt check
-test:
+	@echo
+	@echo "Proved. The starred plans of document 01 and their records:"
+	@cat tests/starred.txt
+
+second_coder:
+	cd tests/second_coder && cargo build --release --offline --quiet
+
+# The lines that Vectors.antt proves are those that the second coder answers.
+vectors: second_coder
+	tests/vectors
+
+test: vectors
 	rt ci
