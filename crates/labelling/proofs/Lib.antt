@@ -1,0 +1,12 @@
+pub mod Entries
+pub mod Opposite
+pub mod Mates
+pub mod Codes
+pub mod Lit
+pub mod Leaves
+pub mod Taking
+pub mod Waiting
+pub mod Flags
+pub mod Bare
+pub mod Seconds
+pub mod Reading

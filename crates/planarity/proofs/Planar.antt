@@ -1,0 +1,62 @@
+-- A plan is planar exactly when the edges of its traversal nest.
+--
+--   planar-chords      of a planar plan the edges outside the tree match like brackets
+--   chords-planar      and where they do, the plan is planar
+--   planar-bracketed, bracketed-planar   the same with the tree edges, which always match
+use Prim.Native.Nat.{ℕ, _+_, _%_}
+use native.Mathlib.Omega.{arith}
+use mathlib.Core.Path.{_≡_}
+use mathlib.Core.Bool.{true}
+use mathlib.Core.List.{List}
+use lib.ListN.{length}
+use Rattle.model.specs.Numbers.{cycles, isPermutation}
+use Rattle.model.specs.Map.{Plan, darts, opposite, next, faceNext, edges, vertices, faces, characteristic, planar, dartCountFits}
+use Rattle.words.specs.Toured.{dartAt, posOf, Toured, Bracketed}
+use Rattle.orbits.specs.Tour.{face}
+use Rattle.orbits.proofs.Euler.{planar-nested, nested-planar}
+use Rattle.planarity.proofs.Darts.{opposite-ne, opposite-inv, count-even, count-positive, next-perm}
+use Rattle.planarity.proofs.Touring.{treeDart, tour}
+use Rattle.planarity.proofs.Diagrams.{ChordsNest, nested-chords, chords-nested}
+use Rattle.planarity.proofs.Vertices.{trees-nested, tree-diagram-nested}
+use Rattle.planarity.proofs.Characteristic.{characteristic-two, two-characteristic}
+
+-- ---- planar, in plain numbers
+
+module _ (rot : List ℕ) where
+  abbrev Euler : Type 0
+  Euler = cycles (next rot) (length rot) + cycles (face (next rot) opposite) (length rot) ≡ edges rot + 2
+
+  planar-euler : planar rot ≡ true → Euler
+  unfolding planar characteristic vertices faces faceNext
+  planar-euler = characteristic-two (vertices rot) (edges rot) (faces rot)
+
+  euler-planar : Euler → planar rot ≡ true
+  unfolding planar characteristic vertices faces faceNext
+  euler-planar = two-characteristic (vertices rot) (edges rot) (faces rot)
+
+  edges-half : length rot % 2 ≡ 0 → edges rot + edges rot ≡ length rot
+  unfolding edges
+  edges-half e = omega arith
+
+-- ---- planar exactly when nested
+
+module _ (p : Plan) (t : Toured p) (fits : dartCountFits (darts p) ≡ true) (perm : isPermutation (p .rotation) ≡ true) where
+  even : darts p % 2 ≡ 0
+  even = count-even (darts p) fits
+
+  pub planar-chords : planar (p .rotation) ≡ true → ChordsNest p
+  planar-chords e = nested-chords p t fits (
+      planar-nested (darts p) (next (p .rotation)) opposite (next-perm (p .rotation) perm) (opposite-inv (darts p) even) (λ d h. opposite-ne d)
+      (treeDart p) (posOf p) (dartAt p) (tour p t fits perm) (edges (p .rotation)) (edges-half (p .rotation) even) (planar-euler (p .rotation) e) .0)
+
+  pub chords-planar : ChordsNest p → planar (p .rotation) ≡ true
+  chords-planar chords = euler-planar (p .rotation) (
+      nested-planar (darts p) (next (p .rotation)) opposite (next-perm (p .rotation) perm) (opposite-inv (darts p) even) (λ d h. opposite-ne d)
+      (treeDart p) (posOf p) (dartAt p) (tour p t fits perm) (edges (p .rotation)) (edges-half (p .rotation) even)
+      (count-positive (darts p) fits) (chords-nested p t fits chords) (tree-diagram-nested p t fits perm))
+
+  pub planar-bracketed : planar (p .rotation) ≡ true → Bracketed p
+  planar-bracketed e = record { trees = trees-nested p t fits perm; chords = planar-chords e }
+
+  pub bracketed-planar : Bracketed p → planar (p .rotation) ≡ true
+  bracketed-planar b = chords-planar (b .chords)
