@@ -1,0 +1,108 @@
+-- What a call that did what writing promises says if it was not refused. Assumes nothing.
+--
+--   number-of-answer      the number of writing's answer is its first refusal
+--   NotRefused            the plan is fit, and the output has room for the record
+--   not-refused           where no refusal holds
+--   accepted-fit          the plan of an accepted call is fit
+--   accepted-bytes        the bytes of an accepted call are the record of its plan
+--   refused-bytes         a refused call adds no byte
+use Prim.Native.Nat.{ℕ, suc, _*_, _≤_}
+use native.Mathlib.Nat.{suc-ne-zero}
+use mathlib.Core.Path.{_≡_, refl, sym, ap, _∙_}
+use mathlib.Core.Bool.{Bool, true, false, not, cond}
+use mathlib.Core.List.{List, [], _∷_}
+use lib.Dec.{eqb, ltb}
+use lib.ListN.{length, drop}
+use lib.Seq.{take-append-seam}
+use borrow.Author.Tests.{eqb-true, eq-eqb, ltb-true, ltb-false, not-false}
+use Rattle.model.specs.declared.Written.the-variants as written
+use Rattle.model.specs.Numbers.{firstRefusal, Refusal, refuse, isPermutation}
+use Rattle.model.specs.Map.{Plan, darts, edges, isKind, dartCountFits, connected, planar, characteristic, hasLoop, degreeRefused, fit}
+use Rattle.model.specs.Record.{recordLength, recordOf}
+use Rattle.model.specs.Calls.{front, writeRefusal, writeAnswer, writtenOutput, numberOfWritten, lengthOfWritten}
+use Rattle.model.specs.Writings.{Writing, Honest, isAccepted, bytesWritten}
+use Rattle.renumbering.proofs.Fitness.{all-fit}
+
+-- ---- no refusal
+
+pub number-of-answer : (k : ℕ) (p : Plan) (w o : ℕ) → numberOfWritten (writeAnswer k p w o) ≡ writeRefusal k p w o
+unfolding writeAnswer
+number-of-answer k p w o = go (writeRefusal k p w o) (eqb (writeRefusal k p w o) 0) (eqb (writeRefusal k p w o) 10) refl refl
+  where
+    go : (r : ℕ) (b c : Bool) → eqb r 0 ≡ b → eqb r 10 ≡ c
+        → numberOfWritten (cond b (written.Length (recordLength k (edges (p .rotation))))
+          (cond c (written.NotPlanar (characteristic (p .rotation))) (written.Refused r))) ≡ r
+    go r true c e f = sym (eqb-true r 0 e)
+    go r false true e f = sym (eqb-true r 10 f)
+    go r false false e f = refl
+
+-- the first of the refusals does not hold, nor any other
+passed : (n : ℕ) (b : Bool) (rs : List Refusal) → firstRefusal (refuse (suc n) b ∷ rs) ≡ 0 → (b ≡ false) × (firstRefusal rs ≡ 0)
+unfolding firstRefusal
+passed n true rs e = absurd (suc-ne-zero n e)
+passed n false rs e = (refl, e)
+
+pub record NotRefused (k : ℕ) (p : Plan) (workLength outLength : ℕ) : Type 0 where
+  pub is-fit : fit k p ≡ true
+  pub room : recordLength k (edges (p .rotation)) ≤ outLength
+
+pub not-refused : (k : ℕ) (p : Plan) (w o : ℕ) → writeRefusal k p w o ≡ 0 → NotRefused k p w o
+unfolding writeRefusal
+not-refused k p w o e =
+    let c₂ = passed 1 (not (isKind k)) _ e in
+    let c₃ = passed 2 (not (dartCountFits (darts p))) _ (c₂ .1) in
+    let c₄ = passed 3 (not (ltb (p .root) (darts p))) _ (c₃ .1) in
+    let c₆ = passed 5 (not (isPermutation (p .rotation))) _ (c₄ .1) in
+    let c₇ = passed 6 (ltb w (32 * edges (p .rotation))) _ (c₆ .1) in
+    let c₈ = passed 7 (ltb o (recordLength k (edges (p .rotation)))) _ (c₇ .1) in
+    let c₉ = passed 8 (not (connected (p .rotation))) _ (c₈ .1) in
+    let c₁₀ = passed 9 (not (planar (p .rotation))) _ (c₉ .1) in
+    let c₁₁ = passed 10 (hasLoop (p .rotation)) _ (c₁₀ .1) in
+    let c₁₂ = passed 11 (degreeRefused k p) _ (c₁₁ .1) in
+    record {
+      is-fit = all-fit k p (record {
+        kind = not-false (isKind k) (c₂ .0);
+        dart-count = not-false (dartCountFits (darts p)) (c₃ .0);
+        root-in = ltb-true (p .root) (darts p) (not-false (ltb (p .root) (darts p)) (c₄ .0));
+        entries = not-false (isPermutation (p .rotation)) (c₆ .0);
+        whole = not-false (connected (p .rotation)) (c₉ .0);
+        flat = not-false (planar (p .rotation)) (c₁₀ .0);
+        no-loop = c₁₁ .0;
+        degrees = c₁₂ .0;
+      });
+      room = ltb-false o (recordLength k (edges (p .rotation))) (c₈ .0);
+    }
+
+-- ---- calls
+
+refusal : Writing → ℕ
+refusal c = writeRefusal (c .kind) (c .plan) (length (c .work)) (length (c .output))
+
+accepted-refusal : (c : Writing) → Honest c → isAccepted c ≡ true → refusal c ≡ 0
+unfolding refusal isAccepted
+accepted-refusal c h a =
+    sym (number-of-answer (c .kind) (c .plan) (length (c .work)) (length (c .output))) ∙ ap numberOfWritten (sym (h .answered)) ∙ eqb-true _ 0 a
+
+pub accepted-fit : (c : Writing) → Honest c → isAccepted c ≡ true → fit (c .kind) (c .plan) ≡ true
+unfolding refusal
+accepted-fit c h a =
+    not-refused (c .kind) (c .plan) (length (c .work)) (length (c .output)) (accepted-refusal c h a) .is-fit
+
+answer-length : (c : Writing) → Honest c → isAccepted c ≡ true → lengthOfWritten (c .answer) ≡ recordLength (c .kind) (edges (c .plan .rotation))
+unfolding writeAnswer refusal
+answer-length c h a = ap lengthOfWritten (h .answered) ∙ simp (eq-eqb _ 0 (accepted-refusal c h a))
+
+output-is : (c : Writing) → Honest c → isAccepted c ≡ true → c .output-after ≡ front (recordOf (c .kind) (c .plan)) (c .output)
+unfolding writtenOutput refusal
+output-is c h a = h .filled ∙ simp (eq-eqb _ 0 (accepted-refusal c h a))
+
+pub accepted-bytes : (c : Writing) → Honest c → isAccepted c ≡ true
+    → length (recordOf (c .kind) (c .plan)) ≡ recordLength (c .kind) (edges (c .plan .rotation)) → bytesWritten c ≡ recordOf (c .kind) (c .plan)
+unfolding bytesWritten front
+accepted-bytes c h a n =
+    let r = recordOf (c .kind) (c .plan) in
+    rw (a, answer-length c h a, output-is c h a, sym n) (take-append-seam r (drop (length r) (c .output)))
+
+pub refused-bytes : (c : Writing) → isAccepted c ≡ false → bytesWritten c ≡ []
+unfolding bytesWritten
+refused-bytes c a = rw a

@@ -1,0 +1,4 @@
+pub mod Calls
+pub mod Split
+pub mod Records
+pub mod Lists

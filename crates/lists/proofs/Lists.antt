@@ -1,0 +1,98 @@
+-- Demand 3, from the laws of the coding.
+--
+--   demand-3              the claim about any two lists of writing calls
+use Prim.Native.Nat.{ℕ}
+use mathlib.Core.Path.{_≡_, refl, sym, ap, ap₂, subst, _∙_}
+use mathlib.Core.Bool.{Bool, true, false, cond}
+use mathlib.Core.List.{List, [], _∷_, _++_}
+use Rattle.model.specs.Map.{fit}
+use Rattle.model.specs.Record.{recordOf}
+use Rattle.model.specs.Writings.{Writing, isAccepted, bytesWritten, laidOut, accepted, Alike, PlaceByPlace, AllHonest}
+use Rattle.renumbering.proofs.Connected.{at-most-one}
+use Rattle.lists.specs.Demand3.{Demand3}
+use Rattle.lists.specs.Coding.{Coding}
+use Rattle.lists.proofs.Calls.{accepted-fit, accepted-bytes, refused-bytes}
+use Rattle.lists.proofs.Split.{splits, framed-some}
+use Rattle.lists.proofs.Records.{record-length, record-framed, same-record, word-renumbering, renumbered-record}
+
+-- every plan of the list is fit for its call's kind
+abbrev AllFit : List Writing → Type 0
+AllFit [] = Unit
+AllFit (c ∷ cs) = (fit (c .kind) (c .plan) ≡ true) × AllFit cs
+
+-- the records of the plans, end to end
+records : List Writing → List ℕ
+records [] = []
+records (c ∷ cs) = recordOf (c .kind) (c .plan) ++ records cs
+
+-- ---- from calls to plans: only accepted calls count
+
+accepted-all-fit : (cs : List Writing) → AllHonest cs → AllFit (accepted cs)
+unfolding accepted
+accepted-all-fit [] h = tt
+accepted-all-fit (c ∷ cs) (h, hs) = go (isAccepted c) refl (accepted-all-fit cs hs)
+  where
+    go : (b : Bool) → isAccepted c ≡ b → AllFit (accepted cs) → AllFit (cond b (c ∷ accepted cs) (accepted cs))
+    go true a rest = (accepted-fit c h a, rest)
+    go false a rest = rest
+
+module _ (coding : Coding) where
+  laid-records : (cs : List Writing) → AllHonest cs → laidOut cs ≡ records (accepted cs)
+  unfolding laidOut accepted records
+  laid-records [] h = refl
+  laid-records (c ∷ cs) (h, hs) = go (isAccepted c) refl (laid-records cs hs)
+    where
+      go : (b : Bool) → isAccepted c ≡ b → laidOut cs ≡ records (accepted cs)
+          → bytesWritten c ++ laidOut cs ≡ records (cond b (c ∷ accepted cs) (accepted cs))
+      go true a rest = ap₂ (λ (xs ys : List ℕ). xs ++ ys)
+          (accepted-bytes c h a (record-length coding (c .kind) (c .plan) (accepted-fit c h a))) rest
+      go false a rest = ap₂ (λ (xs ys : List ℕ). xs ++ ys) (refused-bytes c a) rest
+
+  -- ---- two lists of fit plans
+
+  alike : (c d : Writing) → fit (c .kind) (c .plan) ≡ true → fit (d .kind) (d .plan) ≡ true
+      → recordOf (c .kind) (c .plan) ≡ recordOf (d .kind) (d .plan) → Alike c d
+  alike c d e f same =
+      let (kinds, words) = same-record coding (c .kind) (d .kind) (c .plan) (d .plan) e f same in
+      let (partners, carried) = word-renumbering coding (c .kind) (c .plan) (d .plan) e
+          (subst (λ (k : ℕ). fit k (d .plan) ≡ true) (sym kinds) f) words in
+      record { one-kind = kinds; partners = partners; carried = carried }
+
+  alike-record : (c d : Writing) → fit (c .kind) (c .plan) ≡ true → fit (d .kind) (d .plan) ≡ true → Alike c d
+      → recordOf (c .kind) (c .plan) ≡ recordOf (d .kind) (d .plan)
+  alike-record c d e f a =
+      renumbered-record coding (c .kind) (c .plan) (d .plan) (a .partners) e
+      (subst (λ (k : ℕ). fit k (d .plan) ≡ true) (sym (a .one-kind)) f) (a .carried)
+      ∙ ap (λ (k : ℕ). recordOf k (d .plan)) (a .one-kind)
+
+  records-match : (cs ds : List Writing) → AllFit cs → AllFit ds → records cs ≡ records ds → PlaceByPlace cs ds
+  unfolding records
+  records-match [] [] e f same = tt
+  records-match [] (d ∷ ds) e (f, fs) same =
+      framed-some (recordOf (d .kind) (d .plan)) (records ds) (record-framed coding (d .kind) (d .plan) f) (sym same)
+  records-match (c ∷ cs) [] (e, es) f same =
+      framed-some (recordOf (c .kind) (c .plan)) (records cs) (record-framed coding (c .kind) (c .plan) e) same
+  records-match (c ∷ cs) (d ∷ ds) (e, es) (f, fs) same =
+      let (here, rest) = splits (recordOf (c .kind) (c .plan)) (recordOf (d .kind) (d .plan)) (records cs) (records ds)
+          (record-framed coding (c .kind) (c .plan) e) (record-framed coding (d .kind) (d .plan) f) same in
+      (alike c d e f here, records-match cs ds es fs rest)
+
+  match-records : (cs ds : List Writing) → AllFit cs → AllFit ds → PlaceByPlace cs ds → records cs ≡ records ds
+  unfolding records
+  match-records [] [] e f m = refl
+  match-records [] (d ∷ ds) e f m = absurd m
+  match-records (c ∷ cs) [] e f m = absurd m
+  match-records (c ∷ cs) (d ∷ ds) (e, es) (f, fs) (a, m) =
+      ap₂ (λ (xs ys : List ℕ). xs ++ ys) (alike-record c d e f a) (match-records cs ds es fs m)
+
+  -- ---- two lists of calls
+
+  pub demand-3 : Demand3
+  demand-3 = record {
+    same-bytes-alike = λ cs ds h g same. records-match (accepted cs) (accepted ds) (accepted-all-fit cs h) (accepted-all-fit ds g)
+        (sym (laid-records cs h) ∙ same ∙ laid-records ds g);
+    alike-same-bytes = λ cs ds h g m. laid-records cs h ∙ match-records (accepted cs) (accepted ds) (accepted-all-fit cs h) (accepted-all-fit ds g) m
+        ∙ sym (laid-records ds g);
+    one-renumbering = λ k l p q f g e e′ r r′. at-most-one k p q f g e r r′;
+    equal-records = renumbered-record coding;
+  }

@@ -1,0 +1,118 @@
+-- A renumbering carries fitness. Assumes nothing.
+--
+--   iso-loop, iso-degree  an isomorphism makes no loop and no vertex of degree one
+--   iso-connected         a map that a connected map is carried to is connected
+--   iso-characteristic, iso-planar   it has the same characteristic, so it is planar if the other is
+--   carries-fit           a plan that a fit plan is renumbered to is fit
+use Prim.Native.Nat.{ℕ, _/_, _%_, _<_}
+use native.Mathlib.Omega.{arith}
+use mathlib.Core.Path.{_≡_, refl, sym, ap, ap₂, subst, _∙_}
+use mathlib.Core.Bool.{Bool, true, false, _&&_}
+use mathlib.Core.List.{List}
+use lib.Dec.{eqb}
+use lib.IntN.{ℤ, pos, _+ℤ_, _-ℤ_}
+use lib.ListN.{length, getD}
+use Rattle.model.specs.Numbers.{some, cycles, isPermutation}
+use Rattle.model.specs.Map.{Plan, darts, opposite, next, vertexOf, faceNext, edges, vertices, faces, degreeOne, reached}
+use Rattle.model.specs.Map.{connected, characteristic, planar, hasLoop, hasDegreeOne, degreeRefused, fit}
+use Rattle.model.specs.Renumbering.{Renumbering}
+use Rattle.orbits.specs.Permutation.{Perm}
+use Rattle.orbits.proofs.Transversal.{cycles-conj}
+use Rattle.renumbering.specs.Isomorphism.{Isomorphism, inverseOf}
+use Rattle.renumbering.proofs.Permutations.{of-list}
+use Rattle.renumbering.proofs.Maps.{even, opposite-bound, next-perm, face-perm}
+use Rattle.renumbering.proofs.Fitness.{fit-all, all-fit}
+use Rattle.renumbering.proofs.Isomorphisms.{eqb-both, image-bound, image-inj, back-left, back-right, back-bound}
+use Rattle.renumbering.proofs.Isomorphisms.{iso-permutation, iso-face, iso-vertex}
+use Rattle.renumbering.proofs.Renumberings.{iso-of, carries-darts, carries-root, carries-permutation}
+use Rattle.renumbering.proofs.Connected.{Closed, nowhere, closed-from-one}
+use Rattle.renumbering.proofs.Reached.{Marked, none-below, reached-closed, reached-zero, all-connected}
+
+module _ {rot rot′ f : List ℕ} (two : length rot % 2 ≡ 0) (perm : isPermutation rot ≡ true) (iso : Isomorphism rot rot′ f) where
+  -- every dart is a partner
+  from-partner : (S : ℕ → Type 0) → ((d : ℕ) → d < length rot → S (getD f d 0)) → (d : ℕ) → d < length rot′ → S d
+  from-partner S all d h =
+      let l : d < length rot = omega (arith, iso .same-darts) in
+      subst S (back-right two perm iso d l) (all (getD (inverseOf f) d 0) (back-bound two perm iso d l))
+
+  iso-some : (t t′ : ℕ → Bool) → ((d : ℕ) → d < length rot → t′ (getD f d 0) ≡ t d) → some t (length rot) ≡ false → some t′ (length rot′) ≡ false
+  iso-some t t′ same none =
+      none-below t′ (length rot′) (from-partner (λ d. t′ d ≡ false) (λ d h. same d h ∙ nowhere t (length rot) none d h))
+
+  pub iso-loop : hasLoop rot ≡ false → hasLoop rot′ ≡ false
+  unfolding hasLoop
+  iso-loop = iso-some (λ d. eqb (vertexOf rot d) (vertexOf rot (opposite d))) (λ d. eqb (vertexOf rot′ d) (vertexOf rot′ (opposite d))) (λ d h.
+      let both = iso-vertex two perm iso d (opposite d) h (opposite-bound (length rot) two d h) in
+      ap (λ (x : ℕ). eqb (vertexOf rot′ (getD f d 0)) (vertexOf rot′ x)) (sym (iso .opposites d h))
+      ∙ eqb-both (vertexOf rot d) (vertexOf rot (opposite d)) (vertexOf rot′ (getD f d 0)) (vertexOf rot′ (getD f (opposite d) 0))
+      (both .0) (both .1))
+
+  pub iso-degree : hasDegreeOne rot ≡ false → hasDegreeOne rot′ ≡ false
+  unfolding hasDegreeOne degreeOne
+  iso-degree = iso-some (degreeOne rot) (degreeOne rot′) (λ d h.
+      ap (λ (x : ℕ). eqb x (getD f d 0)) (sym (iso .rotations d h))
+      ∙ eqb-both (next rot d) d (getD f (next rot d) 0) (getD f d 0) (ap (of-list f))
+      (image-inj iso (next rot d) d (next-perm rot perm .bound d h) h))
+
+  pub iso-connected : 0 < length rot → connected rot ≡ true → connected rot′ ≡ true
+  iso-connected some-dart e = all-connected rot′ (from-partner (Marked (reached rot′)) (
+      closed-from-one rot two perm (λ d. Marked (reached rot′) (getD f d 0)) (record {
+        across = λ d h m. subst (Marked (reached rot′)) (sym (iso .opposites d h)) (closed .across (getD f d 0) (in′ d h) m);
+        around = λ d h m. subst (Marked (reached rot′)) (sym (iso .rotations d h)) (closed .around (getD f d 0) (in′ d h) m);
+      }) e (getD (inverseOf f) 0 0) (back-bound two perm iso 0 some-dart)
+      (subst (Marked (reached rot′)) (sym (back-right two perm iso 0 some-dart)) (reached-zero rot′ some-dart′))))
+    where
+      some-dart′ : 0 < length rot′
+      some-dart′ = omega (arith, iso .same-darts)
+      in′ : (d : ℕ) → d < length rot → getD f d 0 < length rot′
+      in′ d h = let b = image-bound iso d h in omega (arith, iso .same-darts)
+      closed : Closed rot′ (Marked (reached rot′))
+      closed = reached-closed rot′ (subst (λ (n : ℕ). n % 2 ≡ 0) (iso .same-darts) two) (iso-permutation two perm iso) some-dart′
+
+  -- a permutation that is carried keeps its number of cycles
+  cycles-carried : (s s′ : ℕ → ℕ) → Perm (length rot) s → Perm (length rot′) s′ → ((d : ℕ) → d < length rot → getD f (s d) 0 ≡ s′ (getD f d 0))
+      → cycles s′ (length rot′) ≡ cycles s (length rot)
+  cycles-carried s s′ perm-s perm-s′ step =
+      cycles-conj (length rot′) s′ perm-s′ (length rot) s perm-s (of-list f) (of-list (inverseOf f)) (record {
+        t-bound = λ d h. let b = image-bound iso d h in omega (arith, iso .same-darts);
+        t-step = step;
+        s-bound = λ d h. back-bound two perm iso d (omega (arith, iso .same-darts));
+        t-s = λ d h. back-right two perm iso d (omega (arith, iso .same-darts));
+      }) (back-left two perm iso)
+
+  pub iso-characteristic : characteristic rot′ ≡ characteristic rot
+  unfolding characteristic vertices edges faces
+  iso-characteristic =
+      let perm′ = iso-permutation two perm iso in
+      let two′ : length rot′ % 2 ≡ 0 = subst (λ (n : ℕ). n % 2 ≡ 0) (iso .same-darts) two in
+      let v = cycles-carried (next rot) (next rot′) (next-perm rot perm) (next-perm rot′ perm′) (iso .rotations) in
+      let g = cycles-carried (faceNext rot) (faceNext rot′) (face-perm rot perm two) (face-perm rot′ perm′ two′) (iso-face two iso) in
+      ap₂ (λ (x y : ℤ). x +ℤ y) (ap₂ (λ (x y : ℕ). pos x -ℤ pos y) v (ap (λ (n : ℕ). n / 2) (sym (iso .same-darts)))) (ap pos g)
+
+  pub iso-planar : planar rot ≡ true → planar rot′ ≡ true
+  unfolding planar
+  iso-planar e = rw iso-characteristic e
+
+degree-carried : (k : ℕ) (p q : Plan) → (hasDegreeOne (p .rotation) ≡ false → hasDegreeOne (q .rotation) ≡ false)
+    → degreeRefused k p ≡ false → degreeRefused k q ≡ false
+unfolding degreeRefused
+degree-carried k p q on = go (eqb k 1)
+  where
+    go : (b : Bool) → (b && hasDegreeOne (p .rotation)) ≡ false → (b && hasDegreeOne (q .rotation)) ≡ false
+    go true e = on e
+    go false e = refl
+
+pub carries-fit : (k : ℕ) (p q : Plan) (f : List ℕ) → Renumbering p q f → fit k p ≡ true → fit k q ≡ true
+carries-fit k p q f r e =
+    let a = fit-all k p e in
+    let two = even (darts p) (a .dart-count) in
+    all-fit k q (record {
+      kind = a .kind;
+      dart-count = carries-darts p (a .dart-count) (a .root-in) (a .entries) q f r;
+      root-in = carries-root p (a .dart-count) (a .root-in) (a .entries) q f r;
+      entries = carries-permutation p (a .dart-count) (a .root-in) (a .entries) q f r;
+      whole = iso-connected two (a .entries) (iso-of r) (omega (arith, a .root-in)) (a .whole);
+      flat = iso-planar two (a .entries) (iso-of r) (a .flat);
+      no-loop = iso-loop two (a .entries) (iso-of r) (a .no-loop);
+      degrees = degree-carried k p q (iso-degree two (a .entries) (iso-of r)) (a .degrees);
+    })
