@@ -1,0 +1,92 @@
+-- The range of a state's bits and labels, kept turn by turn.
+--
+--   Held s             the bits and labels of the state s are in range, and it has one label for each open edge
+--   starts-held        so at the start
+--   held-close, held-up, held-star, held-back, held-tree   and after each kind of turn
+--   turn-held          and so after any turn
+--   bit-one            a bit that is not 0 is 1
+use Prim.Native.Nat.{ℕ, suc, _<_}
+use native.Mathlib.Omega.{arith}
+use mathlib.Core.Path.{_≡_, refl, ap, _∙_, subst}
+use mathlib.Core.Logic.{_≢_}
+use mathlib.Core.Bool.{true}
+use mathlib.Core.List.{List, _∷_}
+use lib.ListN.{length}
+use Rattle.model.specs.Numbers.{allBelow}
+use Rattle.model.specs.Traversal.{Letter}
+use Rattle.model.specs.LabelledTree.{star}
+use Rattle.words.specs.Word.{Machine, done, stuck, goes, turn, start}
+use Rattle.decoding.specs.Reading.{closed, risen, leafed, backed, entered}
+use Rattle.decoding.proofs.Bounds.{all-cons, all-part, head-below, tail-below}
+use Rattle.decoding.proofs.Lengths.{length-tail}
+use Rattle.decoding.proofs.Turns.{Next, next-of, Step, closes, rises, leafs, backs, enters, finishes, halts, step, turn-close, turn-up, turn-star, turn-back, turn-tree, turn-done}
+
+pub record Held (s : Machine) : Type 0 where
+  pub bits-low : allBelow 2 (s .bits) ≡ true
+  pub labels-low : allBelow 3 (s .labels) ≡ true
+  pub ups-low : allBelow 2 (s .ups) ≡ true
+  pub seconds-low : allBelow 2 (s .seconds) ≡ true
+  pub label-low : s .label < 2
+  pub ups-match : length (s .ups) ≡ length (s .below)
+  pub seconds-match : length (s .seconds) ≡ length (s .opens)
+
+-- ---- the state after a turn
+
+module _ (s : Machine) (k : Held s) where
+  pub held-close : (o : ℕ) (os : List ℕ) → s .opens ≡ o ∷ os → Held (closed s os)
+  held-close o os e = record {
+    bits-low = k .bits-low; labels-low = k .labels-low; ups-low = k .ups-low; seconds-low = tail-below 2 (s .seconds) (k .seconds-low);
+    label-low = head-below 2 (s .seconds) (omega arith) (k .seconds-low); ups-match = k .ups-match;
+    seconds-match = length-tail (s .seconds) (length os) (k .seconds-match ∙ ap length e) }
+
+  pub held-up : (v : ℕ) (vs bs : List ℕ) → s .bits ≡ 0 ∷ bs → s .below ≡ v ∷ vs → Held (risen s v vs bs)
+  held-up v vs bs e q = record {
+    bits-low = all-part 2 (s .bits) 0 bs e (k .bits-low) .1; labels-low = k .labels-low; ups-low = tail-below 2 (s .ups) (k .ups-low);
+    seconds-low = k .seconds-low; label-low = head-below 2 (s .ups) (omega arith) (k .ups-low);
+    ups-match = length-tail (s .ups) (length vs) (k .ups-match ∙ ap length q); seconds-match = k .seconds-match }
+
+  module _ (b l c : ℕ) (bs ls : List ℕ) (e : s .bits ≡ b ∷ c ∷ bs) (q : s .labels ≡ l ∷ ls) where
+    rest-low : allBelow 2 (c ∷ bs) ≡ true
+    rest-low = all-part 2 (s .bits) b (c ∷ bs) e (k .bits-low) .1
+
+    labels-rest : allBelow 3 ls ≡ true
+    labels-rest = all-part 3 (s .labels) l ls q (k .labels-low) .1
+
+    label-rest : l ≢ star → l < 2
+    label-rest h = let j = all-part 3 (s .labels) l ls q (k .labels-low) .0 in omega arith
+
+    pub bit-one : b ≢ 0 → b ≡ 1
+    bit-one z = let j = all-part 2 (s .bits) b (c ∷ bs) e (k .bits-low) .0 in omega arith
+
+    pub held-star : Held (leafed s c bs ls)
+    held-star = let j = all-part 2 (c ∷ bs) c bs refl rest-low in record {
+      bits-low = j .1; labels-low = labels-rest; ups-low = k .ups-low; seconds-low = k .seconds-low; label-low = j .0;
+      ups-match = k .ups-match; seconds-match = k .seconds-match }
+
+    pub held-back : l ≢ star → Held (backed s l bs ls)
+    held-back h = record {
+      bits-low = all-part 2 (c ∷ bs) c bs refl rest-low .1; labels-low = labels-rest; ups-low = k .ups-low;
+      seconds-low = all-cons 2 l (s .seconds) (label-rest h) (k .seconds-low); label-low = omega arith;
+      ups-match = k .ups-match; seconds-match = ap suc (k .seconds-match) }
+
+    pub held-tree : l ≢ star → Held (entered s l (c ∷ bs) ls)
+    held-tree h = record {
+      bits-low = rest-low; labels-low = labels-rest; ups-low = all-cons 2 l (s .ups) (label-rest h) (k .ups-low);
+      seconds-low = k .seconds-low; label-low = omega arith; ups-match = ap suc (k .ups-match); seconds-match = k .seconds-match }
+
+pub starts-held : (bits labels : List ℕ) → allBelow 2 bits ≡ true → allBelow 3 labels ≡ true → Held (start bits labels)
+unfolding start allBelow
+starts-held bits labels h l = record {
+  bits-low = h; labels-low = l; ups-low = refl; seconds-low = refl; label-low = omega arith; ups-match = refl; seconds-match = refl }
+
+pub turn-held : (s : Machine) → Held s → (ls : List Letter) (t : Machine) → turn s ≡ goes ls t → Held t
+turn-held s k ls t e = subst (Next Held) e (go (step s))
+  where
+    go : Step s → Next Held (turn s)
+    go (closes o os t e h) = next-of Held s _ (turn-close s o os t e h) (held-close s k o os e)
+    go (rises v vs bs t e q) = next-of Held s _ (turn-up s v vs bs t e q) (held-up s k v vs bs e q)
+    go (leafs b l c bs ls t e z q h) = next-of Held s _ (turn-star s b l c bs ls t e z q h) (held-star s k b l c bs ls e q)
+    go (backs b l c bs ls t e z q h j) = next-of Held s _ (turn-back s b l c bs ls t e z q h j) (held-back s k b l c bs ls e q h)
+    go (enters b l c bs ls t e z q h j) = next-of Held s _ (turn-tree s b l c bs ls t e z q h j) (held-tree s k b l c bs ls e q h)
+    go (finishes t e p q r) = next-of Held s done (turn-done s t e p q r) tt
+    go (halts e) = next-of Held s stuck e tt

@@ -1,0 +1,13 @@
+pub mod Counts
+pub mod Validity
+pub mod Bounds
+pub mod Nesting
+pub mod Lengths
+pub mod Sizes
+pub mod Turns
+pub mod Runs
+pub mod Within
+pub mod Held
+pub mod Encoding
+pub mod Decoding
+pub mod Inverse
