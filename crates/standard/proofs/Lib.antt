@@ -1,0 +1,12 @@
+pub mod Lists
+pub mod Positions
+pub mod Numbering
+pub mod Entries
+pub mod Matching
+pub mod OpenEdges
+pub mod WordDarts
+pub mod Linking
+pub mod Nesting
+pub mod BareLeaf
+pub mod DegreeOne
+pub mod Valid

@@ -1,0 +1,229 @@
+-- The standard numbering of a toured plan: a permutation that sends opposite darts to opposite darts and the root to 0. The numbers of an edge are
+-- twice the number of edges opened before it, and one more.
+--
+--   visit-dart, visit-letter    dart and letter of a visit, by position
+--   rank-opens, rank-stays      the rank rises by one at each opening
+--   numbers-length         there is a number for each dart
+--   opened-number, other-number, ended-number    the numbers of the two darts of an edge, by the position at which it is opened or ended
+--   numbers-opposite       opposite darts have opposite numbers
+--   numbers-root           the root has number 0
+--   numbers-below, numbers-inj, numbers-permutation    the numbers are those below the dart count, each once
+--   numbers-onto           the dart of each number
+use Prim.Native.Nat.{ℕ, zero, suc, _+_, _*_, _/_, _≤_, _<_}
+use native.Mathlib.Omega.{arith}
+use mathlib.Core.Path.{_≡_, refl, sym, ap, subst, _∙_}
+use mathlib.Core.Logic.{_⊎_, inl, inr, ⊎-elim}
+use mathlib.Core.Bool.{Bool, true, false, not, cond}
+use mathlib.Core.List.{List, [], _∷_}
+use lib.ListN.{length, getD, set, drop, replicate, length-set, length-replicate, length-drop, List·getD-map}
+use lib.Seq.{drop-cons, getD-drop, getD-set-same, getD-set-other}
+use Rattle.model.specs.Numbers.{tick, count, isPermutation}
+use Rattle.model.specs.Map.{Plan, darts, opposite, dartCountFits}
+use Rattle.model.specs.Traversal.{second, Visit, opens, visits, word, number, standardNumbers}
+use Rattle.words.specs.Toured.{dartsMet, dartAt, letterOf, mateOf, Toured}
+use Rattle.standard.proofs.Lists.{permutation-of, onto}
+use Rattle.standard.proofs.Positions.{opposite-back, opposite-bound, opposite-even, opposite-odd, opposite-half, even, positive, opening, rank, rank-inj, rank-room, one-edge, opening-of, mate-dart, mate-bound, mate-opens, starts-open}
+
+-- ---- the numbering as a fold over visits
+
+abbrev blank : Visit
+blank = record { dart = 0; letter = second }
+
+abbrev entered : ℕ → ℕ → List ℕ → List ℕ
+entered d e ns = set (set ns d (2 * e)) (opposite d) (2 * e + 1)
+
+entered-length : (d e : ℕ) (ns : List ℕ) → length (entered d e ns) ≡ length ns
+entered-length d e ns = length-set (set ns d (2 * e)) (opposite d) (2 * e + 1) ∙ length-set ns d (2 * e)
+
+number-opens : (v : Visit) (vs : List Visit) (e : ℕ) (ns : List ℕ) → opens (v .letter) ≡ true
+    → number (v ∷ vs) e ns ≡ number vs (suc e) (entered (v .dart) e ns)
+unfolding number
+number-opens v vs e ns h = ap (λ (b : Bool). cond b (number vs (suc e) (entered (v .dart) e ns)) (number vs e ns)) h
+
+number-skips : (v : Visit) (vs : List Visit) (e : ℕ) (ns : List ℕ) → opens (v .letter) ≡ false → number (v ∷ vs) e ns ≡ number vs e ns
+unfolding number
+number-skips v vs e ns h = ap (λ (b : Bool). cond b (number vs (suc e) (entered (v .dart) e ns)) (number vs e ns)) h
+
+number-length : (vs : List Visit) (e : ℕ) (ns : List ℕ) → length (number vs e ns) ≡ length ns
+unfolding number
+number-length [] e ns = refl
+number-length (v ∷ vs) e ns = go (opens (v .letter)) refl (number-length vs (suc e) (entered (v .dart) e ns)) (number-length vs e ns)
+  where
+    go : (b : Bool) → opens (v .letter) ≡ b → length (number vs (suc e) (entered (v .dart) e ns)) ≡ length (entered (v .dart) e ns)
+        → length (number vs e ns) ≡ length ns → length (number (v ∷ vs) e ns) ≡ length ns
+    go true h ih ih′ = ap length (number-opens v vs e ns h) ∙ ih ∙ entered-length (v .dart) e ns
+    go false h ih ih′ = ap length (number-skips v vs e ns h) ∙ ih′
+
+-- a dart of another edge keeps its number
+entered-other : (d e : ℕ) (ns : List ℕ) (x : ℕ) → (x / 2 ≡ d / 2 → ⊥) → getD (entered d e ns) x 0 ≡ getD ns x 0
+entered-other d e ns x n =
+    getD-set-other (set ns d (2 * e)) (opposite d) x (2 * e + 1) 0 (λ q. n (ap (λ (y : ℕ). y / 2) q ∙ opposite-half d))
+    ∙ getD-set-other ns d x (2 * e) 0 (λ q. n (ap (λ (y : ℕ). y / 2) q))
+
+-- the edge of x is not opened in vs
+abbrev Unopened : List Visit → ℕ → Type 0
+Unopened vs x = (k : ℕ) → k < length vs → opens (getD vs k blank .letter) ≡ true → x / 2 ≡ getD vs k blank .dart / 2 → ⊥
+
+number-past : (vs : List Visit) (e : ℕ) (ns : List ℕ) (x : ℕ) → Unopened vs x → getD (number vs e ns) x 0 ≡ getD ns x 0
+unfolding number
+number-past [] e ns x h = refl
+number-past (v ∷ vs) e ns x h =
+    let rest : Unopened vs x = λ k l. h (suc k) (omega arith) in
+    go (opens (v .letter)) refl (number-past vs (suc e) (entered (v .dart) e ns) x rest) (number-past vs e ns x rest)
+  where
+    go : (b : Bool) → opens (v .letter) ≡ b → getD (number vs (suc e) (entered (v .dart) e ns)) x 0 ≡ getD (entered (v .dart) e ns) x 0
+        → getD (number vs e ns) x 0 ≡ getD ns x 0 → getD (number (v ∷ vs) e ns) x 0 ≡ getD ns x 0
+    go true o ih ih′ = ap (λ (l : List ℕ). getD l x 0) (number-opens v vs e ns o) ∙ ih ∙ entered-other (v .dart) e ns x (h 0 (omega arith) o)
+    go false o ih ih′ = ap (λ (l : List ℕ). getD l x 0) (number-skips v vs e ns o) ∙ ih′
+
+-- the two darts of the edge that is entered
+entered-first : (d e : ℕ) (ns : List ℕ) → d < length ns → getD (entered d e ns) d 0 ≡ 2 * e
+unfolding opposite
+entered-first d e ns h =
+    getD-set-other (set ns d (2 * e)) (opposite d) d (2 * e + 1) 0 (λ q. omega arith) ∙ getD-set-same ns d (2 * e) 0 h
+
+entered-second : (d e : ℕ) (ns : List ℕ) → opposite d < length ns → getD (entered d e ns) (opposite d) 0 ≡ 2 * e + 1
+entered-second d e ns h =
+    getD-set-same (set ns d (2 * e)) (opposite d) (2 * e + 1) 0 (subst (λ (n : ℕ). opposite d < n) (sym (length-set ns d (2 * e))) h)
+
+-- ---- along the positions
+
+pub visit-dart : (p : Plan) (i : ℕ) → getD (visits p) i blank .dart ≡ dartAt p i
+unfolding dartAt dartsMet
+visit-dart p i = sym (List·getD-map (λ (v : Visit). v .dart) (visits p) i blank)
+
+pub visit-letter : (p : Plan) (i : ℕ) → getD (visits p) i blank .letter ≡ letterOf p i
+unfolding letterOf word
+visit-letter p i = sym (List·getD-map (λ (v : Visit). v .letter) (visits p) i blank)
+
+pub rank-opens : (p : Plan) (i : ℕ) → opening p i ≡ true → rank p (suc i) ≡ suc (rank p i)
+unfolding rank count
+rank-opens p i e = ap (λ (b : Bool). tick b (count (opening p) i)) e
+
+pub rank-stays : (p : Plan) (i : ℕ) → opening p i ≡ false → rank p (suc i) ≡ rank p i
+unfolding rank count
+rank-stays p i e = ap (λ (b : Bool). tick b (count (opening p) i)) e
+
+-- before position i some numbers ms are given, and what is left goes on from them
+abbrev Part : Plan → ℕ → Type 0
+Part p i = (ms : List ℕ) × (length ms ≡ darts p) × (standardNumbers p ≡ number (drop i (visits p)) (rank p i) ms)
+
+module _ (p : Plan) (t : Toured p) (fits : dartCountFits (darts p) ≡ true) where
+  abbrev at : ℕ → Visit
+  at i = getD (visits p) i blank
+
+  left : (i : ℕ) → i < darts p → drop i (visits p) ≡ at i ∷ drop (suc i) (visits p)
+  left i h = drop-cons (visits p) i blank (omega (arith, t .all-met))
+
+  opened : (i : ℕ) → i < darts p → opening p i ≡ true → (ms : List ℕ)
+      → number (drop i (visits p)) (rank p i) ms ≡ number (drop (suc i) (visits p)) (rank p (suc i)) (entered (dartAt p i) (rank p i) ms)
+  opened i h o ms =
+      ap (λ (vs : List Visit). number vs (rank p i) ms) (left i h)
+      ∙ number-opens (at i) (drop (suc i) (visits p)) (rank p i) ms (ap opens (visit-letter p i) ∙ o)
+      ∙ rw (visit-dart p i, rank-opens p i o)
+
+  part : (i : ℕ) → i ≤ darts p → Part p i
+  unfolding standardNumbers rank count
+  part zero h = (replicate (darts p) 0, length-replicate (darts p) 0, refl)
+  part (suc i) h = go (opening p i) refl (part i (omega arith))
+    where
+      go : (b : Bool) → opening p i ≡ b → Part p i → Part p (suc i)
+      go true o (ms, l, e) = (entered (dartAt p i) (rank p i) ms, entered-length (dartAt p i) (rank p i) ms ∙ l, e ∙ opened i h o ms)
+      go false o (ms, l, e) = (
+        ms, l,
+        e ∙ ap (λ (vs : List Visit). number vs (rank p i) ms) (left i h)
+        ∙ number-skips (at i) (drop (suc i) (visits p)) (rank p i) ms (ap opens (visit-letter p i) ∙ o)
+        ∙ ap (λ (r : ℕ). number (drop (suc i) (visits p)) r ms) (sym (rank-stays p i o)))
+
+  -- what is opened later is another edge
+  later : (i : ℕ) → i < darts p → opening p i ≡ true → (x : ℕ) → x / 2 ≡ dartAt p i / 2 → Unopened (drop (suc i) (visits p)) x
+  later i h o x e k l u f =
+      let j : ℕ = suc i + k in
+      let same : getD (drop (suc i) (visits p)) k blank ≡ at j = getD-drop (suc i) (visits p) k blank in
+      let hj : j < darts p = omega (arith, length-drop (suc i) (visits p), t .all-met) in
+      let v : opening p j ≡ true = ap opens (sym (visit-letter p j) ∙ ap (λ (v : Visit). v .letter) (sym same)) ∙ u in
+      let d : getD (drop (suc i) (visits p)) k blank .dart ≡ dartAt p j = ap (λ (v : Visit). v .dart) same ∙ visit-dart p j in
+      let q : i ≡ j = one-edge p t fits i j h hj o v (sym e ∙ f ∙ ap (λ (y : ℕ). y / 2) d) in
+      omega arith
+
+  -- the numbers of an edge are those that it gets when it is opened
+  given : (i : ℕ) → i < darts p → opening p i ≡ true → (ms : List ℕ) × (length ms ≡ darts p)
+      × ((x : ℕ) → x / 2 ≡ dartAt p i / 2 → getD (standardNumbers p) x 0 ≡ getD (entered (dartAt p i) (rank p i) ms) x 0)
+  given i h o =
+      let (ms, l, e) = part i (omega arith) in
+      (ms, l, λ x f.
+        ap (λ (ns : List ℕ). getD ns x 0) (e ∙ opened i h o ms)
+        ∙ number-past (drop (suc i) (visits p)) (rank p (suc i)) (entered (dartAt p i) (rank p i) ms) x (later i h o x f))
+
+  pub opened-number : (i : ℕ) → i < darts p → opening p i ≡ true → getD (standardNumbers p) (dartAt p i) 0 ≡ 2 * rank p i
+  opened-number i h o =
+      let (ms, l, e) = given i h o in
+      let b = t .dart-bound i h in
+      e (dartAt p i) refl ∙ entered-first (dartAt p i) (rank p i) ms (omega arith)
+
+  pub other-number : (i : ℕ) → i < darts p → opening p i ≡ true → getD (standardNumbers p) (opposite (dartAt p i)) 0 ≡ 2 * rank p i + 1
+  other-number i h o =
+      let (ms, l, e) = given i h o in
+      let b = opposite-bound (darts p) (dartAt p i) (even (darts p) fits) (t .dart-bound i h) in
+      e (opposite (dartAt p i)) (opposite-half (dartAt p i)) ∙ entered-second (dartAt p i) (rank p i) ms (omega arith)
+
+  pub numbers-length : length (standardNumbers p) ≡ darts p
+  unfolding standardNumbers
+  numbers-length = number-length (visits p) 0 (replicate (darts p) 0) ∙ length-replicate (darts p) 0
+
+  -- a dart's number, by whether it opens its edge
+  abbrev Numbered : ℕ → Type 0
+  Numbered d = (i : ℕ) × (i < darts p) × (opening p i ≡ true)
+      × (((d ≡ dartAt p i) × (getD (standardNumbers p) d 0 ≡ 2 * rank p i))
+      ⊎ ((d ≡ opposite (dartAt p i)) × (getD (standardNumbers p) d 0 ≡ 2 * rank p i + 1)))
+
+  numbered : (d : ℕ) → d < darts p → Numbered d
+  numbered d h =
+      let (i, hi, o, w) = opening-of p t fits d h in
+      let sn : ℕ → ℕ = λ x. getD (standardNumbers p) x 0 in
+      (i, hi, o, ⊎-elim (λ e. inl (e, ap sn e ∙ opened-number i hi o)) (λ e. inr (e, ap sn e ∙ other-number i hi o)) w)
+
+  pub numbers-opposite : (d : ℕ) → d < darts p → getD (standardNumbers p) (opposite d) 0 ≡ opposite (getD (standardNumbers p) d 0)
+  numbers-opposite d h =
+      let (i, hi, o, w) = numbered d h in
+      let sn : ℕ → ℕ = λ x. getD (standardNumbers p) x 0 in
+      ⊎-elim
+      (λ (e, f). ap (λ (x : ℕ). sn (opposite x)) e ∙ other-number i hi o ∙ sym (opposite-even (rank p i)) ∙ ap opposite (sym f))
+      (λ (e, f).
+      ap (λ (x : ℕ). sn (opposite x)) e ∙ ap sn (opposite-back (dartAt p i)) ∙ opened-number i hi o
+      ∙ sym (opposite-odd (rank p i)) ∙ ap opposite (sym f))
+      w
+
+  pub numbers-below : (d : ℕ) → d < darts p → getD (standardNumbers p) d 0 < darts p
+  numbers-below d h =
+      let (i, hi, o, w) = numbered d h in let r = rank-room p t fits i hi o in ⊎-elim (λ e. omega arith) (λ e. omega arith) w
+
+  pub numbers-inj : (c d : ℕ) → c < darts p → d < darts p → getD (standardNumbers p) c 0 ≡ getD (standardNumbers p) d 0 → c ≡ d
+  numbers-inj c d hc hd same =
+      let (i, hi, o, w) = numbered c hc in
+      let (j, hj, u, z) = numbered d hd in
+      let one : rank p i ≡ rank p j → dartAt p i ≡ dartAt p j = λ e. ap (dartAt p) (rank-inj p t fits i j o u e) in
+      ⊎-elim
+      (λ a. ⊎-elim (λ b. a .0 ∙ one (omega arith) ∙ sym (b .0)) (λ b. absurd (omega arith)) z)
+      (λ a. ⊎-elim (λ b. absurd (omega arith)) (λ b. a .0 ∙ ap opposite (one (omega arith)) ∙ sym (b .0)) z)
+      w
+
+  pub numbers-permutation : isPermutation (standardNumbers p) ≡ true
+  numbers-permutation = permutation-of (standardNumbers p)
+      (λ k l. let h = numbers-length in subst (λ (n : ℕ). getD (standardNumbers p) k 0 < n) (sym numbers-length) (numbers-below k (omega arith)))
+      (λ i j hi hj e. let h = numbers-length in numbers-inj i j (omega arith) (omega arith) e)
+
+  pub numbers-onto : (y : ℕ) → y < darts p → (d : ℕ) × (d < darts p) × (getD (standardNumbers p) d 0 ≡ y)
+  numbers-onto = onto (darts p) (λ d. getD (standardNumbers p) d 0) numbers-below numbers-inj
+
+  pub numbers-root : getD (standardNumbers p) (p .root) 0 ≡ 0
+  unfolding rank count
+  numbers-root =
+      ap (λ (x : ℕ). getD (standardNumbers p) x 0) (sym (t .starts))
+      ∙ opened-number 0 (positive (darts p) fits) (starts-open p t fits)
+
+  pub ended-number : (i : ℕ) → i < darts p → opening p i ≡ false → getD (standardNumbers p) (dartAt p i) 0 ≡ 2 * rank p (mateOf p i) + 1
+  ended-number i h o =
+      ap (λ (x : ℕ). getD (standardNumbers p) x 0)
+      (sym (opposite-back (dartAt p i)) ∙ ap opposite (sym (mate-dart p t fits i h)))
+      ∙ other-number (mateOf p i) (mate-bound p t fits i h) (mate-opens p t fits i h ∙ ap not o)

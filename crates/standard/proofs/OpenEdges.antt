@@ -1,0 +1,187 @@
+-- Where the edges of a tour match like brackets, those that are open at a position form two stacks, one of tree edges and one of the others,
+-- and what ends an edge finds it on top.
+--
+--   Brackets part p       the edges of the part (tree or chord) match like brackets
+--   down-only             a letter that opens a tree edge is down
+--   held part p i         the positions before i at which edges of the part are opened and not ended, the last first
+--   openTrees p i, openChords p i    the same for the tree and for the other edges
+--   after-down, after-up, after-first, after-second    how they change where each letter stands
+--   trees-start, chords-start, trees-end, chords-end    nothing is open at the start and at the end
+--   trees-pending         the open tree edges are those that end at i or later
+--   pending-zero          where position 0 is pending, nothing lies below it
+--   pending-has           and something is pending
+use Prim.Native.Nat.{ℕ, zero, suc, _≤_, _<_}
+use native.Mathlib.Nat.{not-suc-le-zero}
+use native.Mathlib.Omega.{arith}
+use mathlib.Core.Path.{_≡_, refl, sym, ap, _∙_}
+use mathlib.Core.Bool.{Bool, true, false, false≢true}
+use mathlib.Core.List.{List, [], _∷_}
+use lib.Dec.{leb}
+use borrow.Author.Tests.{le-leb}
+use Rattle.model.specs.Map.{Plan, darts, dartCountFits}
+use Rattle.model.specs.Traversal.{Letter, down, up, first, second, opens}
+use Rattle.words.specs.Toured.{letterOf, mateOf, fellow, isTree, Toured, Bracketed}
+use Rattle.orbits.specs.Chord.{Nested}
+use Rattle.orbits.specs.Stack.{Kind, flat, open′, kind, kindOf, push, stack, keep, pending}
+use Rattle.orbits.proofs.Stack.{kind-open, kind-flat, stack-pending, stack-top, stack-end}
+use Rattle.standard.proofs.Positions.{opening, mate-before}
+use Rattle.standard.proofs.Matching.{isChord, tree-whole, chord-whole, matching, matching-in, matching-out, part-split, matching-inv}
+
+-- ---- brackets
+
+abbrev pub Brackets : (Letter → Bool) → Plan → Type 0
+Brackets part p = (i x : ℕ) → i < darts p → part (letterOf p i) ≡ true → opening p i ≡ true → i < x → x < mateOf p i
+    → part (letterOf p x) ≡ true → (i < mateOf p x) × (mateOf p x < mateOf p i)
+
+pub down-only : (l : Letter) → isTree l ≡ true → opens l ≡ true → l ≡ down
+down-only down e o = refl
+down-only up e o = absurd (false≢true o)
+down-only first e o = absurd (false≢true e)
+down-only second e o = absurd (false≢true e)
+
+first-only : (l : Letter) → isChord l ≡ true → opens l ≡ true → l ≡ first
+first-only down e o = absurd (false≢true e)
+first-only up e o = absurd (false≢true e)
+first-only first e o = refl
+first-only second e o = absurd (false≢true o)
+
+chord-no-tree : (l : Letter) → isChord l ≡ true → isTree l ≡ false
+chord-no-tree down e = absurd (false≢true e)
+chord-no-tree up e = absurd (false≢true e)
+chord-no-tree first e = refl
+chord-no-tree second e = refl
+
+tree-brackets : (p : Plan) → Bracketed p → Brackets isTree p
+tree-brackets p b i x h e o u v f = b .trees i x h (down-only (letterOf p i) e o) u v f
+
+chord-brackets : (p : Plan) → Bracketed p → Brackets isChord p
+chord-brackets p b i x h e o u v f = b .chords i x h (first-only (letterOf p i) e o) u v (chord-no-tree (letterOf p x) f)
+
+-- ---- stacks
+
+unfoldable pub held : (Letter → Bool) → Plan → ℕ → List ℕ
+held part p i = stack (kind (matching part p)) i
+
+module _ (part : Letter → Bool) (whole : (l : Letter) → part (fellow l) ≡ part l) (p : Plan) (t : Toured p)
+    (fits : dartCountFits (darts p) ≡ true) (brackets : Brackets part p) where
+  -- what is sent onward opens an edge
+  rises : (i : ℕ) → i < darts p → i < matching part p i → (part (letterOf p i) ≡ true) × (opening p i ≡ true) × (matching part p i ≡ mateOf p i)
+  rises i h l = part-split part p i (λ u e. (u, go (opening p i) refl e, e)) (λ u e. absurd (omega arith))
+    where
+      go : (b : Bool) → opening p i ≡ b → matching part p i ≡ mateOf p i → opening p i ≡ true
+      go true o e = o
+      go false o e = absurd (omega (arith, mate-before p t fits i h o))
+
+  matching-nested : Nested (matching part p) (darts p)
+  matching-nested a h l x u v =
+      let (s, o, e) = rises a h l in
+      part-split part p x (λ w f. let r = brackets a x h s o u (omega arith) w in (omega arith, omega arith)) (λ w f. (omega arith, omega arith))
+
+  kind-at : (k : Kind) (i : ℕ) → kind (matching part p) i ≡ k → held part p (suc i) ≡ push k i (held part p i)
+  unfolding held stack
+  kind-at k i e = ap (λ (c : Kind). push c i (stack (kind (matching part p)) i)) e
+
+  held-opens : (i : ℕ) → i < darts p → part (letterOf p i) ≡ true → opening p i ≡ true → held part p (suc i) ≡ i ∷ held part p i
+  held-opens i h u o = kind-at open′ i
+      (ap (kindOf i) (matching-in part p i u) ∙ kind-open i (mateOf p i) (t .opens-first i h o))
+
+  held-closes : (i : ℕ) → i < darts p → part (letterOf p i) ≡ true → opening p i ≡ false → held part p i ≡ mateOf p i ∷ held part p (suc i)
+  unfolding held
+  held-closes i h u o =
+      let e = matching-in part p i u in
+      let b = mate-before p t fits i h o in
+      stack-top (darts p) (matching part p) (matching-inv part whole p t fits) matching-nested i h (omega arith)
+      ∙ ap (λ (k : ℕ). k ∷ stack (kind (matching part p)) (suc i)) e
+
+  held-stays : (i : ℕ) → part (letterOf p i) ≡ false → held part p (suc i) ≡ held part p i
+  held-stays i u = kind-at flat i (kind-flat i (matching part p i) (matching-out part p i u))
+
+  held-end : held part p (darts p) ≡ []
+  unfolding held
+  held-end = stack-end (darts p) (matching part p) (matching-inv part whole p t fits) matching-nested
+
+  -- the positions before i whose edges of the part end at i or later
+  held-pending : (i : ℕ) → i ≤ darts p → held part p i ≡ pending (matching part p) i i
+  unfolding held
+  held-pending = stack-pending (darts p) (matching part p) (matching-inv part whole p t fits) matching-nested
+
+-- ---- both stacks, letter by letter
+
+abbrev pub openTrees : Plan → ℕ → List ℕ
+openTrees p i = held isTree p i
+
+abbrev pub openChords : Plan → ℕ → List ℕ
+openChords p i = held isChord p i
+
+pub trees-start : (p : Plan) → openTrees p 0 ≡ []
+unfolding held stack
+trees-start p = refl
+
+pub chords-start : (p : Plan) → openChords p 0 ≡ []
+unfolding held stack
+chords-start p = refl
+
+module _ (p : Plan) (t : Toured p) (b : Bracketed p) (fits : dartCountFits (darts p) ≡ true) where
+  trees-stay : (i : ℕ) → isTree (letterOf p i) ≡ false → openTrees p (suc i) ≡ openTrees p i
+  trees-stay = held-stays isTree tree-whole p t fits (tree-brackets p b)
+
+  chords-stay : (i : ℕ) → isChord (letterOf p i) ≡ false → openChords p (suc i) ≡ openChords p i
+  chords-stay = held-stays isChord chord-whole p t fits (chord-brackets p b)
+
+  pub after-down : (i : ℕ) → i < darts p → letterOf p i ≡ down → (openTrees p (suc i) ≡ i ∷ openTrees p i) × (openChords p (suc i) ≡ openChords p i)
+  after-down i h e =
+      (held-opens isTree tree-whole p t fits (tree-brackets p b) i h (ap isTree e) (ap opens e), chords-stay i (ap isChord e))
+
+  pub after-up : (i : ℕ) → i < darts p → letterOf p i ≡ up
+      → (openTrees p i ≡ mateOf p i ∷ openTrees p (suc i)) × (openChords p (suc i) ≡ openChords p i)
+  after-up i h e =
+      (held-closes isTree tree-whole p t fits (tree-brackets p b) i h (ap isTree e) (ap opens e), chords-stay i (ap isChord e))
+
+  pub after-first : (i : ℕ) → i < darts p → letterOf p i ≡ first
+      → (openTrees p (suc i) ≡ openTrees p i) × (openChords p (suc i) ≡ i ∷ openChords p i)
+  after-first i h e =
+      (trees-stay i (ap isTree e), held-opens isChord chord-whole p t fits (chord-brackets p b) i h (ap isChord e) (ap opens e))
+
+  pub after-second : (i : ℕ) → i < darts p → letterOf p i ≡ second
+      → (openTrees p (suc i) ≡ openTrees p i) × (openChords p i ≡ mateOf p i ∷ openChords p (suc i))
+  after-second i h e =
+      (trees-stay i (ap isTree e), held-closes isChord chord-whole p t fits (chord-brackets p b) i h (ap isChord e) (ap opens e))
+
+  pub trees-end : openTrees p (darts p) ≡ []
+  trees-end = held-end isTree tree-whole p t fits (tree-brackets p b)
+
+  pub chords-end : openChords p (darts p) ≡ []
+  chords-end = held-end isChord chord-whole p t fits (chord-brackets p b)
+
+  pub trees-pending : (i : ℕ) → i ≤ darts p → openTrees p i ≡ pending (matching isTree p) i i
+  trees-pending = held-pending isTree tree-whole p t fits (tree-brackets p b)
+
+-- ---- pending positions and position 0
+
+-- below 0 nothing is pending
+pub pending-zero : (μ : ℕ → ℕ) (i j : ℕ) (s : List ℕ) → pending μ i j ≡ 0 ∷ s → s ≡ []
+unfolding pending
+pending-zero μ i zero s e = let z : _≡_ {A = ℕ} 0 1 = cc in absurd (omega arith)
+pending-zero μ i (suc a) s e = go (leb i (μ a)) e (pending-zero μ i a s)
+  where
+    go : (b : Bool) → keep b a (pending μ i a) ≡ 0 ∷ s → (pending μ i a ≡ 0 ∷ s → s ≡ []) → s ≡ []
+    go true f ih =
+        let z : a ≡ 0 = cc in
+        let r : pending μ i a ≡ s = cc in
+        sym r ∙ ap (pending μ i) z
+    go false f ih = ih f
+
+-- where 0 is pending, something is
+pub pending-has : (μ : ℕ → ℕ) (i j : ℕ) → i ≤ μ 0 → 0 < j → pending μ i j ≡ [] → ⊥
+unfolding pending
+pending-has μ i zero h l e = not-suc-le-zero l
+pending-has μ i (suc zero) h l e = go (leb i (μ 0)) (le-leb i (μ 0) h) e
+  where
+    go : (b : Bool) → b ≡ true → keep b 0 (pending μ i 0) ≡ [] → ⊥
+    go true o f = let z : _≡_ {A = ℕ} 0 1 = cc in omega arith
+    go false o f = false≢true o
+pending-has μ i (suc (suc a)) h l e = go (leb i (μ (suc a))) e (pending-has μ i (suc a) h (omega arith))
+  where
+    go : (b : Bool) → keep b (suc a) (pending μ i (suc a)) ≡ [] → (pending μ i (suc a) ≡ [] → ⊥) → ⊥
+    go true f ih = let z : _≡_ {A = ℕ} 0 1 = cc in omega arith
+    go false f ih = ih f
