@@ -1,0 +1,102 @@
+-- The walk of a connected plan meets all darts, and that of any other plan does not.
+--
+--   isMet p x             x is met, as a test; among-met and met-among tie it to the places
+--   connected-met         a connected plan: every dart is met
+--   connected-long        so there are as many visits as darts
+--   long-connected        a plan with as many visits as darts is connected
+--   walk-short            a plan that is not connected has fewer
+use Prim.Native.Nat.{ℕ, _<_}
+use native.Mathlib.Omega.{arith}
+use mathlib.Core.Path.{_≡_, refl, sym, ap, subst, _∙_}
+use mathlib.Core.Bool.{Bool, true, false, true≢false}
+use lib.Dec.{T}
+use lib.ListN.{length}
+use Rattle.model.specs.Numbers.{elem, isPermutation}
+use Rattle.model.specs.Map.{Plan, darts, opposite, next, connected, dartCountFits}
+use Rattle.model.specs.Traversal.{visits}
+use Rattle.words.specs.Toured.{dartsMet, dartAt}
+use Rattle.orbits.proofs.Order.{le-split}
+use Rattle.orbits.proofs.Tally.{count-inj, count-tight}
+use Rattle.orbits.proofs.Number.{count-all}
+use Rattle.traversal.specs.Walked.{Among, Walked}
+use Rattle.traversal.proofs.Elements.{T-true, true-T, bit, bit-same, bit-in, elem-at, at-elem}
+use Rattle.traversal.proofs.Rotation.{opposite-back}
+use Rattle.traversal.proofs.Reach.{connected-kept, kept-connected}
+use Rattle.traversal.proofs.Walk.{length-darts, walked, walk-least}
+
+-- ---- the darts met, as a test
+
+abbrev pub isMet : Plan → ℕ → Bool
+isMet p x = elem x (dartsMet p)
+
+pub among-met : (p : Plan) (x : ℕ) → Among p x → T (isMet p x)
+unfolding dartAt
+among-met p x (i, h, e) = true-T (isMet p x) (at-elem x (dartsMet p) i (subst (λ (n : ℕ). i < n) (sym (length-darts p)) h) e)
+
+pub met-among : (p : Plan) (x : ℕ) → T (isMet p x) → Among p x
+unfolding dartAt
+met-among p x t =
+    let (i, h, e) = elem-at x (dartsMet p) (T-true (isMet p x) t) in (i, subst (λ (n : ℕ). i < n) (length-darts p) h, e)
+
+module _ (p : Plan) (fits : dartCountFits (darts p) ≡ true) (hr : p .root < darts p) (good : isPermutation (p .rotation) ≡ true) where
+  abbrev N : ℕ
+  N = darts p
+
+  w : Walked p
+  w = walked p fits hr good
+
+  root-met : T (isMet p (p .root))
+  root-met = among-met p (p .root) (0, w .some-met, w .starts)
+
+  -- ---- connected: all are met
+
+  pub connected-met : connected (p .rotation) ≡ true → (x : ℕ) → x < N → Among p x
+  connected-met e x h =
+      let one : bit (isMet p x) ≡ bit (isMet p (p .root)) =
+          connected-kept (p .rotation) fits good e (λ x. bit (isMet p x)) turns crosses x (p .root) h hr in
+      met-among p x (bit-in (isMet p x) (isMet p (p .root)) one root-met)
+    where
+      turns : (x : ℕ) → x < N → bit (isMet p (next (p .rotation) x)) ≡ bit (isMet p x)
+      turns x h = bit-same (isMet p (next (p .rotation) x)) (isMet p x)
+          (λ t. among-met p x (w .turned x h (met-among p (next (p .rotation) x) t)))
+          (λ t. among-met p (next (p .rotation) x) (w .turn x (met-among p x t)))
+      crosses : (x : ℕ) → x < N → bit (isMet p (opposite x)) ≡ bit (isMet p x)
+      crosses x h = bit-same (isMet p (opposite x)) (isMet p x)
+          (λ t. among-met p x (subst (Among p) (opposite-back x) (w .across (opposite x) (met-among p (opposite x) t))))
+          (λ t. among-met p (opposite x) (w .across x (met-among p x t)))
+
+  all-long : ((x : ℕ) → x < N → Among p x) → length (visits p) ≡ N
+  all-long all =
+      let more = count-inj (λ i. true) (λ i. true) N (length (visits p)) (record {
+        to = λ x h t. all x h .0;
+        bound = λ x h t. all x h .1;
+        passes = λ x h t. tt;
+        inj = λ x y hx hy t u e. sym (all x hx .2) ∙ ap (dartAt p) e ∙ all y hy .2;
+      }) in
+      omega (arith, w .few-met, count-all N, count-all (length (visits p)))
+
+  -- ---- all are met: connected
+
+  long-all : length (visits p) ≡ N → (x : ℕ) → x < N → Among p x
+  long-all e x h =
+      let more = count-inj (λ i. true) (isMet p) (length (visits p)) N (record {
+        to = λ i h t. dartAt p i;
+        bound = λ i h t. w .dart-bound i h;
+        passes = λ i h t. among-met p (dartAt p i) (i, h, refl);
+        inj = λ i j hi hj t u f. w .different i j hi hj f;
+      }) in
+      met-among p x (count-tight (isMet p) (λ i. true) N (λ i h t. tt) (omega (arith, count-all N, count-all (length (visits p)))) x h tt)
+
+  pub long-connected : length (visits p) ≡ N → connected (p .rotation) ≡ true
+  long-connected e = kept-connected (p .rotation) fits good (λ g turns crosses x y hx hy. same g turns crosses x hx ∙ sym (same g turns crosses y hy))
+    where
+      same : (g : ℕ → ℕ) → ((d : ℕ) → d < N → g (next (p .rotation) d) ≡ g d) → ((d : ℕ) → d < N → g (opposite d) ≡ g d)
+          → (x : ℕ) → x < N → g x ≡ g (p .root)
+      same g turns crosses x h = walk-least p fits hr good (λ x. g x ≡ g (p .root))
+          (record { across = λ d h s. crosses d h ∙ s; turn = λ d h s. turns d h ∙ s }) refl x (long-all e x h)
+
+  pub connected-long : connected (p .rotation) ≡ true → length (visits p) ≡ N
+  connected-long e = all-long (connected-met e)
+
+  pub walk-short : connected (p .rotation) ≡ false → length (visits p) < N
+  walk-short e = le-split (w .few-met) (λ q. absurd (true≢false (sym (long-connected q) ∙ e))) (λ h. h)

@@ -1,0 +1,12 @@
+pub mod Elements
+pub mod Rotation
+pub mod Marks
+pub mod Spread
+pub mod Reach
+pub mod Steps
+pub mod Follow
+pub mod Merged
+pub mod Round
+pub mod Walk
+pub mod Complete
+pub mod Toured
