@@ -18,7 +18,8 @@ use Rattle.model.specs.Map.{isKind, dartCountFits}
 use Rattle.model.specs.Traversal.{Letter, down, up, first, second}
 use Rattle.model.specs.LabelledTree.{star}
 use Rattle.words.specs.Word.{nested, startsUp, rootDegree, valid, startsSecond, head, tail, endsOne, ends, wordLabels, wordBits, Found, found, none, after, Machine, goes, turn, follow, decode, start, checkRoot, decodeWord}
-use Rattle.decoding.specs.Reading.{Reads, closed, risen, leafed, backed, entered, labelBound}
+use Rattle.decoding.specs.Reading.{Reads, closed, risen, leafed, backed, entered}
+use Rattle.model.specs.Record.{labelBase}
 use Rattle.decoding.proofs.Validity.{valid-of}
 use Rattle.decoding.proofs.Sizes.{bound-three, bound-two}
 use Rattle.decoding.proofs.Bounds.{plain-labels}
@@ -142,7 +143,7 @@ check-root k (found v) w e = go (eqb k 1 && eqb (rootDegree 0 v) 1) refl e
     go true t q = none-found w q
     go false t q = (q, subst (λ (x : List Letter). (eqb k 1 && eqb (rootDegree 0 x) 1) ≡ false) (ap wordIn q) t)
 
-module _ (k : ℕ) (bits labels : List ℕ) (w : List Letter) (low : allBelow 2 bits ≡ true) (bound : allBelow (labelBound k) labels ≡ true)
+module _ (k : ℕ) (bits labels : List ℕ) (w : List Letter) (low : allBelow 2 bits ≡ true) (bound : allBelow (labelBase k) labels ≡ true)
     (e : decodeWord k bits labels ≡ found w) where
   root-checked : (decode (suc (length bits)) (start bits labels) ≡ found w) × ((eqb k 1 && eqb (rootDegree 0 w) 1) ≡ false)
   unfolding decodeWord
@@ -171,7 +172,7 @@ module _ (k : ℕ) (bits labels : List ℕ) (w : List Letter) (low : allBelow 2 
       (λ t. plain-labels w (rw decoded-labels (bound-two k labels bound t))) (root-checked .1)
 
 pub encode-decode : (k : ℕ) (bits labels : List ℕ) (w : List Letter) → isKind k ≡ true → (m : ℕ) → dartCountFits (2 * m) ≡ true
-    → length bits ≡ 2 * m → length labels ≡ m → allBelow 2 bits ≡ true → allBelow (labelBound k) labels ≡ true
+    → length bits ≡ 2 * m → length labels ≡ m → allBelow 2 bits ≡ true → allBelow (labelBase k) labels ≡ true
     → decodeWord k bits labels ≡ found w
     → (valid k w ≡ true) × (wordBits false w ≡ bits) × (wordLabels w ≡ labels) × (length w ≡ 2 * m)
 encode-decode k bits labels w kind m fits n _ low bound e =

@@ -14,25 +14,28 @@ use lib.ListN.{length}
 use Rattle.model.specs.Numbers.{allBelow}
 use Rattle.model.specs.Traversal.{Letter}
 use Rattle.words.specs.Word.{valid, wordLabels, wordBits}
-use Rattle.decoding.specs.Reading.{labelBound}
+use Rattle.model.specs.Record.{labelBase}
 use Rattle.decoding.proofs.Validity.{valid-nested, valid-plain}
 use Rattle.decoding.proofs.Bounds.{all-more, labels-below, labels-plain}
 use Rattle.decoding.proofs.Lengths.{bits-count, letters-count}
 
 -- ---- the bound of a kind
 
-pub bound-three : (k : ℕ) (labels : List ℕ) → allBelow (labelBound k) labels ≡ true → allBelow 3 labels ≡ true
+pub bound-three : (k : ℕ) (labels : List ℕ) → allBelow (labelBase k) labels ≡ true → allBelow 3 labels ≡ true
+unfolding labelBase
 bound-three k labels h = go (eqb k 1) h
   where
     go : (b : Bool) → allBelow (cond b 2 3) labels ≡ true → allBelow 3 labels ≡ true
     go true e = all-more 2 3 labels (omega arith) e
     go false e = e
 
-pub bound-two : (k : ℕ) (labels : List ℕ) → allBelow (labelBound k) labels ≡ true → eqb k 1 ≡ true → allBelow 2 labels ≡ true
+pub bound-two : (k : ℕ) (labels : List ℕ) → allBelow (labelBase k) labels ≡ true → eqb k 1 ≡ true → allBelow 2 labels ≡ true
+unfolding labelBase allBelow
 bound-two k labels h e = rw e at h
 
 pub bound-of : (k : ℕ) (labels : List ℕ) → allBelow 3 labels ≡ true → (eqb k 1 ≡ true → allBelow 2 labels ≡ true)
-    → allBelow (labelBound k) labels ≡ true
+    → allBelow (labelBase k) labels ≡ true
+unfolding labelBase
 bound-of k labels h e = go (eqb k 1) e
   where
     go : (b : Bool) → (b ≡ true → allBelow 2 labels ≡ true) → allBelow (cond b 2 3) labels ≡ true
@@ -48,5 +51,5 @@ module _ (k : ℕ) (w : List Letter) (v : valid k w ≡ true) where
   pub letters-length : length w ≡ 2 * length (wordLabels w)
   letters-length = let h = letters-count 1 0 [] [] w (valid-nested k w v) in omega arith
 
-  pub labels-bound : allBelow (labelBound k) (wordLabels w) ≡ true
+  pub labels-bound : allBelow (labelBase k) (wordLabels w) ≡ true
   labels-bound = bound-of k (wordLabels w) (labels-below w) (λ e. labels-plain w (valid-plain k w v e))

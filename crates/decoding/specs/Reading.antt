@@ -3,7 +3,6 @@
 --   Reads s w          in state s the word w is still to be read: its bits and labels are left, and the labels of the edges that it ends are at hand
 --   closed, risen, leafed, backed, entered   the state after an edge outside the tree ended, after going up, after a leaf, after an edge outside the
 --                      tree began, after going down
---   labelBound k       the labels of kind k are below this number: kind 1 has no star
 --   left s             the bits and the open edges outside the tree that are left: each letter takes one
 --   run s              the word that the machine reads from s on
 use Prim.Native.Nat.{ℕ, suc, _+_}
@@ -51,9 +50,6 @@ abbrev pub entered : Machine → ℕ → List ℕ → List ℕ → Machine
 entered s l bits labels = record {
   n = suc (s .n); here = s .n; below = s .here ∷ s .below; ups = l ∷ s .ups; opens = s .opens; seconds = s .seconds; label = 0;
   bits = bits; labels = labels }
-
-abbrev pub labelBound : ℕ → ℕ
-labelBound k = cond (eqb k 1) 2 3
 
 -- ---- the run
 

@@ -23,7 +23,8 @@ use Rattle.renumbering.proofs.Fitness.{fit-all}
 use Rattle.renumbering.proofs.Renumberings.{inverse, compose}
 use Rattle.renumbering.proofs.Walk.{carries-word}
 use Rattle.renumbering.proofs.Standard.{standard-darts}
-use Rattle.lists.specs.Coding.{Coding, Laid, OfFit}
+use Rattle.packing.specs.Unlay.{Laid}
+use Rattle.lists.specs.Coding.{Coding, OfFit}
 use Rattle.lists.proofs.Split.{Framed}
 
 -- ---- sizes

@@ -1,35 +1,21 @@
 -- What demand 3 needs to know of the coding of plans.
 --
---   labelBase k           labels of kind k are below it
---   Laid k m bits labels  tree bits and labels that a record of kind k with m edges holds
 --   OfFit k p             the tree bits, labels and standard plan of a fit plan, read off its word
 --   Coding                the laws of words, of their decoding, of the layout of records and of the standard numbering
 use Prim.Native.Nat.{ℕ, _*_, _≤_}
 use mathlib.Core.Path.{_≡_}
-use mathlib.Core.Bool.{true, false, cond}
+use mathlib.Core.Bool.{true, false}
 use mathlib.Core.List.{List}
-use lib.Dec.{eqb}
 use lib.ListN.{length}
 use Rattle.model.specs.Numbers.{allBelow}
-use Rattle.model.specs.Map.{Plan, isKind, fit}
+use Rattle.model.specs.Map.{Plan, fit}
 use Rattle.model.specs.Traversal.{Letter, word, standardNumbers, standardPlan}
 use Rattle.model.specs.LabelledTree.{labels, treeBits}
-use Rattle.model.specs.Record.{recordLength, layOut}
+use Rattle.model.specs.Record.{recordLength, labelBase, layOut}
 use Rattle.model.specs.Shelf.{word16}
 use Rattle.model.specs.Renumbering.{Renumbering}
+use Rattle.packing.specs.Unlay.{Laid}
 use Rattle.words.specs.Word.{valid, wordBits, wordLabels, planOf, found, decodeWord}
-
-unfoldable pub labelBase : ℕ → ℕ
-labelBase k = cond (eqb k 1) 2 3
-
-pub record Laid (k m : ℕ) (bs ls : List ℕ) : Type 0 where
-  pub kind : isKind k ≡ true
-  pub some-edge : 1 ≤ m
-  pub few-edges : m ≤ 4096
-  pub bit-count : length bs ≡ 2 * m
-  pub bits-fit : allBelow 2 bs ≡ true
-  pub label-count : length ls ≡ m
-  pub labels-fit : allBelow (labelBase k) ls ≡ true
 
 pub record OfFit (k : ℕ) (p : Plan) : Type 0 where
   pub bits : treeBits p ≡ wordBits false (word p)

@@ -6,6 +6,7 @@
 --   le16 n                n in two bytes, the low one first
 --   recordLength k m      the length of a record of kind k with m edges
 --   payload k bits labels what follows the head
+--   labelBase k           labels of kind k are below it
 --   layOut k m bits labels   a whole record
 --   recordOf k p          the record of plan p in kind k
 use Prim.Native.Nat.{ℕ, zero, suc, _+_, _-_, _*_, _/_, _%_}
@@ -45,6 +46,10 @@ recordLength k m = cond (eqb k 1) (6 + bytesFor (3 * m) 8) (6 + bytesFor (2 * m)
 unfoldable pub payload : ℕ → ℕ → List ℕ → List ℕ → List ℕ
 payload k m bits labels =
     cond (eqb k 1) (pack 2 8 (bytesFor (3 * m) 8) (bits ++ labels)) (pack 2 8 (bytesFor (2 * m) 8) bits ++ pack 3 5 (bytesFor m 5) labels)
+
+-- "Kind 1: .. m label bits"; "Kind 2: .. labels .. (0, 1, star = 2)"
+unfoldable pub labelBase : ℕ → ℕ
+labelBase k = cond (eqb k 1) 2 3
 
 -- "length of the whole record (2 bytes), kind (2 bytes, 1 or 2), m (2 bytes), payload"
 unfoldable pub layOut : ℕ → ℕ → List ℕ → List ℕ → List ℕ

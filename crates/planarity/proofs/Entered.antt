@@ -21,7 +21,7 @@ use Rattle.words.specs.Toured.{letterOf, mateOf, Toured, isTree}
 use Rattle.orbits.specs.Chord as chord
 use Rattle.orbits.proofs.Order.{lt-suc-split, le-split}
 use Rattle.orbits.proofs.Chord.{next-cases}
-use Rattle.planarity.specs.Entered.{lastOpen, enteredAt}
+use Rattle.words.specs.Entered.{lastOpen, enteredAt}
 use Rattle.planarity.proofs.Positions.{mate-bound, mate-letter}
 use Rattle.planarity.proofs.Vertices.{trees-nested}
 use Rattle.planarity.proofs.LastOpen.{Open, last-hit, last-skip, last-ext, last-cases}

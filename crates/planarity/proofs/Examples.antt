@@ -10,7 +10,7 @@ use Rattle.model.specs.Numbers.{count, position, least}
 use Rattle.model.specs.Map.{Plan, opposite, next, vertexOf}
 use Rattle.model.specs.Traversal.{letterAt, onward, seenAfter, walk, visits, word}
 use Rattle.words.specs.Toured.{dartsMet, dartAt, letterOf, posOf, mateOf}
-use Rattle.planarity.specs.Entered.{downs, lastOpen, enteredAt}
+use Rattle.words.specs.Entered.{downs, lastOpen, enteredAt}
 
 abbrev pub example : Plan
 example = record { rotation = 9 ∷ 2 ∷ 11 ∷ 4 ∷ 6 ∷ 0 ∷ 3 ∷ 8 ∷ 10 ∷ 5 ∷ 7 ∷ 1 ∷ []; root = 0 }

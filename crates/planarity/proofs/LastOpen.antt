@@ -17,7 +17,7 @@ use Rattle.model.specs.Map.{Plan}
 use Rattle.model.specs.Traversal.{Letter, down}
 use Rattle.words.specs.Toured.{letterOf, mateOf}
 use Rattle.orbits.proofs.Order.{lt-suc-split, le-split}
-use Rattle.planarity.specs.Entered.{isDown, stillOpen, lastOpen}
+use Rattle.words.specs.Entered.{isDown, stillOpen, lastOpen}
 use Rattle.planarity.proofs.Darts.{and-left, and-right}
 use Rattle.planarity.proofs.Vertices.{is-down}
 

@@ -16,7 +16,7 @@ use Rattle.model.specs.Traversal.{Letter, down, up, first, second, opens}
 use Rattle.words.specs.Toured.{dartAt, letterOf, posOf, mateOf, Toured, isTree}
 use Rattle.orbits.proofs.Order.{le-split}
 use Rattle.orbits.proofs.Cycle.{least-keeps}
-use Rattle.planarity.specs.Entered.{enteredAt}
+use Rattle.words.specs.Entered.{enteredAt}
 use Rattle.planarity.proofs.Darts.{next-perm}
 use Rattle.planarity.proofs.Positions.{mate-bound, mate-dart, mate-mate, mate-letter, closes-after}
 use Rattle.planarity.proofs.Touring.{turn-flat, turn-tree}

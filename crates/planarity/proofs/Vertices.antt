@@ -27,7 +27,7 @@ use Rattle.orbits.proofs.Tally.{tick-suc, count-out, count-ext, count-inj}
 use Rattle.orbits.proofs.Cycle.{least-step, least-bound, least-idem, perm-ext}
 use Rattle.orbits.proofs.Transversal.{cycles-ext}
 use Rattle.orbits.proofs.Tour.{dual, map-faces-le, map-nested}
-use Rattle.planarity.specs.Entered.{isDown, downs}
+use Rattle.words.specs.Entered.{isDown, downs}
 use Rattle.planarity.proofs.Darts.{opposite-opposite, count-positive, next-perm}
 use Rattle.planarity.proofs.Positions.{mate-bound, closes-after, opposite-at}
 use Rattle.planarity.proofs.Touring.{treeDart, onward-tree, onward-flat, tour}

@@ -20,7 +20,7 @@ use Rattle.model.specs.Traversal.{Letter, down, up, first, second, opens, word}
 use Rattle.words.specs.Word.{nested}
 use Rattle.words.specs.Toured.{letterOf, mateOf, isTree, Toured, Bracketed}
 use Rattle.orbits.specs.Stack.{stack, keep, pending}
-use Rattle.standard.specs.Entered.{isDown, stillOpen, lastOpen, enteredAt}
+use Rattle.words.specs.Entered.{isDown, stillOpen, lastOpen, enteredAt}
 use Rattle.standard.proofs.Lists.{from-end, and-left, both, drop-end}
 use Rattle.standard.proofs.Positions.{count-grows, count-below, mate-before, word-length, word-left}
 use Rattle.standard.proofs.Matching.{matching, matching-in, matching-out}

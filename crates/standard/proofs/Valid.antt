@@ -10,7 +10,7 @@ use Rattle.model.specs.Map.{Plan, darts, connected, planar, hasLoop, hasDegreeO
 use Rattle.model.specs.Traversal.{second, word}
 use Rattle.words.specs.Word.{valid}
 use Rattle.words.specs.Toured.{letterOf, mateOf, Toured, Bracketed}
-use Rattle.standard.specs.Entered.{enteredAt}
+use Rattle.words.specs.Entered.{enteredAt}
 use Rattle.standard.proofs.Lists.{and-left, and-right, both}
 use Rattle.standard.proofs.Positions.{word-length}
 use Rattle.standard.proofs.Nesting.{word-nested}

@@ -1,2 +1,3 @@
 pub mod Word
 pub mod Toured
+pub mod Entered

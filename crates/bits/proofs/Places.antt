@@ -1,0 +1,91 @@
+-- Bits and labels at their places in a byte list. Assumes nothing.
+--
+--   bit-read, label-read       by dividing
+--   bit-fits, label-fits       the byte after a put
+--   bit-put, label-put         the bits, or labels, after a put
+use Prim.Native.Nat.{ℕ, suc, _+_, _-_, _*_, _/_, _%_, _^_, _≤_, _<_}
+use native.Mathlib.Nat.{mod-eq-of-lt}
+use native.Mathlib.Omega.{arith}
+use mathlib.Core.Path.{_≡_}
+use mathlib.Core.Bool.{true}
+use mathlib.Core.List.{List}
+use lib.ListN.{length, getD, set, drop, length-set, length-drop}
+use lib.Seq.{getD-drop, getD-set-other, drop-set-add}
+use Rattle.model.specs.Numbers.{allBelow}
+use Rattle.packing.specs.Unpack.{bits, groups}
+use Rattle.packing.proofs.Below.{below-at, below-set}
+use Rattle.packing.proofs.Place.{unpack-read, put-fits, unpack-put}
+use Rattle.bits.specs.Places.{labelsFrom, BitPut, LabelPut}
+
+-- ---- bits
+
+module _ (s : List ℕ) (k : ℕ) (h : k < 8 * length s) where
+  bit-power : 8 - suc (k % 8) ≡ 7 - k % 8
+  bit-power = omega arith
+
+  pub bit-read : getD s (k / 8) 0 / 2 ^ (7 - k % 8) % 2 ≡ getD (bits s) k 0
+  unfolding bits
+  bit-read = rw bit-power at (unpack-read 2 8 (length s) k s (omega arith) (omega arith))
+
+  module _ (b : ℕ) (b-fits : b < 2) (byte : getD s (k / 8) 0 < 256) (free : getD (bits s) k 0 ≡ 0) where
+    -- the byte after the put
+    abbrev bit-byte : ℕ
+    bit-byte = getD s (k / 8) 0 + (b * 2 ^ (7 - k % 8)) % 256
+
+    sum-fits : getD s (k / 8) 0 + b * 2 ^ (7 - k % 8) < 256
+    unfolding bits
+    sum-fits = rw bit-power at (put-fits 2 8 (length s) k s (omega arith) (omega arith) (omega arith) b b-fits (omega arith) byte free)
+
+    no-wrap : bit-byte ≡ getD s (k / 8) 0 + b * 2 ^ (7 - k % 8)
+    no-wrap = let e = sum-fits in rw (mod-eq-of-lt {n = b * 2 ^ (7 - k % 8)} {m = 256} (omega arith))
+
+    pub bit-fits : bit-byte < 256
+    bit-fits = rw no-wrap sum-fits
+
+    pub bit-put : BitPut s k b (set s (k / 8) bit-byte)
+    unfolding bits
+    bit-put = record {
+      put = rw (length-set s (k / 8) bit-byte, no-wrap)
+          (rw bit-power at (unpack-put 2 8 (length s) k s (omega arith) (omega arith) (omega arith) b b-fits (omega arith) byte free));
+      other-bytes = λ i d. getD-set-other s (k / 8) i bit-byte 0 d;
+    }
+
+-- ---- labels
+
+module _ (s : List ℕ) (from i : ℕ) (f : from ≤ length s) (h : i < 5 * (length s - from)) where
+  label-power : 5 - suc (i % 5) ≡ 4 - i % 5
+  label-power = omega arith
+
+  room : i < length (drop from s) * 5
+  room = let e = length-drop from s in omega arith
+
+  here : i / 5 < length (drop from s)
+  here = let e = length-drop from s in omega arith
+
+  pub label-read : getD s (from + i / 5) 0 / 3 ^ (4 - i % 5) % 3 ≡ getD (labelsFrom s from) i 0
+  unfolding groups labelsFrom
+  label-read = rw (label-power, getD-drop from s (i / 5) 0) at (unpack-read 3 5 (length (drop from s)) i (drop from s) (omega arith) room)
+
+  module _ (l : ℕ) (l-fits : l < 3) (fit : allBelow 243 (drop from s) ≡ true) (free : getD (labelsFrom s from) i 0 ≡ 0) where
+    -- the byte after the put
+    abbrev label-byte : ℕ
+    label-byte = getD s (from + i / 5) 0 + l * 3 ^ (4 - i % 5)
+
+    old-fits : getD (drop from s) (i / 5) 0 < 243
+    old-fits = below-at 243 (drop from s) fit (i / 5) here
+
+    pub label-fits : label-byte < 243
+    unfolding groups labelsFrom
+    label-fits =
+        rw (label-power, getD-drop from s (i / 5) 0) at
+        (put-fits 3 5 (length (drop from s)) i (drop from s) (omega arith) room (omega arith) l l-fits here old-fits free)
+
+    pub label-put : LabelPut s from i l (set s (from + i / 5) label-byte)
+    unfolding groups labelsFrom
+    label-put = record {
+      put = rw (drop-set-add from s (i / 5) label-byte, length-set (drop from s) (i / 5) label-byte)
+          (rw (label-power, getD-drop from s (i / 5) 0) at
+          (unpack-put 3 5 (length (drop from s)) i (drop from s) (omega arith) room (omega arith) l l-fits here old-fits free));
+      groups-fit = rw (drop-set-add from s (i / 5) label-byte) (below-set 243 (drop from s) (i / 5) label-byte label-fits fit);
+      other-bytes = λ j d. getD-set-other s (from + i / 5) j label-byte 0 d;
+    }

@@ -1,0 +1,67 @@
+-- Letters, their brackets and their fellows.
+--
+--   is-down, is-up, is-first, is-second   the letter of each bracket
+--   flat-chord, flat-tree     a letter is a bracket of one sort only
+--   tree-fellow               both letters of an edge are of one sort
+--   fellow-opens, fellow-closes   and one of them opens
+use mathlib.Core.Path.{_≡_, refl, sym}
+use mathlib.Core.Bool.{true, false, true≢false, false≢true}
+use Rattle.model.specs.Traversal.{Letter, down, up, first, second, opens}
+use Rattle.orbits.specs.Stack.{flat, open′, close}
+use Rattle.orbits.proofs.Decode.{flat≢open, close≢open, flat≢close}
+use Rattle.words.specs.Toured.{fellow, isTree}
+use Rattle.building.specs.Position.{treeKind, chordKind}
+
+pub is-down : (l : Letter) → treeKind l ≡ open′ → l ≡ down
+is-down down e = refl
+is-down up e = absurd (close≢open e)
+is-down first e = absurd (flat≢open e)
+is-down second e = absurd (flat≢open e)
+
+pub is-up : (l : Letter) → treeKind l ≡ close → l ≡ up
+is-up down e = absurd (close≢open (sym e))
+is-up up e = refl
+is-up first e = absurd (flat≢close e)
+is-up second e = absurd (flat≢close e)
+
+pub is-first : (l : Letter) → chordKind l ≡ open′ → l ≡ first
+is-first down e = absurd (flat≢open e)
+is-first up e = absurd (flat≢open e)
+is-first first e = refl
+is-first second e = absurd (close≢open e)
+
+pub is-second : (l : Letter) → chordKind l ≡ close → l ≡ second
+is-second down e = absurd (flat≢close e)
+is-second up e = absurd (flat≢close e)
+is-second first e = absurd (close≢open (sym e))
+is-second second e = refl
+
+pub flat-chord : (l : Letter) → isTree l ≡ false → treeKind l ≡ flat
+flat-chord down e = absurd (true≢false e)
+flat-chord up e = absurd (true≢false e)
+flat-chord first e = refl
+flat-chord second e = refl
+
+pub flat-tree : (l : Letter) → isTree l ≡ true → chordKind l ≡ flat
+flat-tree down e = refl
+flat-tree up e = refl
+flat-tree first e = absurd (false≢true e)
+flat-tree second e = absurd (false≢true e)
+
+pub tree-fellow : (l : Letter) → isTree (fellow l) ≡ isTree l
+tree-fellow down = refl
+tree-fellow up = refl
+tree-fellow first = refl
+tree-fellow second = refl
+
+pub fellow-opens : (l : Letter) → opens l ≡ false → opens (fellow l) ≡ true
+fellow-opens down e = absurd (true≢false e)
+fellow-opens up e = refl
+fellow-opens first e = absurd (true≢false e)
+fellow-opens second e = refl
+
+pub fellow-closes : (l : Letter) → opens l ≡ true → opens (fellow l) ≡ false
+fellow-closes down e = refl
+fellow-closes up e = absurd (false≢true e)
+fellow-closes first e = refl
+fellow-closes second e = absurd (false≢true e)

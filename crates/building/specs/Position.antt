@@ -1,0 +1,89 @@
+-- A word read position by position: ℓ i is the letter at position i. What the machine `nested` and `wordDarts` hold before position i.
+--
+--   letter w i            the letter of the word w at position i
+--   isDown l              l is down
+--   treeKind, chordKind   a letter as a bracket: of a tree edge, of another edge
+--   treeWord, chordWord ℓ the word as brackets
+--   treeStack, chordStack ℓ i   the positions before i where edges are open, the last opened first
+--   opened ℓ i            how many edges open before i
+--   entered ℓ i           how many vertices are entered before i, with the root
+--   vertexTop ℓ s         the number of the present vertex, where s is the stack of tree edges
+--   vertexNo ℓ i          the number of the vertex where the traversal stands before i, in the order of entering
+--   belowOf ℓ s           the numbers of the vertices that it hangs from
+--   dartBy ℓ i l, dartNo ℓ i   the standard dart at position i
+--   Balance ℓ N           the brackets match, and an edge outside the tree ends at a vertex with a lower number than where it began
+use Prim.Native.Nat.{ℕ, suc, _+_, _*_, _<_}
+use mathlib.Core.Path.{_≡_}
+use mathlib.Core.Bool.{Bool, true, false}
+use mathlib.Core.List.{List, [], _∷_, map}
+use lib.ListN.{getD}
+use Rattle.model.specs.Numbers.{count}
+use Rattle.model.specs.Traversal.{Letter, down, up, first, second, opens}
+use Rattle.orbits.specs.Stack.{Kind, flat, open′, close, stack, Balanced}
+use Rattle.words.specs.Word.{head}
+
+abbrev pub letter : List Letter → ℕ → Letter
+letter w i = getD w i second
+
+abbrev pub treeKind : Letter → Kind
+treeKind down = open′
+treeKind up = close
+treeKind first = flat
+treeKind second = flat
+
+abbrev pub chordKind : Letter → Kind
+chordKind down = flat
+chordKind up = flat
+chordKind first = open′
+chordKind second = close
+
+abbrev pub treeWord : (ℕ → Letter) → ℕ → Kind
+treeWord ℓ i = treeKind (ℓ i)
+
+abbrev pub chordWord : (ℕ → Letter) → ℕ → Kind
+chordWord ℓ i = chordKind (ℓ i)
+
+abbrev pub treeStack : (ℕ → Letter) → ℕ → List ℕ
+treeStack ℓ i = stack (treeWord ℓ) i
+
+abbrev pub chordStack : (ℕ → Letter) → ℕ → List ℕ
+chordStack ℓ i = stack (chordWord ℓ) i
+
+abbrev pub isDown : Letter → Bool
+isDown down = true
+isDown up = false
+isDown first = false
+isDown second = false
+
+unfoldable pub opened : (ℕ → Letter) → ℕ → ℕ
+opened ℓ i = count (λ j. opens (ℓ j)) i
+
+unfoldable pub entered : (ℕ → Letter) → ℕ → ℕ
+entered ℓ i = suc (count (λ j. isDown (ℓ j)) i)
+
+-- the vertex that was entered at the position on top; the root where there is none
+abbrev pub vertexTop : (ℕ → Letter) → List ℕ → ℕ
+vertexTop ℓ [] = 0
+vertexTop ℓ (a ∷ s) = entered ℓ a
+
+unfoldable pub vertexNo : (ℕ → Letter) → ℕ → ℕ
+vertexNo ℓ i = vertexTop ℓ (treeStack ℓ i)
+
+abbrev pub belowOf : (ℕ → Letter) → List ℕ → List ℕ
+belowOf ℓ [] = []
+belowOf ℓ (a ∷ s) = vertexTop ℓ s ∷ belowOf ℓ s
+
+-- edge e has the darts 2e, where it opens, and 2e + 1
+abbrev pub dartBy : (ℕ → Letter) → ℕ → Letter → ℕ
+dartBy ℓ i down = 2 * opened ℓ i
+dartBy ℓ i up = 2 * head (map (opened ℓ) (treeStack ℓ i)) + 1
+dartBy ℓ i first = 2 * opened ℓ i
+dartBy ℓ i second = 2 * head (map (opened ℓ) (chordStack ℓ i)) + 1
+
+unfoldable pub dartNo : (ℕ → Letter) → ℕ → ℕ
+dartNo ℓ i = dartBy ℓ i (ℓ i)
+
+pub record Balance (ℓ : ℕ → Letter) (N : ℕ) : Type 0 where
+  pub trees : Balanced (treeWord ℓ) N
+  pub chords : Balanced (chordWord ℓ) N
+  pub lower : (i : ℕ) → i < N → ℓ i ≡ second → (a : ℕ) (s : List ℕ) → chordStack ℓ i ≡ a ∷ s → vertexNo ℓ i < vertexNo ℓ a

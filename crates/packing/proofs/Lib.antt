@@ -1,0 +1,8 @@
+pub mod Below
+pub mod Digits
+pub mod Packed
+pub mod Place
+pub mod Head
+pub mod Payload
+pub mod Unlay
+pub mod Examples
