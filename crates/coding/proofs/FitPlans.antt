@@ -1,0 +1,64 @@
+-- What is known of every plan that is fit for a kind.
+--
+--   fit-toured            its traversal is known position by position
+--   fit-bracketed         its tree edges match like brackets along the traversal, and so do the others
+--   fit-descends          an edge outside the tree ends at a vertex that was entered before the one where it began
+--   of-fit                its tree bits, labels and standard plan are those of its word, and the word is valid
+--   fit-standard          its standard numbering is a renumbering
+use Prim.Native.Nat.{ℕ, _<_}
+use mathlib.Core.Path.{_≡_, sym, ap, _∙_}
+use mathlib.Core.Bool.{true, true≢false}
+use lib.Dec.{eqb}
+use borrow.Author.Tests.{eq-eqb}
+use Rattle.model.specs.Map.{Plan, darts, opposite, vertexOf, hasLoop, fit}
+use Rattle.model.specs.Traversal.{second, standardNumbers, standardPlan}
+use Rattle.model.specs.Renumbering.{Renumbering}
+use Rattle.model.proofs.Fitness.{Fit, fit-parts}
+use Rattle.words.specs.Toured.{Toured, Bracketed, letterOf, mateOf, dartAt}
+use Rattle.words.specs.Entered.{enteredAt}
+use Rattle.lists.specs.Coding.{OfFit}
+use Rattle.traversal.proofs.Elements.{some-no}
+use Rattle.traversal.proofs.Toured.{walk-toured}
+use Rattle.planarity.proofs.Positions.{mate-dart}
+use Rattle.planarity.proofs.Planar.{planar-bracketed}
+use Rattle.planarity.proofs.SameVertex.{second-descends}
+use Rattle.labelling.proofs.Reading.{tree-labels, tree-bits}
+use Rattle.standard.proofs.Numbering.{numbers-permutation, numbers-opposite, numbers-root}
+use Rattle.standard.proofs.Entries.{standard-entry}
+use Rattle.standard.proofs.Linking.{standard-is-planOf}
+use Rattle.standard.proofs.Valid.{word-valid}
+use Rattle.renumbering.proofs.Standard.{standard-renumbering}
+
+module _ (k : ℕ) (p : Plan) (fits : fit k p ≡ true) where
+  abbrev parts : Fit k p
+  parts = fit-parts k p fits
+
+  pub fit-toured : Toured p
+  fit-toured = walk-toured p (parts .count) (parts .root) (parts .entries) (parts .joined)
+
+  pub fit-bracketed : Bracketed p
+  fit-bracketed = planar-bracketed p fit-toured (parts .count) (parts .entries) (parts .flat)
+
+  -- the two darts of an edge lie at different vertices
+  apart : (d : ℕ) → d < darts p → vertexOf (p .rotation) (opposite d) ≡ vertexOf (p .rotation) d → ⊥
+  unfolding hasLoop
+  apart d h e =
+      true≢false (sym (eq-eqb (vertexOf (p .rotation) d) (vertexOf (p .rotation) (opposite d)) (sym e))
+      ∙ some-no (λ x. eqb (vertexOf (p .rotation) x) (vertexOf (p .rotation) (opposite x))) (darts p) (parts .loopless) d h)
+
+  pub fit-descends : (j : ℕ) → j < darts p → letterOf p j ≡ second → enteredAt p j < enteredAt p (mateOf p j)
+  fit-descends j h e =
+      second-descends p fit-toured (parts .count) (parts .entries) j h e
+      (λ q. apart (dartAt p j) (fit-toured .dart-bound j h) (ap (vertexOf (p .rotation)) (sym (mate-dart p fit-toured (parts .count) j h)) ∙ q))
+
+  pub of-fit : OfFit k p
+  of-fit = record {
+    bits = tree-bits p fit-toured fit-bracketed (parts .count) (parts .entries) (parts .loopless);
+    marks = tree-labels p fit-toured fit-bracketed (parts .count) (parts .entries) (parts .loopless);
+    standard = standard-is-planOf p fit-toured fit-bracketed (parts .count);
+    proper = word-valid p fit-toured fit-bracketed fit-descends k fits;
+  }
+
+  pub fit-standard : Renumbering p (standardPlan p) (standardNumbers p)
+  fit-standard = standard-renumbering p (numbers-permutation p fit-toured (parts .count)) (numbers-root p fit-toured (parts .count))
+      (numbers-opposite p fit-toured (parts .count)) (standard-entry p fit-toured (parts .count))

@@ -1,0 +1,148 @@
+-- Which bytes are the record of a fit plan, and of which.
+--
+--   fit-laid              a fit plan's tree bits and labels are such as a record holds
+--   record-decodes        the record of a fit plan decodes to its word
+--   has-decodes           bytes that are a fit plan's record decode to its word
+--   decodes-has           bytes that decode are the record of the plan that their word builds
+--   none-has              bytes that do not decode are the record of no fit plan
+--   decodes-edges, decodes-standard   that plan has as many edges as the head says, and is in standard numbers
+--   read-back             every fit plan with the record has the standard plan that the word builds
+use Prim.Native.Nat.{ℕ, _*_, _%_, _≤_}
+use native.Mathlib.Omega.{arith}
+use mathlib.Core.Path.{_≡_, refl, sym, ap, subst, _∙_}
+use mathlib.Core.Bool.{Bool, true, false, cond, true≢false}
+use mathlib.Core.List.{List}
+use lib.ListN.{length}
+use borrow.Author.Tests.{lt-ltb, eq-eqb, le-leb}
+use Rattle.model.specs.Numbers.{allBelow}
+use Rattle.model.specs.Map.{Plan, darts, edges, dartCountFits, fit}
+use Rattle.model.specs.Traversal.{Letter, word, standardPlan}
+use Rattle.model.specs.LabelledTree.{treeBits, labels}
+use Rattle.model.specs.Record.{labelBase, layOut, recordOf}
+use Rattle.model.specs.Shelf.{kindOf, edgesOf, passes}
+use Rattle.model.specs.Calls.{HasRecord}
+use Rattle.model.proofs.Fitness.{Fit, fit-parts, count-parts, even-darts}
+use Rattle.words.specs.Word.{Found, found, none, valid, wordBits, wordLabels, planOf, decodeWord}
+use Rattle.packing.specs.Unlay.{Laid, bitsIn, labelsIn, readable}
+use Rattle.packing.proofs.Unlay.{layOut-head, layOut-bits, layOut-labels, layOut-readable, unlay-laid, readable-layOut}
+use Rattle.decoding.proofs.Encoding.{decode-encode}
+use Rattle.decoding.proofs.Sizes.{bits-length, letters-length, labels-bound}
+use Rattle.decoding.proofs.Bounds.{bits-below}
+use Rattle.decoding.proofs.Decoding.{encode-decode}
+use Rattle.building.proofs.Built.{built-word, built-fit, built-standard}
+use Rattle.traversal.proofs.Walk.{length-word}
+use Rattle.coding.specs.Decode.{decodeRecord}
+use Rattle.coding.proofs.FitPlans.{fit-toured, of-fit}
+
+count-of : (m : ℕ) → 1 ≤ m → m ≤ 4096 → dartCountFits (2 * m) ≡ true
+unfolding dartCountFits
+count-of m h l = rw (lt-ltb 0 (2 * m) (omega arith), eq-eqb (2 * m % 2) 0 (omega arith), le-leb (2 * m) 8192 (omega arith))
+
+-- ---- from a fit plan to its record
+
+module _ (k : ℕ) (p : Plan) (fits : fit k p ≡ true) where
+  abbrev parts : Fit k p
+  parts = fit-parts k p fits
+
+  -- one letter for each dart
+  word-darts : length (word p) ≡ darts p
+  word-darts = length-word p ∙ fit-toured k p fits .all-met
+
+  pub fit-laid : Laid k (edges (p .rotation)) (treeBits p) (labels p)
+  fit-laid =
+      let o = of-fit k p fits in
+      let c = count-parts (darts p) (parts .count) in
+      let even = even-darts p (parts .count) in
+      let letters = letters-length k (word p) (o .proper) in
+      let all = word-darts in
+      record {
+        kind = parts .kind;
+        some-edge = omega arith;
+        few-edges = omega arith;
+        bit-count = ap length (o .bits) ∙ bits-length k (word p) (o .proper) ∙ all ∙ even;
+        bits-fit = ap (allBelow 2) (o .bits) ∙ bits-below false (word p);
+        label-count = ap length (o .marks) ∙ omega arith;
+        labels-fit = ap (allBelow (labelBase k)) (o .marks) ∙ labels-bound k (word p) (o .proper);
+      }
+
+  abbrev m : ℕ
+  m = edges (p .rotation)
+
+  kind-field : kindOf (layOut k m (treeBits p) (labels p)) ≡ k
+  kind-field = layOut-head k m (treeBits p) (labels p) (parts .kind) (fit-laid .some-edge) (fit-laid .few-edges) .1
+
+  pub record-decodes : decodeRecord (recordOf k p) ≡ found (word p)
+  unfolding decodeRecord recordOf
+  record-decodes =
+      let o = of-fit k p fits in
+      rw (layOut-readable k m (treeBits p) (labels p) fit-laid, layOut-bits k m (treeBits p) (labels p) fit-laid,
+      layOut-labels k m (treeBits p) (labels p) fit-laid, kind-field, o .bits, o .marks)
+      (decode-encode k (word p) (o .proper))
+
+-- ---- from bytes to a fit plan
+
+abbrev isFound : Found → Bool
+isFound (found w) = true
+isFound none = false
+
+found-some : (v : List Letter) → found v ≡ none → ⊥
+found-some v e = true≢false (ap isFound e)
+
+pub has-decodes : (r : List ℕ) (p : Plan) → HasRecord r p → decodeRecord r ≡ found (word p)
+has-decodes r p (f, e) = ap decodeRecord (sym e) ∙ record-decodes (kindOf r) p f
+
+module _ (r : List ℕ) (v : List Letter) where
+  -- the payload is clean where a word is found
+  clean : decodeRecord r ≡ found v → (readable r ≡ true) × (decodeWord (kindOf r) (bitsIn r) (labelsIn r) ≡ found v)
+  unfolding decodeRecord
+  clean e = go (readable r) refl e
+    where
+      go : (b : Bool) → readable r ≡ b → cond b (decodeWord (kindOf r) (bitsIn r) (labelsIn r)) none ≡ found v
+          → (readable r ≡ true) × (decodeWord (kindOf r) (bitsIn r) (labelsIn r) ≡ found v)
+      go true t q = (t, q)
+      go false t q = absurd (found-some v (sym q))
+
+module _ (r : List ℕ) (v : List Letter) (pass : passes r ≡ true) (bytes : allBelow 256 r ≡ true) (e : decodeRecord r ≡ found v) where
+  abbrev k : ℕ
+  k = kindOf r
+
+  laid : Laid k (edgesOf r) (bitsIn r) (labelsIn r)
+  laid = unlay-laid r pass
+
+  -- the word is valid, and the record holds its bits and labels
+  word-of : (valid k v ≡ true) × (wordBits false v ≡ bitsIn r) × (wordLabels v ≡ labelsIn r) × (length v ≡ 2 * edgesOf r)
+  word-of = encode-decode k (bitsIn r) (labelsIn r) v (laid .kind) (edgesOf r) (count-of (edgesOf r) (laid .some-edge) (laid .few-edges))
+      (laid .bit-count) (laid .label-count) (laid .bits-fit) (laid .labels-fit) (clean r v e .1)
+
+  built : fit k (planOf v) ≡ true
+  built = built-fit k v (word-of .0)
+
+  pub decodes-edges : edges (planOf v .rotation) ≡ edgesOf r
+  decodes-edges =
+      let d = word-darts k (planOf v) built in
+      let n = even-darts (planOf v) (fit-parts k (planOf v) built .count) in
+      let l = ap length (built-word k v (word-of .0)) in
+      omega (arith, word-of .3)
+
+  pub decodes-has : HasRecord r (planOf v)
+  unfolding recordOf
+  decodes-has =
+      let o = of-fit k (planOf v) built in
+      let w = built-word k v (word-of .0) in
+      (built, rw (decodes-edges, o .bits, o .marks, w, word-of .1, word-of .2) (sym (readable-layOut r pass bytes .0 (clean r v e .0))))
+
+  pub decodes-standard : standardPlan (planOf v) ≡ planOf v
+  decodes-standard = built-standard k v (word-of .0)
+
+pub none-has : (r : List ℕ) → decodeRecord r ≡ none → (p : Plan) → HasRecord r p → ⊥
+none-has r e p h = found-some (word p) (sym (has-decodes r p h) ∙ e)
+
+found-inj : (v w : List Letter) → found v ≡ found w → v ≡ w
+found-inj v w e = ap (λ (f : Found). letters f) e
+  where
+    letters : Found → List Letter
+    letters (found w) = w
+    letters none = v
+
+pub read-back : (r : List ℕ) (v : List Letter) (p : Plan) → decodeRecord r ≡ found v → HasRecord r p → standardPlan p ≡ planOf v
+read-back r v p e h = of-fit (kindOf r) p (h .0) .standard ∙ ap planOf (found-inj (word p) v (sym (has-decodes r p h) ∙ e))

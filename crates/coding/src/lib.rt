@@ -1,0 +1,2 @@
+// Theory only: where the parts come together. A fit plan's record and standard plan are those of its word, bytes are a record of a fit plan exactly when
+// they decode, and demand 3 holds. It knows no code.
