@@ -1,0 +1,4 @@
+pub mod Search
+pub mod Marking
+pub mod Signed
+pub mod Zeros

@@ -1,0 +1,35 @@
+-- `checks::euler` meets its contract.
+use mathlib.Core.Path.{_≡_, refl, sym, ap, _∙_}
+use lib.IntN.{ℤ, pos, _+ℤ_, _-ℤ_}
+use native.Mathlib.Omega.{arith}
+use mir.Facts.{toZ-ofZ}
+use Rattle.checks.proofs.Signed.{fits-less, back-less, fits-all, small}
+use borrow.Author.Needs.{needs}
+use Rattle.checks.proofs.euler.Statement.{statement}
+use Rattle.checks.proofs.euler.Tie as tie
+
+cast-result : tie.Need-cast-result
+cast-result c = search needs
+
+cast-result-2 : tie.Need-cast-result-2
+cast-result-2 c = search needs
+
+sub-result : tie.Need-sub-result
+sub-result c = fits-less (c .args .v) (c .args .e) (c .args .f) (omega arith) (omega arith) (omega arith)
+
+cast-result-3 : tie.Need-cast-result-3
+cast-result-3 c = search needs
+
+add-result : tie.Need-add-result
+add-result c =
+    rw (back-less (c .args .v) (c .args .e) (c .args .f) (omega arith) (omega arith) (omega arith), small (c .args .f) (omega arith))
+    (fits-all (c .args .v) (c .args .e) (c .args .f) (omega arith) (omega arith) (omega arith))
+
+returns : tie.Need-returns
+returns c =
+    rw (back-less (c .args .v) (c .args .e) (c .args .f) (omega arith) (omega arith) (omega arith), small (c .args .f) (omega arith))
+    (toZ-ofZ (fits-all (c .args .v) (c .args .e) (c .args .f) (omega arith) (omega arith) (omega arith)))
+
+pub euler-spec : {M : Type 1} → statement M
+euler-spec =
+    tie.close (tie.spec cast-result cast-result-2 sub-result cast-result-3 add-result returns)

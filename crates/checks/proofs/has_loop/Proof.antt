@@ -1,0 +1,76 @@
+use Prim.Native.Nat.{ℕ, _-_, _%_, _≤_, _<_}
+use native.Mathlib.Omega.{arith}
+use mathlib.Core.Path.{_≡_, refl, sym, ap, _∙_}
+use lib.ListN.{length}
+use Rattle.checks.proofs.Search.{NoneBelow, loopAt, loop-pair, even-below, found, none-found}
+use borrow.Author.Needs.{needs}
+use Rattle.checks.proofs.has_loop.Statement.{statement}
+use Rattle.checks.proofs.has_loop.Tie as tie
+
+abbrev Inv-loop : tie.InvT-loop
+Inv-loop names n d₀ d = (d ≤ n) × (d % 2 ≡ 0) × NoneBelow (loopAt names) d
+
+abbrev μ-loop : tie.MeasureT-loop
+μ-loop names n d₀ d = n - d
+
+loop-holds : tie.Need-loop-holds Inv-loop μ-loop
+loop-holds c = (omega arith, omega arith, λ j h. absurd (omega arith))
+
+mul-if1 : tie.Need-mul-if1 Inv-loop μ-loop
+mul-if1 c = search needs
+
+shared-slice-read-if1 : tie.Need-shared-slice-read-if1 Inv-loop μ-loop
+shared-slice-read-if1 c = search needs
+
+add-if1 : tie.Need-add-if1 Inv-loop μ-loop
+add-if1 c = search needs
+
+mul-if1-2 : tie.Need-mul-if1-2 Inv-loop μ-loop
+mul-if1-2 c = search needs
+
+shared-slice-read-if1-2 : tie.Need-shared-slice-read-if1-2 Inv-loop μ-loop
+shared-slice-read-if1-2 c = let at = c .before .before .before .loop in
+    let st = c .before .before .before .before in
+    let h = even-below (st .args .n) (at .d) (c .before .before .loop-test .taken) (st .pre .1) (at .inv .1) in
+    omega (arith, st .pre .0)
+
+returns : tie.Need-returns Inv-loop μ-loop
+returns c = let at = c .before .before .before .before .loop in
+    let names = c .before .before .before .before .before .args .names .now in
+    found names (c .before .before .before .before .before .args .n) (at .d) (c .before .before .before .loop-test .taken) (at .inv .1) (c .if1 .taken)
+
+add-d : tie.Need-add-d Inv-loop μ-loop
+add-d c = search needs
+
+loop-less : tie.Need-loop-less Inv-loop μ-loop
+loop-less c = search needs
+
+loop-again : tie.Need-loop-again Inv-loop μ-loop
+loop-again c = let at = c .before .before .before .before .loop in
+    let st = c .before .before .before .before .before in (
+      even-below (st .args .n) (at .d) (c .before .before .before .loop-test .taken) (st .pre .1) (at .inv .1),
+      omega arith,
+      loop-pair (st .args .names .now) (at .d) (at .inv .1) (c .if1 .left) (at .inv .2),
+    )
+
+returns-2 : tie.Need-returns-2 Inv-loop μ-loop
+returns-2 c = let at = c .before .loop in
+    none-found (c .before .before .args .names .now) (c .before .before .args .n) (at .d) (c .loop-test .left) (at .inv .2)
+
+pub has-loop-spec : {M : Type 1} → statement M
+has-loop-spec =
+    tie.close
+    (tie.spec
+    Inv-loop
+    μ-loop
+    loop-holds
+    mul-if1
+    shared-slice-read-if1
+    add-if1
+    mul-if1-2
+    shared-slice-read-if1-2
+    returns
+    add-d
+    loop-less
+    loop-again
+    returns-2)
