@@ -1,0 +1,74 @@
+use mathlib.Core.Path.{_≡_, ap, _∙_}
+use mathlib.Core.List.{List, _++_, append-nil}
+use Prim.Native.Nat.{ℕ, _-_, _≤_}
+use native.Mathlib.Omega.{arith}
+use lib.ListN.{length, replicate, drop, set}
+use lib.Seq.{drop-length}
+use borrow.Author.Fill.{fill-more}
+use Rattle.model.specs.Calls.{zeros}
+use borrow.Author.Needs.{needs}
+use Rattle.areas.proofs.clear.Statement.{statement}
+use Rattle.areas.proofs.clear.Tie as tie
+
+-- at the end every entry is 0
+all-zero : (w₀ w : List ℕ) (i : ℕ) → w ≡ replicate i 0 ++ drop i w₀ → i ≡ length w₀ → w ≡ zeros w₀
+unfolding zeros
+all-zero w₀ w i e h = e ∙ rw (h, drop-length, append-nil)
+
+abbrev Inv-loop : tie.InvT-loop
+Inv-loop w₀ i₀ w i = (i ≤ length w₀) × (w ≡ replicate i 0 ++ drop i w₀) × (length w ≡ length w₀)
+
+abbrev μ-loop : tie.MeasureT-loop
+μ-loop w₀ i₀ w i = length w₀ - i
+
+-- src/lib.rt:26:5
+loop-holds : tie.Need-loop-holds Inv-loop μ-loop
+loop-holds c = search needs
+
+-- src/lib.rt:27:9
+mul-w : tie.Need-mul-w Inv-loop μ-loop
+mul-w c = search needs
+
+-- src/lib.rt:27:9
+slice-write-w : tie.Need-slice-write-w Inv-loop μ-loop
+slice-write-w c = search needs
+
+-- src/lib.rt:28:9
+add-i : tie.Need-add-i Inv-loop μ-loop
+add-i c = search needs
+
+-- src/lib.rt:26:5
+loop-less : tie.Need-loop-less Inv-loop μ-loop
+loop-less c = search needs
+
+-- src/lib.rt:26:5
+loop-again : tie.Need-loop-again Inv-loop μ-loop
+loop-again c =
+    let i = c .before .loop .i in
+    let w₀ = c .before .before .args .w .now in
+    (search needs, ap (λ (l : List ℕ). set l i 0) (c .before .loop .inv .1) ∙ fill-more i 0 w₀ (omega arith), search needs)
+
+-- src/lib.rt:22:1
+same-length : tie.Need-same-length Inv-loop μ-loop
+same-length c = search needs
+
+-- src/lib.rt:22:1
+returns : tie.Need-returns Inv-loop μ-loop
+returns c =
+    let at-end : c .before .loop .i ≡ length (c .before .before .args .w .now) = omega arith in
+    all-zero _ _ _ (c .before .loop .inv .1) at-end
+
+pub clear-spec : {M : Type 1} → statement M
+clear-spec =
+    tie.close
+    (tie.spec
+    Inv-loop
+    μ-loop
+    loop-holds
+    mul-w
+    slice-write-w
+    add-i
+    loop-less
+    loop-again
+    same-length
+    returns)

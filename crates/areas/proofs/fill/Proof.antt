@@ -1,0 +1,92 @@
+use mathlib.Core.Path.{_≡_, sym, ap, _∙_}
+use mathlib.Core.List.{List}
+use Prim.Native.Nat.{ℕ, _+_, _-_, _≤_, _<_}
+use native.Mathlib.Omega.{arith}
+use lib.ListN.{length, replicate, set, length-replicate, replicate-append-replicate}
+use Rattle.areas.specs.Area.{placed}
+use Rattle.areas.proofs.Regions.{placed-none, placed-snoc}
+use borrow.Author.Needs.{needs}
+use Rattle.areas.proofs.fill.Statement.{statement}
+use Rattle.areas.proofs.fill.Tie as tie
+
+-- one more entry is filled
+more : (a i x : ℕ) (w₀ w : List ℕ) → a ≤ i → i < length w₀ → w ≡ placed a (replicate (i - a) x) w₀
+    → set w i x ≡ placed a (replicate (i + 1 - a) x) w₀
+more a i x w₀ w h l e =
+    let k = i - a in
+    let r = length-replicate k x in
+    let at : i ≡ a + length (replicate k x) = omega arith in
+    let next : k + 1 ≡ i + 1 - a = omega arith in
+    ap (λ (v : List ℕ). set v i x) e
+    ∙ ap (λ (j : ℕ). set (placed a (replicate k x) w₀) j x) at
+    ∙ placed-snoc a (replicate k x) w₀ (omega arith) x (omega arith)
+    ∙ ap (λ (v : List ℕ). placed a v w₀) (replicate-append-replicate k 1 x ∙ ap (λ (j : ℕ). replicate j x) next)
+
+none : (a x : ℕ) (w₀ : List ℕ) → w₀ ≡ placed a (replicate (a - a) x) w₀
+none a x w₀ = let e : a - a ≡ 0 = omega arith in rw e (sym (placed-none a w₀))
+
+all : (a i n x : ℕ) (w₀ w : List ℕ) → i ≡ a + n → w ≡ placed a (replicate (i - a) x) w₀ → w ≡ placed a (replicate n x) w₀
+all a i n x w₀ w h e = let k : i - a ≡ n = omega arith in e ∙ ap (λ (j : ℕ). placed a (replicate j x) w₀) k
+
+abbrev Inv-loop : tie.InvT-loop
+Inv-loop w₀ a n x e i₀ w i = (a ≤ i) × (i ≤ e) × (e ≡ a + n) × (w ≡ placed a (replicate (i - a) x) w₀) × (length w ≡ length w₀)
+
+abbrev μ-loop : tie.MeasureT-loop
+μ-loop w₀ a n x e i₀ w i = e - i
+
+-- src/lib.rt:13:13
+add-e : tie.Need-add-e Inv-loop μ-loop
+add-e c = search needs
+
+-- src/lib.rt:15:5
+loop-holds : tie.Need-loop-holds Inv-loop μ-loop
+loop-holds c = (search needs, search needs, search needs, none _ _ _, search needs)
+
+-- src/lib.rt:16:9
+mul-w : tie.Need-mul-w Inv-loop μ-loop
+mul-w c = search needs
+
+-- src/lib.rt:16:9
+slice-write-w : tie.Need-slice-write-w Inv-loop μ-loop
+slice-write-w c = search needs
+
+-- src/lib.rt:17:9
+add-i : tie.Need-add-i Inv-loop μ-loop
+add-i c = search needs
+
+-- src/lib.rt:15:5
+loop-less : tie.Need-loop-less Inv-loop μ-loop
+loop-less c = search needs
+
+-- src/lib.rt:15:5
+loop-again : tie.Need-loop-again Inv-loop μ-loop
+loop-again c =
+    let at = c .before .loop in
+    (search needs, search needs, search needs, more _ (at .i) _ _ _ (at .inv .0) (omega arith) (at .inv .3), search needs)
+
+-- src/lib.rt:9:1
+same-length : tie.Need-same-length Inv-loop μ-loop
+same-length c = search needs
+
+-- src/lib.rt:9:1
+returns : tie.Need-returns Inv-loop μ-loop
+returns c =
+    let at = c .before .loop in
+    let st = c .before .before .args in
+    all (st .a) (at .i) (st .n) _ _ _ (omega arith) (at .inv .3)
+
+pub fill-spec : {M : Type 1} → statement M
+fill-spec =
+    tie.close
+    (tie.spec
+    Inv-loop
+    μ-loop
+    add-e
+    loop-holds
+    mul-w
+    slice-write-w
+    add-i
+    loop-less
+    loop-again
+    same-length
+    returns)

@@ -1,0 +1,18 @@
+-- Parts of a list: what a function does to one part of the work area and leaves of the others.
+--
+--   region a n w         the n entries of w from place a on
+--   placed a xs w        w with the entries of xs from place a on
+--   tabulate g i n       g i, g (i + 1), .., n of them
+use Prim.Native.Nat.{ℕ, zero, suc, _+_}
+use mathlib.Core.List.{List, [], _∷_, _++_}
+use lib.ListN.{length, take, drop}
+
+unfoldable pub region : ℕ → ℕ → List ℕ → List ℕ
+region a n w = take n (drop a w)
+
+unfoldable pub placed : ℕ → List ℕ → List ℕ → List ℕ
+placed a xs w = take a w ++ (xs ++ drop (a + length xs) w)
+
+unfoldable pub tabulate : (ℕ → ℕ) → ℕ → ℕ → List ℕ
+tabulate g i zero = []
+tabulate g i (suc n) = g i ∷ tabulate g (suc i) n

@@ -1,0 +1,121 @@
+use mathlib.Core.Path.{_≡_, ap, _∙_}
+use mathlib.Core.Logic.{⊎-elim}
+use Prim.Native.Nat.{_-_, _≤_}
+use native.Mathlib.Omega.{arith}
+use lib.ListN.{length}
+use Rattle.model.proofs.Fitness.{count-parts}
+use Rattle.cycles.specs.Cycles.{stepOf}
+use Rattle.cycles.proofs.Steps.{step-perm}
+use Rattle.cycles.proofs.Labelling.{Half, half-count, half-start, ready-names, ready-own, half-new, half-old, half-end}
+use borrow.Author.Needs.{needs}
+use Rattle.cycles.proofs.label.Statement.{statement}
+use Rattle.cycles.proofs.label.Tie as tie
+
+abbrev Inv-loop : tie.InvT-loop
+Inv-loop order across w₀ a n count₀ d₀ w count d =
+    (d ≤ length order) × (length w ≡ length w₀) × Half (stepOf order across) (length order) a w₀ d count w
+
+abbrev μ-loop : tie.MeasureT-loop
+μ-loop order across w₀ a n count₀ d₀ w count d = length order - d
+
+-- src/lib.rt:54:5
+fill-requires : tie.Need-fill-requires Inv-loop μ-loop
+fill-requires c κs = search needs
+
+-- src/lib.rt:57:5
+loop-holds : tie.Need-loop-holds Inv-loop μ-loop
+loop-holds c =
+    let st = c .before .before .before .before .before .before in
+    (search needs, search needs, half-start _ _ _ (st .args .w .now) (st .pre .2) _ (c .before .before .fill .ensures))
+
+-- src/lib.rt:58:14
+add-if1 : tie.Need-add-if1 Inv-loop μ-loop
+add-if1 c = search needs
+
+-- src/lib.rt:58:12
+mul-if1 : tie.Need-mul-if1 Inv-loop μ-loop
+mul-if1 c = search needs
+
+-- src/lib.rt:58:12
+slice-read-if1 : tie.Need-slice-read-if1 Inv-loop μ-loop
+slice-read-if1 c = search needs
+
+-- src/lib.rt:59:13
+follow-requires : tie.Need-follow-requires Inv-loop μ-loop
+follow-requires c κs =
+    let at = c .before .before .before .before .loop in
+    let st = c .before .before .before .before .before .before .before .before .before .before .before in
+    let n = count-parts _ (st .pre .0) in
+    let perm = step-perm (st .args .order .now) (st .pre .1) (st .args .across) (st .pre .0) in
+    record {
+      size = st .pre .0;
+      entries = st .pre .1;
+      below = omega arith;
+      fits = omega arith;
+      names = ready-names _ _ _ _ (omega arith) perm (n .2) (at .d) _ (omega arith) (at .w) (at .inv .2);
+      own = ready-own _ _ _ _ (omega arith) perm (n .2) (at .d) _ (omega arith) (at .w) (at .inv .2) (c .before .if1 .taken);
+    }
+
+-- src/lib.rt:60:13
+add-count : tie.Need-add-count Inv-loop μ-loop
+add-count c =
+    let k = half-count _ _ _ _ _ _ _ (c .before .before .before .before .before .before .before .loop .inv .2) in
+    omega arith
+
+-- src/lib.rt:62:9
+add-d : tie.Need-add-d Inv-loop μ-loop
+add-d c = search needs
+
+-- src/lib.rt:57:5
+loop-less : tie.Need-loop-less Inv-loop μ-loop
+loop-less c = search needs
+
+-- src/lib.rt:57:5
+loop-again : tie.Need-loop-again Inv-loop μ-loop
+loop-again c =
+    let at = c .before .before .before .loop in
+    let st = c .before .before .before .before .before .before .before .before .before .before in
+    let n = count-parts _ (st .pre .0) in
+    let perm = step-perm (st .args .order .now) (st .pre .1) (st .args .across) (st .pre .0) in
+    ⊎-elim
+    (λ u. (
+      omega arith,
+      ap length (u .5) ∙ (u .2 .kept .1 .1 .0 ∙ at .inv .1),
+      half-new _ _ _ _ (omega arith) perm (n .2) (at .d) _ (omega arith) (at .w) (at .inv .2) _ _ (u .0 .taken) (u .6) (u .5 ∙ u .2 .ensures),
+    ))
+    (λ v. (
+      omega arith,
+      ap length (v .1) ∙ at .inv .1,
+      half-old _ _ _ _ (omega arith) perm (n .2) (at .d) _ (omega arith) (at .w) (at .inv .2) _ _ (v .0 .left) (v .2) (v .1),
+    ))
+    (c .if1 .came)
+
+-- src/lib.rt:49:1
+same-length : tie.Need-same-length Inv-loop μ-loop
+same-length c = search needs
+
+-- src/lib.rt:49:1
+returns : tie.Need-returns Inv-loop μ-loop
+returns c =
+    let at = c .before .loop in
+    let st = c .before .before .before .before .before .before .before .before in
+    half-end _ _ _ (st .args .w .now) (st .pre .2) (at .d) _ _ _ (omega arith) (c .before .before .before .before .fill .ensures) (at .inv .2)
+
+pub label-spec : {M : Type 1} → statement M
+label-spec =
+    tie.close
+    (tie.spec
+    Inv-loop
+    μ-loop
+    fill-requires
+    loop-holds
+    add-if1
+    mul-if1
+    slice-read-if1
+    follow-requires
+    add-count
+    add-d
+    loop-less
+    loop-again
+    same-length
+    returns)

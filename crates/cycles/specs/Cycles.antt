@@ -1,0 +1,44 @@
+-- What naming the cycles of a rotation or of its face walk leaves behind.
+--
+--   stepOf rot across    the step round a vertex, or along a face
+--   Labelled             each dart's cycle is named by its least dart, and the cycles are counted
+--   unnamed              no cycle's name
+--   nameBelow f n d x    the name of x's cycle if it is below d; unnamed otherwise
+--   namesBelow f n d     these names of the darts below n
+--   Begun                from place a on stand the names below d, and d is the least dart of its cycle
+use Prim.Native.Nat.{ℕ, _+_, _≤_, _<_}
+use mathlib.Core.Path.{_≡_}
+use mathlib.Core.Bool.{Bool, true, false, cond}
+use mathlib.Core.List.{List}
+use lib.Dec.{ltb}
+use lib.ListN.{length}
+use Rattle.model.specs.Numbers.{least, cycles, isPermutation}
+use Rattle.model.specs.Map.{next, faceNext, dartCountFits}
+use Rattle.areas.specs.Area.{region, placed, tabulate}
+
+abbrev pub stepOf : List ℕ → Bool → ℕ → ℕ
+stepOf rot false = next rot
+stepOf rot true = faceNext rot
+
+pub record Labelled (f : ℕ → ℕ) (n a : ℕ) (w : List ℕ) (count : ℕ) (w′ : List ℕ) : Type 0 where
+  pub counted : count ≡ cycles f n
+  pub named : w′ ≡ placed a (tabulate (least f n) 0 n) w
+
+-- ---- half-way: the cycles with a name below d are named
+
+abbrev pub unnamed : ℕ
+unnamed = 65535
+
+unfoldable pub nameBelow : (ℕ → ℕ) → ℕ → ℕ → ℕ → ℕ
+nameBelow f n d x = cond (ltb (least f n x) d) (least f n x) unnamed
+
+unfoldable pub namesBelow : (ℕ → ℕ) → ℕ → ℕ → List ℕ
+namesBelow f n d = tabulate (nameBelow f n d) 0 n
+
+pub record Begun (rot : List ℕ) (across : Bool) (a d : ℕ) (w : List ℕ) : Type 0 where
+  pub size : dartCountFits (length rot) ≡ true
+  pub entries : isPermutation rot ≡ true
+  pub below : d < length rot
+  pub fits : a + length rot ≤ length w
+  pub names : region a (length rot) w ≡ namesBelow (stepOf rot across) (length rot) d
+  pub own : least (stepOf rot across) (length rot) d ≡ d

@@ -1,0 +1,189 @@
+-- The verdict, by the way on which the checks end, at plain values.
+--
+--   loop-names           a search for loops by the names of the vertices finds the loops
+--   few, few-vertices    a count of cycles is small
+--   counted              the characteristic from the counts of vertices and faces
+--   looped, dead-end, no-dead-end, other-kind   the ways of refusals 11 and 12
+--   named, room-kept, room-local, surveyed   what naming the vertices and walking leave
+--   parted, curved, flat the verdict of each way; still-named: the names, after the faces are counted
+use Prim.Native.Nat.{ℕ, zero, suc, _+_, _*_, _/_, _≤_, _<_}
+use native.Mathlib.Nat.{zero-add, suc-ne-zero}
+use native.Mathlib.Omega.{arith}
+use mathlib.Core.Path.{_≡_, refl, sym, ap, subst, _∙_}
+use mathlib.Core.Bool.{Bool, true, false, not, _&&_, cond}
+use mathlib.Core.List.{List, map}
+use lib.IntN.{ℤ, pos, _+ℤ_, _-ℤ_}
+use lib.ListN.{length, getD}
+use lib.Dec.{eqb}
+use borrow.Author.Tests.{eq-eqb, ne-eqb}
+use Rattle.model.specs.Numbers.{some, tick, count, least, isLeast, cycles, firstRefusal, isPermutation}
+use Rattle.model.specs.Map.{Plan, darts, edges, next, faceNext, vertexOf, vertices, faces, opposite, connected, planar, characteristic, is, hasLoop, hasDegreeOne, degreeRefused, dartCountFits}
+use Rattle.model.specs.Traversal.{code, visits, word}
+use Rattle.model.proofs.Booleans.{not-intro}
+use Rattle.model.proofs.Fitness.{opposite-bound, count-parts}
+use Rattle.traversal.proofs.Complete.{connected-long, long-connected}
+use Rattle.areas.specs.Area.{region, tabulate}
+use Rattle.areas.proofs.Regions.{getD-region, getD-tabulate, length-tabulate, region-placed}
+use Rattle.cycles.specs.Cycles.{Labelled}
+use Rattle.cycles.proofs.Labels.{labelled-length, labelled-other}
+use Rattle.contour.specs.Steps.{Named}
+use Rattle.contour.specs.Walked.{Walked}
+use Rattle.checks.specs.Checks.{loopIn}
+use Rattle.fitting.specs.declared.Survey.{Survey}
+use Rattle.fitting.specs.declared.Verdict.{Verdict}
+use Rattle.fitting.specs.declared.Verdict.the-variants.{Fits, Refused, NotPlanar}
+use Rattle.fitting.specs.Judged.{Surveyed, localOf, lateRefusal, verdictOf, Judged}
+
+-- ---- loops by the names of the vertices
+
+some-ext : (f g : ℕ → Bool) (n : ℕ) → ((i : ℕ) → i < n → f i ≡ g i) → some f n ≡ some g n
+unfolding some
+some-ext f g zero same = refl
+some-ext f g (suc n) same = rw (same n (omega arith), some-ext f g n (λ i h. same i (omega arith)))
+
+module _ (rot w : List ℕ) (fits : dartCountFits (length rot) ≡ true) (names : region 0 (length rot) w ≡ tabulate (vertexOf rot) 0 (length rot)) where
+  name-at : (d : ℕ) → d < length rot → getD w d 0 ≡ vertexOf rot d
+  name-at d h =
+      ap (λ (i : ℕ). getD w i 0) (sym (zero-add d)) ∙ sym (getD-region 0 (length rot) w d h) ∙ ap (λ (l : List ℕ). getD l d 0) names
+      ∙ getD-tabulate (vertexOf rot) 0 (length rot) d h ∙ ap (vertexOf rot) (zero-add d)
+
+  pub loop-names : loopIn w (length rot) ≡ hasLoop rot
+  unfolding loopIn hasLoop
+  loop-names = some-ext _ _ (length rot) (λ d h.
+      rw (name-at d h, name-at (opposite d) (opposite-bound (length rot) d (count-parts (length rot) fits .1) h)))
+
+-- ---- the characteristic from the counts
+
+count-le : (f : ℕ → Bool) (n : ℕ) → count f n ≤ n
+unfolding count
+count-le f zero = omega arith
+count-le f (suc n) = go (f n) (count-le f n)
+  where
+    go : (b : Bool) → count f n ≤ n → tick b (count f n) ≤ suc n
+    go true h = omega arith
+    go false h = omega arith
+
+-- there are at most as many cycles as darts
+pub few : (f : ℕ → ℕ) (n c : ℕ) → n ≤ 8192 → c ≡ cycles f n → c ≤ 8192
+unfolding cycles
+few f n c h e = let l = count-le (isLeast f n) n in omega arith
+
+pub few-vertices : (rot : List ℕ) (v : ℕ) → length rot ≤ 8192 → v ≡ vertices rot → v ≤ 8192
+unfolding vertices
+few-vertices rot v h e = few (next rot) (length rot) v h e
+
+pub counted : (rot : List ℕ) (v f : ℕ) → v ≡ cycles (next rot) (length rot) → f ≡ cycles (faceNext rot) (length rot)
+    → (pos v -ℤ pos (length rot / 2)) +ℤ pos f ≡ characteristic rot
+unfolding characteristic vertices faces edges
+counted rot v f hv hf = rw (hv, hf)
+
+-- ---- refusals 11 and 12
+
+module _ (k : ℕ) (rot : List ℕ) where
+  pub looped : hasLoop rot ≡ true → Refused 11 ≡ localOf k rot
+  unfolding localOf
+  looped e = rw e
+
+  module _ (loopless : hasLoop rot ≡ false) where
+    pub dead-end : k ≡ 1 → hasDegreeOne rot ≡ true → Refused 12 ≡ localOf k rot
+    unfolding localOf
+    dead-end h e = rw (loopless, eq-eqb k 1 h, e)
+
+    pub no-dead-end : hasDegreeOne rot ≡ false → Fits ≡ localOf k rot
+    unfolding localOf
+    no-dead-end e = rw (loopless, e) (either (eqb k 1))
+      where
+        either : (b : Bool) → Fits ≡ cond (b && false) (Refused 12) Fits
+        either true = refl
+        either false = refl
+
+    pub other-kind : (k ≡ 1 → ⊥) → Fits ≡ localOf k rot
+    unfolding localOf
+    other-kind h = rw (loopless, ne-eqb k 1 h)
+
+-- ---- the names and the walk
+
+pub named : (rot w : List ℕ) (v : ℕ) (w′ : List ℕ) → 0 + length rot ≤ length w → Labelled (next rot) (length rot) 0 w v w′ → Named rot w′
+unfolding vertexOf
+named rot w v w′ fits s =
+    let l = length-tabulate (least (next rot) (length rot)) 0 (length rot) in
+    ap (region 0 (length rot)) (s .named) ∙ region-placed 0 (tabulate (least (next rot) (length rot)) 0 (length rot)) w (omega arith) (length rot) (sym l)
+
+-- room for the walk
+pub room-kept : (n : ℕ) (w w′ : List ℕ) → length w′ ≡ length w → 16 * n ≤ length w → 4 * n ≤ length w′
+room-kept n w w′ e h = omega arith
+
+pub room-local : (n : ℕ) (w w₁ w₂ : List ℕ) → length w₁ ≡ length w → length w₂ ≡ length w₁ → 16 * n ≤ length w → n ≤ length w₂
+room-local n w w₁ w₂ e f h = omega arith
+
+module _ (p : Plan) (w w₁ w₂ : List ℕ) (v met : ℕ) (fits : 0 + darts p ≤ length w) (s : Labelled (next (p .rotation)) (darts p) 0 w v w₁) (t : Walked p w₁ met w₂) where
+  pub surveyed : Surveyed p w (record { vertices = v; met = met }) w₂
+  unfolding vertices
+  surveyed = record {
+    counted = s .counted;
+    all-met = t .counted;
+    named = t .names ∙ named (p .rotation) w v w₁ fits s;
+    letters = t .letters;
+    kept = t .kept ∙ labelled-length (next (p .rotation)) (darts p) 0 w v w₁ fits s;
+  }
+
+-- ---- the verdict
+
+module _ (k : ℕ) (p : Plan) (fits : dartCountFits (darts p) ≡ true) (low : p .root < darts p) (entries : isPermutation (p .rotation) ≡ true)
+    (w : List ℕ) (s : Survey) (w₂ : List ℕ) (room : 16 * darts p ≤ length w) (t : Surveyed p w s w₂) where
+  unjoined : (s .met ≡ darts p → ⊥) → connected (p .rotation) ≡ false
+  unjoined ne = not-intro (connected (p .rotation)) (λ e. ne (t .all-met ∙ connected-long p fits low entries e))
+
+  pub parted : (s .met ≡ darts p → ⊥) → Judged k p w (Refused 9) w₂
+  unfolding verdictOf lateRefusal firstRefusal
+  parted ne =
+      let e = unjoined ne in
+      record {
+        answered = rw e;
+        letters = λ z. absurd (suc-ne-zero 8 (rw e at z));
+        kept = t .kept;
+      }
+
+  module _ (all : s .met ≡ darts p) (f : ℕ) (w₃ : List ℕ) (l : Labelled (faceNext (p .rotation)) (darts p) (4 * darts p) w₂ f w₃) where
+    joined : connected (p .rotation) ≡ true
+    joined = long-connected p fits low entries (sym (t .all-met) ∙ all)
+
+    fourth : 4 * darts p + darts p ≤ length w₂
+    fourth = let k = t .kept in omega arith
+
+    letters-kept : region (3 * darts p) (darts p) w₃ ≡ map code (word p)
+    letters-kept =
+        labelled-other (faceNext (p .rotation)) (darts p) (4 * darts p) w₂ f w₃ fourth l (3 * darts p) (darts p) (λ h. omega arith)
+        ∙ subst (λ (n : ℕ). region (3 * darts p) n w₂ ≡ map code (word p)) all (t .letters)
+
+    pub still-named : Named (p .rotation) w₃
+    still-named =
+        labelled-other (faceNext (p .rotation)) (darts p) (4 * darts p) w₂ f w₃ fourth l 0 (darts p) (λ h. omega arith) ∙ t .named
+
+    length-kept : length w₃ ≡ length w
+    length-kept = labelled-length (faceNext (p .rotation)) (darts p) (4 * darts p) w₂ f w₃ fourth l ∙ t .kept
+
+    module _ (x : ℤ) (e : x ≡ (pos (s .vertices) -ℤ pos (darts p / 2)) +ℤ pos f) where
+      euler : x ≡ characteristic (p .rotation)
+      unfolding vertices
+      euler = e ∙ counted (p .rotation) (s .vertices) f (t .counted) (l .counted)
+
+      pub curved : is x 2 ≡ false → Judged k p w (NotPlanar x) w₃
+      unfolding verdictOf lateRefusal firstRefusal planar
+      curved u = let u′ = rw euler at u in record { answered = rw (joined, u′, euler); letters = λ z. letters-kept; kept = length-kept }
+
+      pub flat : is x 2 ≡ true → (v : Verdict) → v ≡ localOf k (p .rotation) → Judged k p w v w₃
+      unfolding verdictOf lateRefusal firstRefusal planar localOf degreeRefused
+      flat u v q =
+          let u′ = rw euler at u in
+          record {
+            answered = q ∙ rw (joined, u′) (either (hasLoop (p .rotation)) (eqb k 1 && hasDegreeOne (p .rotation)));
+            letters = λ z. letters-kept;
+            kept = length-kept;
+          }
+        where
+          either : (a b : Bool) → cond a (Refused 11) (cond b (Refused 12) Fits)
+              ≡ cond (eqb (cond a 11 (cond b 12 0)) 0) Fits (cond (eqb (cond a 11 (cond b 12 0)) 10) (NotPlanar (characteristic (p .rotation))) (Refused (cond a 11 (cond b 12 0))))
+          either true b = refl
+          either false true = refl
+          either false false = refl

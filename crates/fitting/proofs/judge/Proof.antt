@@ -1,0 +1,88 @@
+use mir.Facts.{toZ-ofZ}
+use mir.Syntax.{w32}
+use mir.Val.{SFits}
+use Rattle.fitting.specs.Judged.{Judged}
+use Rattle.fitting.specs.declared.Verdict.the-variants.{NotPlanar}
+use lib.IntN.{ℤ}
+use Prim.Native.Nat.{ℕ, _+_, _*_, _≤_, _<_}
+use native.Mathlib.Omega.{arith}
+use mathlib.Core.Path.{_≡_, refl, sym, ap, _∙_}
+use lib.ListN.{length}
+use Rattle.model.proofs.Fitness.{count-parts}
+use Rattle.checks.proofs.Signed.{bits-is, bits-not}
+use Rattle.fitting.proofs.Cases.{few, few-vertices, room-local, parted, curved, flat, still-named}
+use borrow.Author.Needs.{needs}
+use Rattle.fitting.proofs.judge.Statement.{statement}
+use Rattle.fitting.proofs.judge.Tie as tie
+
+walked-requires : tie.Need-walked-requires
+walked-requires c κs = search needs
+
+same-length : tie.Need-same-length
+same-length c = search needs
+
+returns : tie.Need-returns
+returns c = let st = c .before .before .before .before .before .before .before in
+    let s = c .before .before .before .walked in
+    parted (st .args .kind) _ (st .pre .0) (st .pre .2) (st .pre .1) (st .args .w .now) (s .result) _ (st .pre .3) (s .ensures) (c .if1 .taken)
+
+mul-label : tie.Need-mul-label
+mul-label c = search needs
+
+label-requires : tie.Need-label-requires
+label-requires c κs = search needs
+
+euler-requires : tie.Need-euler-requires
+euler-requires c κs = let st = c .before .before .before .before .before .before .before .before .before .before .before in
+    let s = c .before .before .before .before .before .before .before .walked in
+    let n = count-parts _ (st .pre .0) .2 in
+    (few-vertices _ _ n (s .ensures .counted), omega arith, few _ _ _ n (c .before .before .label .ensures .counted))
+
+same-length-2 : tie.Need-same-length-2
+same-length-2 c = search needs
+
+returns-2 : tie.Need-returns-2
+returns-2 c = let st = c .before .before .before .before .before .before .before .before .before .before .before .before .before in
+    let s = c .before .before .before .before .before .before .before .before .before .walked in
+    let l = c .before .before .before .before .label in
+    let x = c .before .euler in
+    let fits : SFits w32 (x .result) = record { sfits = x .ok } in
+    rw (toZ-ofZ fits) (curved (st .args .kind) _ (st .pre .0) (st .pre .2) (st .pre .1) (st .args .w .now) (s .result) _ (st .pre .3) (s .ensures)
+    (c .before .before .before .before .before .before .if1 .left) (l .result) _ (l .ensures) (x .result) (x .ensures) (bits-not (x .result) 2 (c .if2 .taken)))
+
+local-requires : tie.Need-local-requires
+local-requires c κs = let st = c .before .before .before .before .before .before .before .before .before .before .before .before .before .before in
+    let s = c .before .before .before .before .before .before .before .before .before .before .walked in
+    let l = c .before .before .before .before .before .label in
+    (st .pre .0, room-local _ (st .args .w .now) (s .last .1 .1 .0) (l .last .1 .1 .0) (s .kept .1 .1 .0) (l .kept .1 .1 .0) (st .pre .3),
+    still-named (st .args .kind) _ (st .pre .0) (st .pre .2) (st .pre .1) (st .args .w .now) (s .result) _ (st .pre .3) (s .ensures)
+    (c .before .before .before .before .before .before .before .if1 .left) (l .result) _ (l .ensures))
+
+same-length-3 : tie.Need-same-length-3
+same-length-3 c = search needs
+
+returns-3 : tie.Need-returns-3
+returns-3 c = let st = c .before .before .before .before .before .before .before .before .before .before .before .before .before .before .before in
+    let s = c .before .before .before .before .before .before .before .before .before .before .before .walked in
+    let l = c .before .before .before .before .before .before .label in
+    let x = c .before .before .before .euler in
+    let fits : SFits w32 (x .result) = record { sfits = x .ok } in
+    flat (st .args .kind) _ (st .pre .0) (st .pre .2) (st .pre .1) (st .args .w .now) (s .result) _ (st .pre .3) (s .ensures)
+    (c .before .before .before .before .before .before .before .before .if1 .left) (l .result) _ (l .ensures) (x .result) (x .ensures)
+    (bits-is (x .result) 2 (omega arith) fits (c .before .before .if2 .left)) (c .local .result) (c .local .ensures)
+
+pub judge-spec : {M : Type 1} → statement M
+judge-spec =
+    tie.close
+    (tie.spec
+    walked-requires
+    same-length
+    returns
+    mul-label
+    label-requires
+    euler-requires
+    same-length-2
+    returns-2
+    local-requires
+    same-length-3
+    returns-3)

@@ -1,0 +1,28 @@
+use Prim.Native.Nat.{ℕ, _+_, _*_, _≤_, _<_}
+use native.Mathlib.Omega.{arith}
+use mathlib.Core.Path.{_≡_, refl, sym, ap, _∙_}
+use lib.ListN.{length}
+use borrow.Author.Tests.{not-false}
+use Rattle.fitting.proofs.Cases.{named, room-kept, surveyed}
+use borrow.Author.Needs.{needs}
+use Rattle.fitting.proofs.walked.Statement.{statement}
+use Rattle.fitting.proofs.walked.Tie as tie
+
+label-requires : tie.Need-label-requires
+label-requires c κs = search needs
+
+walk-requires : tie.Need-walk-requires
+walk-requires c κs = let st = c .before .before .before .before .before .before .before in
+    let l = c .before .before .before .label in
+    (st .pre .0, st .pre .1, st .pre .2, room-kept _ (st .args .w .now) (l .last .1 .1 .0) (l .kept .1 .1 .0) (st .pre .3), named (st .args .order .now) (st .args .w .now) (l .result) _ (omega (arith, st .pre .3)) (l .ensures))
+
+same-length : tie.Need-same-length
+same-length c = search needs
+
+returns : tie.Need-returns
+returns c = let st = c .before .before .before .before .before .before .before .before .before .before in
+    let l = c .before .before .before .before .before .before .label in
+    surveyed _ (st .args .w .now) (l .last .1 .1 .0) _ (l .result) (c .before .before .walk .result) (omega (arith, st .pre .3)) (l .ensures) (c .before .before .walk .ensures)
+
+pub walked-spec : {M : Type 1} → statement M
+walked-spec = tie.close (tie.spec label-requires walk-requires same-length returns)

@@ -1,0 +1,48 @@
+-- What the checks of a plan in the work area find: refusals 9 to 12.
+--
+--   Surveyed             the vertices named at 0, the letters by position at 3n, how many vertices and how many darts met
+--   localOf k rot        the verdict of 11 and 12 alone
+--   lateRefusal k p      the first of 9, 10, 11, 12 that concerns the plan; 0 if none does
+--   verdictOf k p        the same as a verdict, 10 with the characteristic
+--   Judged               the verdict, and in the work area, at 3n, the contour word of a plan that fits
+use Prim.Native.Nat.{ℕ, _*_}
+use mathlib.Core.Path.{_≡_}
+use mathlib.Core.Bool.{not, _&&_, cond}
+use mathlib.Core.List.{List, [], _∷_, map}
+use lib.Dec.{eqb}
+use lib.ListN.{length}
+use Rattle.model.specs.Numbers.{firstRefusal, refuse}
+use Rattle.model.specs.Map.{Plan, darts, connected, planar, characteristic, vertices, hasLoop, hasDegreeOne, degreeRefused}
+use Rattle.model.specs.Traversal.{code, visits, word}
+use Rattle.areas.specs.Area.{region}
+use Rattle.contour.specs.Steps.{Named}
+use Rattle.fitting.specs.declared.Survey.{Survey}
+use Rattle.fitting.specs.declared.Verdict.{Verdict}
+use Rattle.fitting.specs.declared.Verdict.the-variants.{Fits, Refused, NotPlanar}
+
+pub record Surveyed (p : Plan) (w : List ℕ) (s : Survey) (w′ : List ℕ) : Type 0 where
+  pub counted : s .vertices ≡ vertices (p .rotation)
+  pub all-met : s .met ≡ length (visits p)
+  pub named : Named (p .rotation) w′
+  pub letters : region (3 * darts p) (s .met) w′ ≡ map code (word p)
+  pub kept : length w′ ≡ length w
+
+unfoldable pub localOf : ℕ → List ℕ → Verdict
+localOf k rot = cond (hasLoop rot) (Refused 11) (cond (eqb k 1 && hasDegreeOne rot) (Refused 12) Fits)
+
+unfoldable pub lateRefusal : ℕ → Plan → ℕ
+lateRefusal k p = firstRefusal
+    (refuse 9 (not (connected (p .rotation)))
+    ∷ refuse 10 (not (planar (p .rotation)))
+    ∷ refuse 11 (hasLoop (p .rotation))
+    ∷ refuse 12 (degreeRefused k p)
+    ∷ [])
+
+unfoldable pub verdictOf : ℕ → Plan → Verdict
+verdictOf k p =
+    let r = lateRefusal k p in cond (eqb r 0) Fits (cond (eqb r 10) (NotPlanar (characteristic (p .rotation))) (Refused r))
+
+pub record Judged (k : ℕ) (p : Plan) (w : List ℕ) (verdict : Verdict) (w′ : List ℕ) : Type 0 where
+  pub answered : verdict ≡ verdictOf k p
+  pub letters : lateRefusal k p ≡ 0 → region (3 * darts p) (darts p) w′ ≡ map code (word p)
+  pub kept : length w′ ≡ length w

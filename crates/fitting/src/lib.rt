@@ -1,0 +1,71 @@
+// Refusals 9 to 12, in the work area: the plan's vertices are named at 0, it is walked, its faces are named at 4n, loops and vertices of degree one are
+// looked for. It knows no records.
+ghost use mathlib.Core.Path.{_≡_};
+ghost use mathlib.Core.Bool.{true};
+ghost use Prim.Native.Nat.{_*_, _≤_, _<_};
+ghost use lib.ListN.{length};
+ghost use Rattle.model.specs.Numbers.{isPermutation};
+ghost use Rattle.model.specs.Map.{dartCountFits};
+ghost use Rattle.fitting.specs.Judged.{Surveyed, localOf, Judged};
+ghost use Rattle.contour.specs.Steps.{Named};
+
+// What is found: the plan fits the kind; a refusal other than 10; refusal 10 with the characteristic.
+pub enum Verdict {
+    Fits,
+    Refused(u16),
+    NotPlanar(i32),
+}
+
+// How many vertices there are, and how many darts the walk meets.
+pub struct Survey {
+    pub vertices: usize,
+    pub met: usize,
+}
+
+// The vertices are named, and the plan is walked.
+fn walked(order: &[u16], root: usize, w: &mut [u16]) -> Survey
+    requires { ⌜ (dartCountFits (length (now order)) ≡ true) × (isPermutation (now order) ≡ true) × (root < length (now order)) × (16 * length (now order) ≤ length (now w)) ⌝ }
+    ensures { λ r. ⌜ Surveyed (record { rotation = now (order .entry); root = root }) (now (w .entry)) r (now (w .exit)) ⌝ }
+{
+    let vertices = cycles::label(order, false, w, 0);
+    let met = contour::walk(order, root, w);
+    Survey {
+        vertices,
+        met,
+    }
+}
+
+// Refusals 11 and 12, from the names of the vertices.
+fn local(order: &[u16], kind: u16, w: &[u16]) -> Verdict
+    requires { ⌜ (dartCountFits (length (now order)) ≡ true) × (length (now order) ≤ length (now w)) × Named (now order) (now w) ⌝ }
+    ensures { λ r. ⌜ r ≡ localOf kind (now (order .entry)) ⌝ }
+{
+    if checks::has_loop(w, order.len()) {
+        return Verdict::Refused(11);
+    }
+    if kind == 1 {
+        if checks::has_degree_one(order) {
+            return Verdict::Refused(12);
+        }
+    }
+    Verdict::Fits
+}
+
+// Refusals 9 to 12; the word of a plan that fits stands at 3n.
+pub fn judge(order: &[u16], root: usize, kind: u16, w: &mut [u16]) -> Verdict
+    requires { ⌜ (dartCountFits (length (now order)) ≡ true) × (isPermutation (now order) ≡ true) × (root < length (now order)) × (16 * length (now order) ≤ length (now w)) ⌝ }
+    ensures { λ r. ⌜ Judged kind (record { rotation = now (order .entry); root = root }) (now (w .entry)) r (now (w .exit)) ⌝ }
+{
+    let n = order.len();
+    let s = walked(order, root, w);
+    let met = s.met;
+    if met != n {
+        return Verdict::Refused(9);
+    }
+    let faces = cycles::label(order, true, w, 4 * n);
+    let x = checks::euler(s.vertices, n / 2, faces);
+    if x != 2 {
+        return Verdict::NotPlanar(x);
+    }
+    local(order, kind, w)
+}

@@ -1,0 +1,53 @@
+use Prim.Native.Nat.{_+_}
+use native.Mathlib.Omega.{arith}
+use Rattle.heads.proofs.Head.{field-value}
+use borrow.Author.Needs.{needs}
+use Rattle.heads.proofs.field.Statement.{statement}
+use Rattle.heads.proofs.field.Tie as tie
+use Rattle.heads.proofs.field.Reads as reads
+use Rattle.heads.proofs.field.Lts as lts
+
+-- src/lib.rt:14:13
+add-j : tie.Need-add-j
+add-j c = search needs
+
+-- src/lib.rt:15:15
+shared-slice-read-low : tie.Need-shared-slice-read-low
+shared-slice-read-low c = search needs
+
+-- src/lib.rt:15:15
+cast-low : tie.Need-cast-low
+cast-low c = omega (arith, c .shared-slice-known .given (c .before .args .i))
+
+-- src/lib.rt:16:16
+shared-slice-read-high : tie.Need-shared-slice-read-high
+shared-slice-read-high c = search needs
+
+-- src/lib.rt:16:16
+cast-high : tie.Need-cast-high
+cast-high c = omega (arith, c .shared-slice-known2 .given (c .before .before .args .i + 1))
+
+-- src/lib.rt:17:11
+mul-result : tie.Need-mul-result
+mul-result c = omega (arith, c .shared-slice-known2 .given (c .before .before .args .i + 1))
+
+-- src/lib.rt:17:5
+add-result : tie.Need-add-result
+add-result c = omega (arith, c .shared-slice-known2 .given (c .before .before .args .i + 1), c .before .shared-slice-known .given (c .before .before .args .i))
+
+-- src/lib.rt:10:1
+returns : tie.Need-returns
+returns c = field-value _ _
+
+pub field-spec : {M : Type 1} → statement M
+field-spec =
+    tie.close
+    (tie.spec
+    add-j
+    shared-slice-read-low
+    cast-low
+    shared-slice-read-high
+    cast-high
+    mul-result
+    add-result
+    returns)

@@ -1,0 +1,87 @@
+use native.Mathlib.Omega.{arith}
+use mathlib.Core.Path.{sym, _∙_}
+use borrow.Author.Tests.{not-true, not-false}
+use Rattle.heads.proofs.Head.{refuse-short, refuse-length, refuse-kind, refuse-none, refuse-many, refuse-size, refuse-nothing}
+use borrow.Author.Needs.{needs}
+use Rattle.heads.proofs.head_refusal.Statement.{statement}
+use Rattle.heads.proofs.head_refusal.Tie as tie
+use Rattle.heads.proofs.head_refusal.Reads as reads
+use Rattle.heads.proofs.head_refusal.Lts as lts
+use Rattle.heads.proofs.field.Reads as field-reads
+use Rattle.heads.proofs.is_kind.Reads as is-kind-reads
+use Rattle.heads.proofs.record_length.Reads as record-length-reads
+
+-- src/lib.rt:45:9
+returns : tie.Need-returns
+returns c = refuse-short _ (omega arith)
+
+-- src/lib.rt:47:8
+field-requires : tie.Need-field-requires
+field-requires c κs = search needs
+
+-- src/lib.rt:47:8
+cast-if2 : tie.Need-cast-if2
+cast-if2 c = search needs
+
+-- src/lib.rt:48:9
+returns-2 : tie.Need-returns-2
+returns-2 c = refuse-length _ (omega arith) _ (c .before .field .ensures) (c .if2 .taken)
+
+-- src/lib.rt:50:9
+field-requires-2 : tie.Need-field-requires-2
+field-requires-2 c κs = search needs
+
+-- src/lib.rt:51:9
+is-kind-requires : tie.Need-is-kind-requires
+is-kind-requires c κs = search needs
+
+-- src/lib.rt:52:9
+returns-3 : tie.Need-returns-3
+returns-3 c = let k = c .before .is-kind in
+    refuse-kind _ (omega arith) _ (c .before .before .before .before .field .ensures) (omega arith) _ (c .before .before .field2 .ensures) (sym (k .ensures) ∙ not-true (k .result) (c .if3 .taken))
+
+-- src/lib.rt:54:9
+field-requires-3 : tie.Need-field-requires-3
+field-requires-3 c κs = search needs
+
+-- src/lib.rt:56:9
+returns-4 : tie.Need-returns-4
+returns-4 c = let k = c .before .before .before .is-kind in
+    refuse-none _ (omega arith) _ (c .before .before .before .before .before .before .field .ensures) (omega arith) _ (c .before .before .before .before .field2 .ensures) (sym (k .ensures) ∙ not-false (k .result) (c .before .before .if3 .left)) _ (c .before .field3 .ensures) (c .if4 .taken)
+
+-- src/lib.rt:59:9
+returns-5 : tie.Need-returns-5
+returns-5 c = let k = c .before .before .before .before .is-kind in
+    refuse-many _ (omega arith) _ (c .before .before .before .before .before .before .before .field .ensures) (omega arith) _ (c .before .before .before .before .before .field2 .ensures) (sym (k .ensures) ∙ not-false (k .result) (c .before .before .before .if3 .left)) _ (c .before .before .field3 .ensures) (c .before .if4 .left) (omega arith)
+
+-- src/lib.rt:61:8
+record-length-requires : tie.Need-record-length-requires
+record-length-requires c κs = search needs
+
+-- src/lib.rt:62:9
+returns-6 : tie.Need-returns-6
+returns-6 c = let k = c .before .before .before .before .before .before .is-kind in
+    refuse-size _ (omega arith) _ (c .before .before .before .before .before .before .before .before .before .field .ensures) (omega arith) _ (c .before .before .before .before .before .before .before .field2 .ensures) (sym (k .ensures) ∙ not-false (k .result) (c .before .before .before .before .before .if3 .left)) _ (c .before .before .before .before .field3 .ensures) (c .before .before .before .if4 .left) (omega arith) _ (c .before .record-length .ensures) (c .if6 .taken)
+
+-- src/lib.rt:41:1
+returns-7 : tie.Need-returns-7
+returns-7 c = let k = c .before .before .before .before .before .before .is-kind in
+    refuse-nothing _ (omega arith) _ (c .before .before .before .before .before .before .before .before .before .field .ensures) (omega arith) _ (c .before .before .before .before .before .before .before .field2 .ensures) (sym (k .ensures) ∙ not-false (k .result) (c .before .before .before .before .before .if3 .left)) _ (c .before .before .before .before .field3 .ensures) (c .before .before .before .if4 .left) (omega arith) _ (c .before .record-length .ensures) (omega arith)
+
+pub head-refusal-spec : {M : Type 1} → statement M
+head-refusal-spec =
+    tie.close
+    (tie.spec
+    returns
+    field-requires
+    cast-if2
+    returns-2
+    field-requires-2
+    is-kind-requires
+    returns-3
+    field-requires-3
+    returns-4
+    returns-5
+    record-length-requires
+    returns-6
+    returns-7)

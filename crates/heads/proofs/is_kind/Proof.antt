@@ -1,0 +1,18 @@
+use native.Mathlib.Omega.{arith}
+use Rattle.heads.proofs.Head.{is-one, is-two}
+use borrow.Author.Needs.{needs}
+use Rattle.heads.proofs.is_kind.Statement.{statement}
+use Rattle.heads.proofs.is_kind.Tie as tie
+use Rattle.heads.proofs.is_kind.Reads as reads
+use Rattle.heads.proofs.is_kind.Lts as lts
+
+-- src/lib.rt:24:9
+returns : tie.Need-returns
+returns c = is-one _ (c .if1 .taken)
+
+-- src/lib.rt:20:1
+returns-2 : tie.Need-returns-2
+returns-2 c = is-two _ (c .if1 .left)
+
+pub is-kind-spec : {M : Type 1} → statement M
+is-kind-spec = tie.close (tie.spec returns returns-2)

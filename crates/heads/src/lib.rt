@@ -1,0 +1,65 @@
+// The heads of records: their three fields, the length of a record of a kind, and refusals 1, 2, 3 and 5. Payloads and shelves are not known here.
+ghost use mathlib.Core.Path.{_≡_};
+ghost use Prim.Native.Nat.{ℕ, suc, _<_};
+ghost use lib.ListN.{length};
+ghost use Rattle.model.specs.Map.{isKind};
+ghost use Rattle.model.specs.Record.{recordLength};
+ghost use Rattle.model.specs.Shelf.{word16, headRefusal};
+
+// The little-endian 16-bit field at place i.
+pub fn field(bytes: &[u8], i: usize) -> u16
+    requires { ⌜ suc i < length (now bytes) ⌝ }
+    ensures { λ r. ⌜ r ≡ word16 (now (bytes .entry)) i ⌝ }
+{
+    let j = i + 1;
+    let low = bytes[i] as u16;
+    let high = bytes[j] as u16;
+    low + 256 * high
+}
+
+pub fn is_kind(kind: u16) -> bool
+    ensures { λ r. ⌜ r ≡ isKind kind ⌝ }
+{
+    if kind == 1 {
+        return true;
+    }
+    kind == 2
+}
+
+// The length of a record of this kind with m edges.
+pub fn record_length(kind: u16, m: u16) -> usize
+    ensures { λ r. ⌜ r ≡ recordLength kind m ⌝ }
+{
+    let n = m as usize;
+    if kind == 1 {
+        return 6 + (3 * n + 7) / 8;
+    }
+    6 + (2 * n + 7) / 8 + (n + 4) / 5
+}
+
+// The first of 1, 2, 3, 5 that concerns these bytes; 0 if none does.
+pub fn head_refusal(record: &[u8]) -> u16
+    ensures { λ r. ⌜ r ≡ headRefusal (now («record» .entry)) ⌝ }
+{
+    if record.len() < 6 {
+        return 1;
+    }
+    if field(record, 0) as usize != record.len() {
+        return 1;
+    }
+    let kind = field(record, 2);
+    if !is_kind(kind) {
+        return 2;
+    }
+    let m = field(record, 4);
+    if m == 0 {
+        return 3;
+    }
+    if m > 4096 {
+        return 3;
+    }
+    if record_length(kind, m) != record.len() {
+        return 5;
+    }
+    0
+}
