@@ -6,10 +6,7 @@
 --   dart-zero      the first is dart 0
 --   half           half of the letters open
 --   opened-lt      an opening letter is counted before any later position
---   opposite-even  the opposite of dart 2e
---   opposite-inv   taking the opposite is an involution
---   opposite-free  no dart is its own opposite
-use Prim.Native.Nat.{ℕ, _+_, _*_, _%_, _<_}
+use Prim.Native.Nat.{ℕ, _+_, _*_, _<_}
 use native.Mathlib.Omega.{arith}
 use mathlib.Core.Path.{_≡_, refl, sym, ap, _∙_}
 use mathlib.Core.Bool.{Bool, true, false, true≢false, false≢true}
@@ -19,37 +16,19 @@ use borrow.Author.Tests.{lt-ltb, le-ltb}
 use Rattle.model.specs.Numbers.{count}
 use Rattle.model.specs.Map.{opposite}
 use Rattle.model.specs.Traversal.{Letter, down, up, first, second, opens}
+use Rattle.model.proofs.Opposite.{opposite-even, opposite-odd}
 use Rattle.orbits.specs.Permutation.{Perm}
-use Rattle.orbits.specs.Chord.{Involution, opener, chords}
+use Rattle.orbits.specs.Chord.{opener, chords}
 use Rattle.orbits.proofs.Order.{tri}
-use Rattle.orbits.proofs.Tally.{count-ext}
+use Rattle.orbits.proofs.Tally.{count-ext, count-below}
 use Rattle.orbits.proofs.Chord.{μ-inj}
 use Rattle.orbits.proofs.Euler.{Free, chords-half}
+use Rattle.orbits.proofs.Match.{close-top}
 use Rattle.words.specs.Word.{head}
 use Rattle.words.specs.Toured.{isTree}
+use Rattle.words.proofs.Letters.{fellow-opens, fellow-closes}
 use Rattle.building.specs.Position.{treeKind, chordKind, treeWord, chordWord, opened, dartBy, dartNo, Balance}
-use Rattle.building.proofs.Letters.{fellow-opens, fellow-closes}
-use Rattle.building.proofs.Counts.{count-passes}
-use Rattle.building.proofs.Match.{close-top}
 use Rattle.building.proofs.Mates.{mate, mate-inv, fellows, later, earlier, τ-tree, χ-chord}
-
--- ---- opposites
-
-pub opposite-even : (e : ℕ) → opposite (2 * e) ≡ 2 * e + 1
-unfolding opposite
-opposite-even e = omega arith
-
-opposite-odd : (e : ℕ) → opposite (2 * e + 1) ≡ 2 * e
-unfolding opposite
-opposite-odd e = omega arith
-
-pub opposite-inv : (N : ℕ) → N % 2 ≡ 0 → Involution N opposite
-unfolding opposite
-opposite-inv N even = record { bound = λ d h. omega arith; back = λ d h. omega arith }
-
-pub opposite-free : (N : ℕ) → Free N opposite
-unfolding opposite
-opposite-free N d h e = omega arith
 
 module _ (ℓ : ℕ → Letter) (N : ℕ) (b : Balance ℓ N) where
   abbrev x : ℕ → ℕ
@@ -123,7 +102,7 @@ module _ (ℓ : ℕ → Letter) (N : ℕ) (b : Balance ℓ N) where
 
   pub opened-lt : (i j : ℕ) → i < j → opens (ℓ i) ≡ true → opened ℓ i < opened ℓ j
   unfolding opened
-  opened-lt i j = count-passes (λ k. opens (ℓ k)) i j
+  opened-lt i j = count-below (λ k. opens (ℓ k)) i j
 
   opened-inj : (i j : ℕ) → opens (ℓ i) ≡ true → opens (ℓ j) ≡ true → opened ℓ i ≡ opened ℓ j → i ≡ j
   opened-inj i j o p e = tri i j (λ l. absurd (omega (arith, opened-lt i j l o))) (λ q. q) (λ g. absurd (omega (arith, opened-lt j i g p)))

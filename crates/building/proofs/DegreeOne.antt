@@ -14,17 +14,18 @@ use lib.Seq.{drop-cons, drop-length}
 use borrow.Author.Tests.{ne-eqb, eqb-false}
 use Rattle.model.specs.Map.{next, degreeOne, hasDegreeOne}
 use Rattle.model.specs.Traversal.{Letter, down, up, first, second, opens}
+use Rattle.model.proofs.Booleans.{no-some, or-none}
 use Rattle.orbits.specs.Chord as Chord
 use Rattle.orbits.specs.Stack.{Kind, flat, open′, close, push, stack}
 use Rattle.orbits.proofs.Chord.{next-cases}
+use Rattle.orbits.proofs.Match.{close-top}
 use Rattle.words.specs.Word.{rotationOf, startsUp, bareLeaf, rootDegree}
 use Rattle.words.specs.Toured.{fellow, isTree}
+use Rattle.words.proofs.Plans.{rotation-length}
 use Rattle.building.specs.Position.{letter, treeKind, treeWord, treeStack, Balance}
-use Rattle.building.proofs.Match.{close-top}
 use Rattle.building.proofs.Mates.{τ, fellows, earlier, τ-inv, τ-tree, τ-chord}
 use Rattle.building.proofs.Darts.{half}
-use Rattle.building.proofs.Rotation.{length-rotation, pos, pos-bound, pos-next}
-use Rattle.building.proofs.Tests.{or-left, or-right, some-none}
+use Rattle.building.proofs.Rotation.{pos, pos-bound, pos-next}
 
 -- ---- no down right before an up
 
@@ -35,7 +36,7 @@ starts (l ∷ w) h e = rw e
 
 bare-tail : (l : Letter) (w : List Letter) → bareLeaf (l ∷ w) ≡ false → bareLeaf w ≡ false
 unfolding bareLeaf
-bare-tail down w e = or-right (startsUp w) (bareLeaf w) e
+bare-tail down w e = or-none (startsUp w) (bareLeaf w) e .1
 bare-tail up w e = e
 bare-tail first w e = e
 bare-tail second w e = e
@@ -45,7 +46,7 @@ unfolding bareLeaf
 no-leaf [] e i h p q = not-suc-le-zero h
 no-leaf (l ∷ w) e zero h p q =
     let bare : bareLeaf (down ∷ w) ≡ false = subst (λ (c : Letter). bareLeaf (c ∷ w) ≡ false) p e in
-    true≢false (sym (starts w (le-of-suc-le-suc h) q) ∙ or-left (startsUp w) (bareLeaf w) bare)
+    true≢false (sym (starts w (le-of-suc-le-suc h) q) ∙ or-none (startsUp w) (bareLeaf w) bare .0)
 no-leaf (l ∷ w) e (suc i) h p q = no-leaf w (bare-tail l w e) i (le-of-suc-le-suc h) p q
 
 -- ---- the root's degree where the first edge ends at the last letter
@@ -145,5 +146,5 @@ module _ (w : List Letter) (b : Balance (letter w) (length w)) where
 
   pub built-degree : bareLeaf w ≡ false → eqb (rootDegree 0 w) 1 ≡ false → hasDegreeOne (rotationOf w) ≡ false
   unfolding hasDegreeOne degreeOne
-  built-degree leaf root = some-none (degreeOne (rotationOf w)) (length (rotationOf w)) (λ d h.
-      ne-eqb (next (rotationOf w) d) d (degree-at leaf root d (subst (λ (n : ℕ). d < n) (length-rotation w b) h)))
+  built-degree leaf root = no-some (degreeOne (rotationOf w)) (length (rotationOf w)) (λ d h.
+      ne-eqb (next (rotationOf w) d) d (degree-at leaf root d (subst (λ (n : ℕ). d < n) (rotation-length w) h)))

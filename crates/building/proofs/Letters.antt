@@ -1,15 +1,13 @@
--- Letters, their brackets and their fellows.
+-- Letters as brackets.
 --
 --   is-down, is-up, is-first, is-second   the letter of each bracket
 --   flat-chord, flat-tree     a letter is a bracket of one sort only
---   tree-fellow               both letters of an edge are of one sort
---   fellow-opens, fellow-closes   and one of them opens
 use mathlib.Core.Path.{_≡_, refl, sym}
 use mathlib.Core.Bool.{true, false, true≢false, false≢true}
-use Rattle.model.specs.Traversal.{Letter, down, up, first, second, opens}
+use Rattle.model.specs.Traversal.{Letter, down, up, first, second}
 use Rattle.orbits.specs.Stack.{flat, open′, close}
 use Rattle.orbits.proofs.Decode.{flat≢open, close≢open, flat≢close}
-use Rattle.words.specs.Toured.{fellow, isTree}
+use Rattle.words.specs.Toured.{isTree}
 use Rattle.building.specs.Position.{treeKind, chordKind}
 
 pub is-down : (l : Letter) → treeKind l ≡ open′ → l ≡ down
@@ -47,21 +45,3 @@ flat-tree down e = refl
 flat-tree up e = refl
 flat-tree first e = absurd (false≢true e)
 flat-tree second e = absurd (false≢true e)
-
-pub tree-fellow : (l : Letter) → isTree (fellow l) ≡ isTree l
-tree-fellow down = refl
-tree-fellow up = refl
-tree-fellow first = refl
-tree-fellow second = refl
-
-pub fellow-opens : (l : Letter) → opens l ≡ false → opens (fellow l) ≡ true
-fellow-opens down e = absurd (true≢false e)
-fellow-opens up e = refl
-fellow-opens first e = absurd (true≢false e)
-fellow-opens second e = refl
-
-pub fellow-closes : (l : Letter) → opens l ≡ true → opens (fellow l) ≡ false
-fellow-closes down e = refl
-fellow-closes up e = absurd (false≢true e)
-fellow-closes first e = refl
-fellow-closes second e = absurd (false≢true e)

@@ -1,10 +1,6 @@
-pub mod Tests
 pub mod Letters
-pub mod Match
 pub mod Machine
-pub mod Counts
 pub mod Mates
-pub mod Inverse
 pub mod Darts
 pub mod Lists
 pub mod Rotation

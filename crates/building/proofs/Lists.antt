@@ -1,26 +1,22 @@
--- Lists that are filled in place, and the test for a permutation.
+-- Lists that are filled in place.
 --
 --   filled n q y k   n zeros, after y i was entered at place q i for each i below k
 --   length-filled    its length
 --   filled-at        an entry that was made
 --   filled-none      one that was not made yet
---   listed           a list whose entries are a permutation passes the test
 --   head-drop        the head of what is left after i entries
 use Prim.Native.Nat.{ℕ, zero, suc, _≤_, _<_}
 use native.Mathlib.Nat.{not-suc-le-zero, le-of-lt, add-zero}
 use native.Mathlib.Omega.{arith}
-use mathlib.Core.Path.{_≡_, refl, sym, ap, subst, _∙_}
+use mathlib.Core.Path.{_≡_, sym, ap, subst, _∙_}
 use mathlib.Core.Logic.{_≢_}
-use mathlib.Core.Bool.{Bool, true, false, not, _&&_, cond, false≢true}
-use mathlib.Core.List.{List, [], _∷_}
-use lib.Dec.{eqb}
+use mathlib.Core.List.{List}
 use lib.ListN.{length, getD, set, drop, replicate, length-set, length-replicate, getD-replicate}
 use lib.Seq.{getD-set-same, getD-set-other, getD-drop}
-use borrow.Author.Tests.{lt-ltb, eqb-true}
-use Rattle.model.specs.Numbers.{elem, distinct, allBelow, isPermutation}
 use Rattle.orbits.specs.Permutation.{Perm}
 use Rattle.orbits.proofs.Order.{lt-suc-split}
 use Rattle.words.specs.Word.{head}
+use Rattle.words.proofs.Plans.{head-at}
 
 unfoldable pub filled : ℕ → (ℕ → ℕ) → (ℕ → ℕ) → ℕ → List ℕ
 filled n q y zero = replicate n 0
@@ -53,43 +49,5 @@ module _ (n : ℕ) (q y : ℕ → ℕ) (perm : Perm n q) where
   filled-none zero h j hj l = getD-replicate n (q j) 0 0 (perm .bound j hj)
   filled-none (suc k) h j hj l = old-at j k hj h (λ e. omega arith) ∙ filled-none k (le-of-lt h) j hj (le-of-lt l)
 
--- ---- the test for a permutation
-
-all-below : (n : ℕ) (xs : List ℕ) → ((k : ℕ) → k < length xs → getD xs k 0 < n) → allBelow n xs ≡ true
-unfolding allBelow
-all-below n [] h = refl
-all-below n (x ∷ xs) h = rw (lt-ltb x n (h 0 (omega arith))) (all-below n xs (λ k l. h (suc k) (omega arith)))
-
-elem-at : (x : ℕ) (xs : List ℕ) → elem x xs ≡ true → (k : ℕ) × (k < length xs) × (getD xs k 0 ≡ x)
-unfolding elem
-elem-at x [] e = absurd (false≢true e)
-elem-at x (y ∷ ys) e = go (eqb x y) refl e (elem-at x ys)
-  where
-    go : (b : Bool) → eqb x y ≡ b → cond b true (elem x ys) ≡ true → (elem x ys ≡ true → (k : ℕ) × (k < length ys) × (getD ys k 0 ≡ x))
-        → (k : ℕ) × (k < length (y ∷ ys)) × (getD (y ∷ ys) k 0 ≡ x)
-    go true t e′ ih = (0, omega arith, sym (eqb-true x y t))
-    go false t e′ ih = let r = ih e′ in (suc (r .0), omega arith, r .2)
-
-at-distinct : (xs : List ℕ) → ((i j : ℕ) → i < length xs → j < length xs → getD xs i 0 ≡ getD xs j 0 → i ≡ j) → distinct xs ≡ true
-unfolding distinct
-at-distinct [] h = refl
-at-distinct (x ∷ xs) h =
-    go (elem x xs) refl (at-distinct xs (λ i j hi hj e. let s = h (suc i) (suc j) (omega arith) (omega arith) e in omega arith))
-  where
-    go : (b : Bool) → elem x xs ≡ b → distinct xs ≡ true → (not b && distinct xs) ≡ true
-    go true t later =
-        let (k, l, e) = elem-at x xs t in
-        let s : 0 ≡ suc k = h 0 (suc k) (omega arith) (omega arith) (sym e) in
-        absurd (omega arith)
-    go false t later = later
-
-pub listed : (xs : List ℕ) → Perm (length xs) (λ d. getD xs d 0) → isPermutation xs ≡ true
-unfolding isPermutation
-listed xs perm = rw (all-below (length xs) xs (perm .bound), at-distinct xs (perm .inj))
-
 pub head-drop : (xs : List ℕ) (i : ℕ) → head (drop i xs) ≡ getD xs i 0
-head-drop xs i = first (drop i xs) ∙ getD-drop i xs 0 0 ∙ ap (λ (k : ℕ). getD xs k 0) (add-zero i)
-  where
-    first : (ys : List ℕ) → head ys ≡ getD ys 0 0
-    first [] = refl
-    first (y ∷ ys) = refl
+head-drop xs i = head-at (drop i xs) ∙ getD-drop i xs 0 0 ∙ ap (λ (k : ℕ). getD xs k 0) (add-zero i)

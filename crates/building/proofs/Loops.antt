@@ -7,18 +7,17 @@ use native.Mathlib.Omega.{arith}
 use mathlib.Core.Path.{_≡_, refl, sym, ap, subst, _∙_}
 use mathlib.Core.Bool.{false}
 use mathlib.Core.List.{List}
-use lib.Dec.{eqb}
 use lib.ListN.{length}
-use borrow.Author.Tests.{ne-eqb}
 use Rattle.model.specs.Map.{opposite, vertexOf, hasLoop}
 use Rattle.model.specs.Traversal.{Letter, down, up, first, second}
+use Rattle.model.proofs.Fitness.{at-loopless}
 use Rattle.words.specs.Word.{rotationOf}
 use Rattle.words.specs.Toured.{fellow}
+use Rattle.words.proofs.Plans.{rotation-length}
 use Rattle.building.specs.Position.{letter, vertexNo, dartNo, Balance}
-use Rattle.building.proofs.Tests.{some-none}
 use Rattle.building.proofs.Mates.{mate, mate-inv, fellows, vertex-new, vertex-lower, vertex-entered}
 use Rattle.building.proofs.Darts.{dart-mate}
-use Rattle.building.proofs.Rotation.{length-rotation, pos, pos-bound, dart-pos}
+use Rattle.building.proofs.Rotation.{pos, pos-bound, dart-pos}
 use Rattle.building.proofs.Vertices.{vertex-number}
 
 module _ (w : List Letter) (b : Balance (letter w) (length w)) where
@@ -66,8 +65,4 @@ module _ (w : List Letter) (b : Balance (letter w) (length w)) where
       (ap (vertexOf (rotationOf w)) this ∙ e ∙ ap (vertexOf (rotationOf w)) (sym other)))
 
   pub built-no-loop : hasLoop (rotationOf w) ≡ false
-  unfolding hasLoop
-  built-no-loop =
-      let v = vertexOf (rotationOf w) in
-      some-none (λ d. eqb (v d) (v (opposite d))) (length (rotationOf w))
-      (λ d h. ne-eqb (v d) (v (opposite d)) (no-loop-at d (subst (λ (n : ℕ). d < n) (length-rotation w b) h)))
+  built-no-loop = at-loopless (rotationOf w) (λ d h. no-loop-at d (subst (λ (n : ℕ). d < n) (rotation-length w) h))

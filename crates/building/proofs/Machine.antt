@@ -7,7 +7,7 @@
 use Prim.Native.Nat.{ℕ, zero, suc, _≤_, _<_}
 use native.Mathlib.Nat.{le-refl, le-of-lt}
 use native.Mathlib.Omega.{arith}
-use mathlib.Core.Path.{_≡_, refl, sym, ap, subst}
+use mathlib.Core.Path.{_≡_, refl, sym, ap, subst, _∙_}
 use mathlib.Core.Bool.{true, false≢true}
 use mathlib.Core.List.{List, [], _∷_, map}
 use lib.Dec.{ltb}
@@ -16,11 +16,13 @@ use lib.Seq.{drop-cons, drop-length}
 use borrow.Author.Tests.{ltb-true}
 use Rattle.model.specs.Numbers.{count, tick}
 use Rattle.model.specs.Traversal.{Letter, down, up, first, second}
+use Rattle.model.proofs.Booleans.{and-left, and-right}
 use Rattle.orbits.specs.Stack.{close, push, stack}
+use Rattle.orbits.proofs.Tally.{tick-suc}
 use Rattle.words.specs.Word.{nested, wordDarts, tail}
-use Rattle.building.specs.Position.{letter, treeKind, chordKind, treeStack, chordStack, isDown}
+use Rattle.words.specs.Entered.{isDown}
+use Rattle.building.specs.Position.{letter, treeKind, chordKind, treeStack, chordStack}
 use Rattle.building.specs.Position.{opened, entered, vertexTop, vertexNo, belowOf, dartNo, Balance}
-use Rattle.building.proofs.Tests.{and-left, and-right}
 use Rattle.building.proofs.Letters.{is-up, is-second}
 
 -- the machine accepts `rest` where the stacks are s and t
@@ -39,10 +41,8 @@ vertex-top ℓ i = refl
 module _ (ℓ : ℕ → Letter) (i : ℕ) where
   pub entered-by : (l : Letter) → ℓ i ≡ l → entered ℓ (suc i) ≡ tick (isDown l) (entered ℓ i)
   unfolding entered count
-  entered-by down e = ap (λ (l : Letter). suc (tick (isDown l) (count (λ j. isDown (ℓ j)) i))) e
-  entered-by up e = ap (λ (l : Letter). suc (tick (isDown l) (count (λ j. isDown (ℓ j)) i))) e
-  entered-by first e = ap (λ (l : Letter). suc (tick (isDown l) (count (λ j. isDown (ℓ j)) i))) e
-  entered-by second e = ap (λ (l : Letter). suc (tick (isDown l) (count (λ j. isDown (ℓ j)) i))) e
+  entered-by l e =
+      ap (λ (c : Letter). suc (tick (isDown c) (count (λ j. isDown (ℓ j)) i))) e ∙ sym (tick-suc (isDown l) (count (λ j. isDown (ℓ j)) i))
 
   accepts-on : (l : Letter) (s t : List ℕ) (rest : List Letter) → vertexNo ℓ i ≡ vertexTop ℓ s → Accepts ℓ (entered ℓ i) s t (l ∷ rest)
       → Accepts ℓ (tick (isDown l) (entered ℓ i)) (push (treeKind l) i s) (push (chordKind l) i t) rest

@@ -22,11 +22,13 @@ use Rattle.model.specs.Traversal.{Letter, down, up, first, second, opens}
 use Rattle.orbits.specs.Chord.{Involution, Nested}
 use Rattle.orbits.specs.Stack.{push, stack, matched}
 use Rattle.orbits.proofs.Decode.{decoded-inv, decoded-nested}
+use Rattle.orbits.proofs.Tally.{count-below}
+use Rattle.orbits.proofs.Match.{match-open, match-close, match-flat, mate-close, mate-open, close-top, stack-turn, stack-below, stack-kind}
 use Rattle.words.specs.Toured.{fellow, isTree}
-use Rattle.building.specs.Position.{treeKind, chordKind, treeWord, chordWord, treeStack, isDown, entered, vertexTop, vertexNo, Balance}
-use Rattle.building.proofs.Letters.{is-down, is-up, is-first, is-second, flat-chord, flat-tree, tree-fellow}
-use Rattle.building.proofs.Counts.{count-passes}
-use Rattle.building.proofs.Match.{match-open, match-close, match-flat, mate-close, mate-open, close-top, stack-turn, stack-below, stack-kind}
+use Rattle.words.specs.Entered.{isDown}
+use Rattle.words.proofs.Letters.{tree-fellow}
+use Rattle.building.specs.Position.{treeKind, chordKind, treeWord, chordWord, treeStack, entered, vertexTop, vertexNo, Balance}
+use Rattle.building.proofs.Letters.{is-down, is-up, is-first, is-second, flat-chord, flat-tree}
 
 -- ---- the fellow of a position
 
@@ -148,5 +150,5 @@ module _ (ℓ : ℕ → Letter) (N : ℕ) (b : Balance ℓ N) where
       go [] e = omega arith
       go (a ∷ s) e =
           let (l, d) = stack-down i h a s e in
-          let c = count-passes (λ j. isDown (ℓ j)) a i l (ap isDown d) in
+          let c = count-below (λ j. isDown (ℓ j)) a i l (ap isDown d) in
           omega arith

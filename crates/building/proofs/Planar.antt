@@ -2,46 +2,31 @@
 --
 --   built-tour     the tour
 --   built-planar   the plan is planar
-use Prim.Native.Nat.{ℕ, _+_, _/_, _<_}
+use Prim.Native.Nat.{ℕ, _+_, _<_}
 use native.Mathlib.Omega.{arith}
 use mathlib.Core.Path.{_≡_, refl, sym, ap, _∙_}
 use mathlib.Core.Bool.{Bool, true, false, not, cond}
 use mathlib.Core.List.{List}
-use lib.IntN.{ℤ, pos, negℤ, _+ℤ_, _-ℤ_, +ℤ-assoc, +ℤ-comm, +ℤ-negℤ-cancel}
+use lib.IntN.{pos}
 use lib.ListN.{length}
 use Rattle.model.specs.Numbers.{cycles}
-use Rattle.model.specs.Map.{opposite, next, faceNext, edges, vertices, faces, characteristic, is, planar}
+use Rattle.model.specs.Map.{opposite, next, faceNext, edges, vertices, faces, planar}
 use Rattle.model.specs.Traversal.{Letter}
-use Rattle.orbits.specs.Chord.{Involution, Nested}
+use Rattle.model.proofs.Characteristic.{two-planar}
+use Rattle.orbits.specs.Chord.{Involution}
 use Rattle.orbits.specs.Chord as Chord
 use Rattle.orbits.specs.Tour.{face, onward, Tour, diagram, rest}
 use Rattle.orbits.proofs.Euler.{nested-planar}
+use Rattle.orbits.proofs.Maps.{opposite-inv, opposite-free}
+use Rattle.orbits.proofs.Chord.{nested-ext}
 use Rattle.words.specs.Word.{rotationOf}
 use Rattle.words.specs.Toured.{isTree}
+use Rattle.words.proofs.Plans.{rotation-length}
 use Rattle.building.specs.Position.{letter, opened, dartNo, Balance}
 use Rattle.building.proofs.Mates.{τ, χ, mate, mate-inv, whole, τ-inv, χ-inv, τ-nested, χ-nested, τ-tree, χ-tree, τ-chord, χ-chord}
-use Rattle.building.proofs.Darts.{dart-perm, dart-mate, half, opposite-inv, opposite-free}
-use Rattle.building.proofs.Rotation.{length-rotation, pos-bound, dart-pos, pos-dart, pos-next, next-perm}
+use Rattle.building.proofs.Darts.{dart-perm, dart-mate, half}
+use Rattle.building.proofs.Rotation.{pos-bound, dart-pos, pos-dart, pos-next, next-perm}
 use Rattle.building.proofs.Rotation as Rotation
-
--- ---- V − E + F is 2 where V + F = E + 2
-
-signed : (v e f : ℕ) → v + f ≡ e + 2 → (pos v -ℤ pos e) +ℤ pos f ≡ pos 2
-signed v e f h =
-    +ℤ-assoc (pos v) (negℤ (pos e)) (pos f) ∙ ap (λ (z : ℤ). pos v +ℤ z) (+ℤ-comm (negℤ (pos e)) (pos f))
-    ∙ sym (+ℤ-assoc (pos v) (pos f) (negℤ (pos e))) ∙ ap (λ (n : ℕ). pos n -ℤ pos e) sum ∙ +ℤ-negℤ-cancel (pos 2) (pos e)
-  where
-    sum : v + f ≡ 2 + e
-    sum = omega arith
-
--- a diagram that is another one below N is nested if that one is
-nested-ext : (N : ℕ) (μ ν : ℕ → ℕ) → ((i : ℕ) → i < N → μ i ≡ ν i) → Involution N ν → Nested ν N → Nested μ N
-nested-ext N μ ν same inv nested a h l x u v =
-    let ea = same a h in
-    let ba = inv .bound a h in
-    let ex = same x (omega arith) in
-    let k = nested a h (omega arith) x u (omega arith) in
-    omega arith
 
 module _ (w : List Letter) (b : Balance (letter w) (length w)) (some : 0 < length w) where
   abbrev N : ℕ
@@ -132,7 +117,7 @@ module _ (w : List Letter) (b : Balance (letter w) (length w)) (some : 0 < lengt
       (nested-ext N _ (χ ℓ N b) chords-are (χ-inv ℓ N b) (χ-nested ℓ N b)) (nested-ext N _ t trees-are (τ-inv ℓ N b) (τ-nested ℓ N b))
 
   pub built-planar : planar (rotationOf w) ≡ true
-  unfolding planar characteristic vertices edges faces faceNext
-  built-planar = ap (λ (z : ℤ). is z 2) (
-      ap (λ (n : ℕ). (pos (cycles σ n) -ℤ pos (n / 2)) +ℤ pos (cycles (face σ opposite) n)) (length-rotation w b)
-      ∙ signed (cycles σ N) (N / 2) (cycles (face σ opposite) N) (omega (arith, euler, half ℓ N b)))
+  unfolding vertices edges faces faceNext
+  built-planar = two-planar (rotationOf w) (
+      ap (λ (n : ℕ). cycles σ n + cycles (face σ opposite) n) (rotation-length w)
+      ∙ euler ∙ omega (arith, half ℓ N b, rotation-length w))

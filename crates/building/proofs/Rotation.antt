@@ -1,7 +1,6 @@
 -- The rotation that is built from a balanced word w: N letters, ℓ i the letter and x i the dart at position i.
 --
 --   place              where the dart after position i is entered
---   length-rotation    it has an entry for each letter
 --   turn               the entry at the dart x (τ i) is the dart at the position after i, round the circle
 --   step               the same before the last position
 --   pos                the position of a dart
@@ -25,11 +24,13 @@ use Rattle.orbits.specs.Permutation.{Perm}
 use Rattle.orbits.specs.Chord.{φ}
 use Rattle.orbits.specs.Chord as Chord
 use Rattle.orbits.proofs.Chord.{next-cases, φ-perm, μ-inj}
+use Rattle.orbits.proofs.Maps.{perm-list}
+use Rattle.orbits.proofs.Inverse.{inverse, inverse-bound, back-there, there-back}
 use Rattle.words.specs.Word.{wordDarts, placeOf, link, rotationOf, head}
 use Rattle.words.specs.Toured.{isTree}
+use Rattle.words.proofs.Plans.{rotation-length}
 use Rattle.building.specs.Position.{letter, dartNo, Balance}
-use Rattle.building.proofs.Lists.{filled, length-filled, filled-at, listed, head-drop}
-use Rattle.building.proofs.Inverse.{inverse, inverse-bound, back-there, there-back}
+use Rattle.building.proofs.Lists.{filled, filled-at, head-drop}
 use Rattle.building.proofs.Machine.{length-wordDarts, wordDarts-at}
 use Rattle.building.proofs.Mates.{τ, τ-inv, τ-tree, τ-chord}
 use Rattle.building.proofs.Darts.{dart-perm, dart-mate, dart-zero}
@@ -88,9 +89,6 @@ module _ (w : List Letter) (b : Balance (letter w) (length w)) where
   rotation-is : rotationOf w ≡ filled N q y N
   unfolding link
   rotation-is = sym (linked N (le-refl N)) ∙ ap (λ (v : List Letter). link v (drop N xs) (filled N q y N)) (drop-length w)
-
-  pub length-rotation : length (rotationOf w) ≡ N
-  length-rotation = ap length rotation-is ∙ length-filled N q y N
 
   place-perm : Perm N q
   place-perm = record {
@@ -163,4 +161,4 @@ module _ (w : List Letter) (b : Balance (letter w) (length w)) where
 
   pub rotation-listed : isPermutation (rotationOf w) ≡ true
   unfolding next
-  rotation-listed = listed (rotationOf w) (subst (λ (n : ℕ). Perm n (next (rotationOf w))) (sym length-rotation) next-perm)
+  rotation-listed = perm-list (rotationOf w) (subst (λ (n : ℕ). Perm n (next (rotationOf w))) (sym (rotation-length w)) next-perm)

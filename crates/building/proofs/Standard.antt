@@ -12,13 +12,15 @@ use lib.Seq.{getD-set-same, getD-set-other, ext-getD}
 use Rattle.model.specs.Numbers.{count, tick}
 use Rattle.model.specs.Map.{opposite, next}
 use Rattle.model.specs.Traversal.{Letter, opens, Visit, number, standardNumbers, renumbered, standardPlan}
+use Rattle.model.proofs.Opposite.{opposite-even}
 use Rattle.orbits.specs.Permutation.{Perm}
 use Rattle.orbits.proofs.Order.{lt-suc-split}
 use Rattle.words.specs.Word.{rotationOf, planOf}
+use Rattle.words.proofs.Plans.{rotation-length}
 use Rattle.building.specs.Position.{letter, opened, dartNo, Balance}
 use Rattle.building.proofs.Lists.{filled, length-filled, filled-at}
-use Rattle.building.proofs.Darts.{dart-open, half, opened-lt, opposite-even}
-use Rattle.building.proofs.Rotation.{length-rotation, next-perm}
+use Rattle.building.proofs.Darts.{dart-open, half, opened-lt}
+use Rattle.building.proofs.Rotation.{next-perm}
 use Rattle.building.proofs.Walk.{visit, run, built-visits}
 
 -- ---- lists of N numbers
@@ -111,11 +113,11 @@ module _ (w : List Letter) (b : Balance (letter w) (length w)) (some : 0 < lengt
   unfolding standardNumbers planOf opened count Ids
   numbers-are =
       subst (λ (s : List ℕ). Ids N s N)
-      (sym (ap₂ (λ (vs : List Visit) (n : ℕ). number vs 0 (replicate n 0)) (built-visits w b some) (length-rotation w b)))
+      (sym (ap₂ (λ (vs : List Visit) (n : ℕ). number vs 0 (replicate n 0)) (built-visits w b some) (rotation-length w)))
       (numbers-from N 0 (replicate N 0) (omega arith) (length-replicate N 0, λ d h. absurd (omega arith)))
 
   pub standard-same : standardPlan (planOf w) ≡ planOf w
   unfolding standardPlan planOf
   standard-same = ap (λ (r : List ℕ). record { rotation = r; root = 0 }) (
-      ap (λ (n : ℕ). renumbered (standardNumbers (planOf w)) (rotationOf w) n (replicate n 0)) (length-rotation w b)
-      ∙ renumbered-same N (rotationOf w) (standardNumbers (planOf w)) (next-perm w b) numbers-are (length-rotation w b))
+      ap (λ (n : ℕ). renumbered (standardNumbers (planOf w)) (rotationOf w) n (replicate n 0)) (rotation-length w)
+      ∙ renumbered-same N (rotationOf w) (standardNumbers (planOf w)) (next-perm w b) numbers-are (rotation-length w))

@@ -19,13 +19,15 @@ use Rattle.orbits.specs.Stack.{push, stack}
 use Rattle.orbits.proofs.Order.{tri}
 use Rattle.orbits.proofs.Chord.{next-cases}
 use Rattle.orbits.proofs.Cycle.{least-keeps, least-step, least-bound}
+use Rattle.orbits.proofs.Tally.{count-below}
 use Rattle.words.specs.Word.{rotationOf}
 use Rattle.words.specs.Toured.{isTree}
-use Rattle.building.specs.Position.{letter, treeKind, treeStack, isDown, entered, vertexTop, vertexNo, dartNo, Balance}
-use Rattle.building.proofs.Counts.{count-passes}
+use Rattle.words.specs.Entered.{isDown}
+use Rattle.words.proofs.Plans.{rotation-length}
+use Rattle.building.specs.Position.{letter, treeKind, treeStack, entered, vertexTop, vertexNo, dartNo, Balance}
 use Rattle.building.proofs.Mates.{τ, τ-inv, τ-tree, τ-chord, earlier, tree-turn, vertex-turn, vertex-end, stack-down}
 use Rattle.building.proofs.Darts.{dart-perm}
-use Rattle.building.proofs.Rotation.{length-rotation, step, pos, pos-bound, pos-dart, pos-next, next-perm}
+use Rattle.building.proofs.Rotation.{step, pos, pos-bound, pos-dart, pos-next, next-perm}
 
 -- ---- the position after the one where the present vertex was entered
 
@@ -51,7 +53,7 @@ module _ (w : List Letter) (b : Balance (letter w) (length w)) where
 
   vertex-least : (d : ℕ) → vertexOf rot d ≡ least (next rot) N d
   unfolding vertexOf
-  vertex-least d = ap (λ (n : ℕ). least (next rot) n d) (length-rotation w b)
+  vertex-least d = ap (λ (n : ℕ). least (next rot) n d) (rotation-length w)
 
   pub vertex-bound : (d : ℕ) → d < N → vertexOf rot d < N
   vertex-bound d h = subst (λ (z : ℕ). z < N) (sym (vertex-least d)) (least-bound N (next rot) (next-perm w b) d h)
@@ -119,9 +121,9 @@ module _ (w : List Letter) (b : Balance (letter w) (length w)) where
   unfolding entered
   entered-inj i j p q e =
       tri i j
-      (λ l. absurd (omega (arith, count-passes (λ k. isDown (ℓ k)) i j l (ap isDown p))))
+      (λ l. absurd (omega (arith, count-below (λ k. isDown (ℓ k)) i j l (ap isDown p))))
       (λ m. m)
-      (λ g. absurd (omega (arith, count-passes (λ k. isDown (ℓ k)) j i g (ap isDown q))))
+      (λ g. absurd (omega (arith, count-below (λ k. isDown (ℓ k)) j i g (ap isDown q))))
 
   anchor-same : (i j : ℕ) → i < N → j < N → vertexNo ℓ i ≡ vertexNo ℓ j → anchor (treeStack ℓ i) ≡ anchor (treeStack ℓ j)
   unfolding vertexNo entered

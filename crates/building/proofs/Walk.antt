@@ -21,12 +21,14 @@ use Rattle.orbits.specs.Stack.{stack}
 use Rattle.orbits.proofs.Order.{tri, eq-split}
 use Rattle.words.specs.Word.{rotationOf, planOf, placeOf}
 use Rattle.words.specs.Toured.{fellow}
-use Rattle.building.specs.Position.{letter, isDown, entered, vertexNo, dartNo, Balance}
+use Rattle.words.specs.Entered.{isDown}
+use Rattle.words.proofs.Plans.{rotation-length}
+use Rattle.building.specs.Position.{letter, entered, vertexNo, dartNo, Balance}
 use Rattle.building.proofs.Lists.{filled, filled-at, filled-none}
 use Rattle.building.proofs.Machine.{entered-by}
 use Rattle.building.proofs.Mates.{mate, mate-inv, fellows, later, earlier, vertex-new, vertex-lower, vertex-entered}
 use Rattle.building.proofs.Darts.{dart-perm, dart-mate, dart-zero}
-use Rattle.building.proofs.Rotation.{place, length-rotation, step}
+use Rattle.building.proofs.Rotation.{place, step}
 use Rattle.building.proofs.Vertices.{vertex-bound, vertex-number, vertex-same}
 
 -- 1 for the vertices with a number below n
@@ -209,7 +211,7 @@ module _ (w : List Letter) (b : Balance (letter w) (length w)) (some : 0 < lengt
   pub built-visits : visits (planOf w) ≡ run N 0
   unfolding visits planOf filled seen
   built-visits =
-      ap (λ (n : ℕ). walk rot 0 n 0 (replicate n 0) (set (replicate n 0) (vertexOf rot 0) 1)) (length-rotation w b)
+      ap (λ (n : ℕ). walk rot 0 n 0 (replicate n 0) (set (replicate n 0) (vertexOf rot 0) 1)) (rotation-length w)
       ∙ ap (λ (d : ℕ). walk rot 0 N d (replicate N 0) (set (replicate N 0) (vertexOf rot d) 1)) (sym (dart-zero ℓ N b some))
       ∙ walk-is N 0 (omega arith)
 

@@ -1,7 +1,6 @@
 -- A word read position by position: ℓ i is the letter at position i. What the machine `nested` and `wordDarts` hold before position i.
 --
 --   letter w i            the letter of the word w at position i
---   isDown l              l is down
 --   treeKind, chordKind   a letter as a bracket: of a tree edge, of another edge
 --   treeWord, chordWord ℓ the word as brackets
 --   treeStack, chordStack ℓ i   the positions before i where edges are open, the last opened first
@@ -14,13 +13,13 @@
 --   Balance ℓ N           the brackets match, and an edge outside the tree ends at a vertex with a lower number than where it began
 use Prim.Native.Nat.{ℕ, suc, _+_, _*_, _<_}
 use mathlib.Core.Path.{_≡_}
-use mathlib.Core.Bool.{Bool, true, false}
 use mathlib.Core.List.{List, [], _∷_, map}
 use lib.ListN.{getD}
 use Rattle.model.specs.Numbers.{count}
 use Rattle.model.specs.Traversal.{Letter, down, up, first, second, opens}
 use Rattle.orbits.specs.Stack.{Kind, flat, open′, close, stack, Balanced}
 use Rattle.words.specs.Word.{head}
+use Rattle.words.specs.Entered.{isDown}
 
 abbrev pub letter : List Letter → ℕ → Letter
 letter w i = getD w i second
@@ -48,12 +47,6 @@ treeStack ℓ i = stack (treeWord ℓ) i
 
 abbrev pub chordStack : (ℕ → Letter) → ℕ → List ℕ
 chordStack ℓ i = stack (chordWord ℓ) i
-
-abbrev pub isDown : Letter → Bool
-isDown down = true
-isDown up = false
-isDown first = false
-isDown second = false
 
 unfoldable pub opened : (ℕ → Letter) → ℕ → ℕ
 opened ℓ i = count (λ j. opens (ℓ j)) i

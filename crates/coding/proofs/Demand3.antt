@@ -3,19 +3,14 @@
 --   coding                the laws of the coding that demand 3 needs
 --   demand-3              demand 3 holds of any two lists of writing calls
 use Prim.Native.Nat.{ℕ, _≤_}
-use mathlib.Core.Path.{_≡_, sym, subst}
-use mathlib.Core.List.{List}
-use lib.ListN.{length}
-use Rattle.model.specs.Record.{recordLength, layOut}
-use Rattle.model.specs.Shelf.{word16}
-use Rattle.lists.specs.Coding.{Coding}
-use Rattle.lists.specs.Demand3.{Demand3}
-use Rattle.packing.specs.Unlay.{Laid}
+use mathlib.Core.Path.{sym, subst}
 use Rattle.packing.proofs.Head.{recordLength-range}
 use Rattle.packing.proofs.Unlay.{layOut-length, layOut-head, layOut-injective}
 use Rattle.decoding.proofs.Encoding.{decode-encode}
 use Rattle.decoding.proofs.Sizes.{bits-length, letters-length, labels-bound}
 use Rattle.decoding.proofs.Bounds.{bits-below}
+use Rattle.lists.specs.Coding.{Coding}
+use Rattle.lists.specs.Demand3.{Demand3}
 use Rattle.lists.proofs.Lists as lists
 use Rattle.coding.proofs.FitPlans.{of-fit, fit-standard}
 use mathlib.Core.Bool.{false}

@@ -7,19 +7,15 @@
 --   fit-standard          its standard numbering is a renumbering
 use Prim.Native.Nat.{ℕ, _<_}
 use mathlib.Core.Path.{_≡_, sym, ap, _∙_}
-use mathlib.Core.Bool.{true, true≢false}
-use lib.Dec.{eqb}
-use borrow.Author.Tests.{eq-eqb}
-use Rattle.model.specs.Map.{Plan, darts, opposite, vertexOf, hasLoop, fit}
+use mathlib.Core.Bool.{true}
+use Rattle.model.specs.Map.{Plan, darts, vertexOf, fit}
 use Rattle.model.specs.Traversal.{second, standardNumbers, standardPlan}
 use Rattle.model.specs.Renumbering.{Renumbering}
-use Rattle.model.proofs.Fitness.{Fit, fit-parts}
+use Rattle.model.proofs.Fitness.{Fit, fit-parts, loopless-at}
 use Rattle.words.specs.Toured.{Toured, Bracketed, letterOf, mateOf, dartAt}
 use Rattle.words.specs.Entered.{enteredAt}
-use Rattle.lists.specs.Coding.{OfFit}
-use Rattle.traversal.proofs.Elements.{some-no}
+use Rattle.words.proofs.Positions.{mate-dart}
 use Rattle.traversal.proofs.Toured.{walk-toured}
-use Rattle.planarity.proofs.Positions.{mate-dart}
 use Rattle.planarity.proofs.Planar.{planar-bracketed}
 use Rattle.planarity.proofs.SameVertex.{second-descends}
 use Rattle.labelling.proofs.Reading.{tree-labels, tree-bits}
@@ -28,6 +24,7 @@ use Rattle.standard.proofs.Entries.{standard-entry}
 use Rattle.standard.proofs.Linking.{standard-is-planOf}
 use Rattle.standard.proofs.Valid.{word-valid}
 use Rattle.renumbering.proofs.Standard.{standard-renumbering}
+use Rattle.lists.specs.Coding.{OfFit}
 
 module _ (k : ℕ) (p : Plan) (fits : fit k p ≡ true) where
   abbrev parts : Fit k p
@@ -39,17 +36,11 @@ module _ (k : ℕ) (p : Plan) (fits : fit k p ≡ true) where
   pub fit-bracketed : Bracketed p
   fit-bracketed = planar-bracketed p fit-toured (parts .count) (parts .entries) (parts .flat)
 
-  -- the two darts of an edge lie at different vertices
-  apart : (d : ℕ) → d < darts p → vertexOf (p .rotation) (opposite d) ≡ vertexOf (p .rotation) d → ⊥
-  unfolding hasLoop
-  apart d h e =
-      true≢false (sym (eq-eqb (vertexOf (p .rotation) d) (vertexOf (p .rotation) (opposite d)) (sym e))
-      ∙ some-no (λ x. eqb (vertexOf (p .rotation) x) (vertexOf (p .rotation) (opposite x))) (darts p) (parts .loopless) d h)
-
   pub fit-descends : (j : ℕ) → j < darts p → letterOf p j ≡ second → enteredAt p j < enteredAt p (mateOf p j)
   fit-descends j h e =
       second-descends p fit-toured (parts .count) (parts .entries) j h e
-      (λ q. apart (dartAt p j) (fit-toured .dart-bound j h) (ap (vertexOf (p .rotation)) (sym (mate-dart p fit-toured (parts .count) j h)) ∙ q))
+      (λ q. loopless-at (p .rotation) (parts .loopless) (dartAt p j) (fit-toured .dart-bound j h)
+      (sym q ∙ ap (vertexOf (p .rotation)) (mate-dart p fit-toured (parts .count) j h)))
 
   pub of-fit : OfFit k p
   of-fit = record {

@@ -7,36 +7,32 @@
 --   none-has              bytes that do not decode are the record of no fit plan
 --   decodes-edges, decodes-standard   that plan has as many edges as the head says, and is in standard numbers
 --   read-back             every fit plan with the record has the standard plan that the word builds
-use Prim.Native.Nat.{ℕ, _*_, _%_, _≤_}
+use Prim.Native.Nat.{ℕ, _*_}
 use native.Mathlib.Omega.{arith}
-use mathlib.Core.Path.{_≡_, refl, sym, ap, subst, _∙_}
-use mathlib.Core.Bool.{Bool, true, false, cond, true≢false}
+use mathlib.Core.Path.{_≡_, refl, sym, ap, _∙_}
+use mathlib.Core.Bool.{Bool, true, false, cond}
 use mathlib.Core.List.{List}
 use lib.ListN.{length}
-use borrow.Author.Tests.{lt-ltb, eq-eqb, le-leb}
 use Rattle.model.specs.Numbers.{allBelow}
-use Rattle.model.specs.Map.{Plan, darts, edges, dartCountFits, fit}
+use Rattle.model.specs.Map.{Plan, darts, edges, fit}
 use Rattle.model.specs.Traversal.{Letter, word, standardPlan}
 use Rattle.model.specs.LabelledTree.{treeBits, labels}
 use Rattle.model.specs.Record.{labelBase, layOut, recordOf}
 use Rattle.model.specs.Shelf.{kindOf, edgesOf, passes}
 use Rattle.model.specs.Calls.{HasRecord}
-use Rattle.model.proofs.Fitness.{Fit, fit-parts, count-parts, even-darts}
+use Rattle.model.proofs.Fitness.{Fit, fit-parts, count-parts, even-darts, parts-count}
 use Rattle.words.specs.Word.{Found, found, none, valid, wordBits, wordLabels, planOf, decodeWord}
+use Rattle.words.proofs.Positions.{word-length}
+use Rattle.words.proofs.Plans.{rotation-length}
 use Rattle.packing.specs.Unlay.{Laid, bitsIn, labelsIn, readable}
 use Rattle.packing.proofs.Unlay.{layOut-head, layOut-bits, layOut-labels, layOut-readable, unlay-laid, readable-layOut}
 use Rattle.decoding.proofs.Encoding.{decode-encode}
 use Rattle.decoding.proofs.Sizes.{bits-length, letters-length, labels-bound}
 use Rattle.decoding.proofs.Bounds.{bits-below}
-use Rattle.decoding.proofs.Decoding.{encode-decode}
+use Rattle.decoding.proofs.Decoding.{encode-decode, none-found, wordIn}
 use Rattle.building.proofs.Built.{built-word, built-fit, built-standard}
-use Rattle.traversal.proofs.Walk.{length-word}
 use Rattle.coding.specs.Decode.{decodeRecord}
 use Rattle.coding.proofs.FitPlans.{fit-toured, of-fit}
-
-count-of : (m : ℕ) → 1 ≤ m → m ≤ 4096 → dartCountFits (2 * m) ≡ true
-unfolding dartCountFits
-count-of m h l = rw (lt-ltb 0 (2 * m) (omega arith), eq-eqb (2 * m % 2) 0 (omega arith), le-leb (2 * m) 8192 (omega arith))
 
 -- ---- from a fit plan to its record
 
@@ -44,17 +40,13 @@ module _ (k : ℕ) (p : Plan) (fits : fit k p ≡ true) where
   abbrev parts : Fit k p
   parts = fit-parts k p fits
 
-  -- one letter for each dart
-  word-darts : length (word p) ≡ darts p
-  word-darts = length-word p ∙ fit-toured k p fits .all-met
-
   pub fit-laid : Laid k (edges (p .rotation)) (treeBits p) (labels p)
   fit-laid =
       let o = of-fit k p fits in
       let c = count-parts (darts p) (parts .count) in
       let even = even-darts p (parts .count) in
       let letters = letters-length k (word p) (o .proper) in
-      let all = word-darts in
+      let all = word-length p (fit-toured k p fits) in
       record {
         kind = parts .kind;
         some-edge = omega arith;
@@ -81,13 +73,6 @@ module _ (k : ℕ) (p : Plan) (fits : fit k p ≡ true) where
 
 -- ---- from bytes to a fit plan
 
-abbrev isFound : Found → Bool
-isFound (found w) = true
-isFound none = false
-
-found-some : (v : List Letter) → found v ≡ none → ⊥
-found-some v e = true≢false (ap isFound e)
-
 pub has-decodes : (r : List ℕ) (p : Plan) → HasRecord r p → decodeRecord r ≡ found (word p)
 has-decodes r p (f, e) = ap decodeRecord (sym e) ∙ record-decodes (kindOf r) p f
 
@@ -100,7 +85,7 @@ module _ (r : List ℕ) (v : List Letter) where
       go : (b : Bool) → readable r ≡ b → cond b (decodeWord (kindOf r) (bitsIn r) (labelsIn r)) none ≡ found v
           → (readable r ≡ true) × (decodeWord (kindOf r) (bitsIn r) (labelsIn r) ≡ found v)
       go true t q = (t, q)
-      go false t q = absurd (found-some v (sym q))
+      go false t q = none-found v q
 
 module _ (r : List ℕ) (v : List Letter) (pass : passes r ≡ true) (bytes : allBelow 256 r ≡ true) (e : decodeRecord r ≡ found v) where
   abbrev k : ℕ
@@ -111,18 +96,19 @@ module _ (r : List ℕ) (v : List Letter) (pass : passes r ≡ true) (bytes : al
 
   -- the word is valid, and the record holds its bits and labels
   word-of : (valid k v ≡ true) × (wordBits false v ≡ bitsIn r) × (wordLabels v ≡ labelsIn r) × (length v ≡ 2 * edgesOf r)
-  word-of = encode-decode k (bitsIn r) (labelsIn r) v (laid .kind) (edgesOf r) (count-of (edgesOf r) (laid .some-edge) (laid .few-edges))
+  word-of =
+      let s = laid .some-edge in
+      let f = laid .few-edges in
+      let count = parts-count (2 * edgesOf r) (omega arith) (omega arith) (omega arith) in
+      encode-decode k (bitsIn r) (labelsIn r) v (laid .kind) (edgesOf r) count
       (laid .bit-count) (laid .label-count) (laid .bits-fit) (laid .labels-fit) (clean r v e .1)
 
   built : fit k (planOf v) ≡ true
   built = built-fit k v (word-of .0)
 
   pub decodes-edges : edges (planOf v .rotation) ≡ edgesOf r
-  decodes-edges =
-      let d = word-darts k (planOf v) built in
-      let n = even-darts (planOf v) (fit-parts k (planOf v) built .count) in
-      let l = ap length (built-word k v (word-of .0)) in
-      omega (arith, word-of .3)
+  unfolding edges planOf
+  decodes-edges = omega (arith, rotation-length v, word-of .3)
 
   pub decodes-has : HasRecord r (planOf v)
   unfolding recordOf
@@ -135,14 +121,7 @@ module _ (r : List ℕ) (v : List Letter) (pass : passes r ≡ true) (bytes : al
   decodes-standard = built-standard k v (word-of .0)
 
 pub none-has : (r : List ℕ) → decodeRecord r ≡ none → (p : Plan) → HasRecord r p → ⊥
-none-has r e p h = found-some (word p) (sym (has-decodes r p h) ∙ e)
-
-found-inj : (v w : List Letter) → found v ≡ found w → v ≡ w
-found-inj v w e = ap (λ (f : Found). letters f) e
-  where
-    letters : Found → List Letter
-    letters (found w) = w
-    letters none = v
+none-has r e p h = none-found (word p) (sym e ∙ has-decodes r p h)
 
 pub read-back : (r : List ℕ) (v : List Letter) (p : Plan) → decodeRecord r ≡ found v → HasRecord r p → standardPlan p ≡ planOf v
-read-back r v p e h = of-fit (kindOf r) p (h .0) .standard ∙ ap planOf (found-inj (word p) v (sym (has-decodes r p h) ∙ e))
+read-back r v p e h = of-fit (kindOf r) p (h .0) .standard ∙ ap (λ (x : Found). planOf (wordIn x)) (sym (has-decodes r p h) ∙ e)

@@ -16,15 +16,16 @@ use lib.ListN.{length}
 use Rattle.model.specs.Numbers.{allBelow}
 use Rattle.model.specs.Traversal.{Letter, down, up, first, second}
 use Rattle.model.specs.LabelledTree.{star}
+use Rattle.model.proofs.Below.{below-head}
 use Rattle.words.specs.Word.{nested, startsUp, valid, startsSecond, head, tail, endsOne, ends, wordLabels, wordBits, found, none, after, Machine, goes, turn, start, checkRoot, decodeWord}
+use Rattle.words.proofs.Validity.{valid-nested, valid-root}
 use Rattle.decoding.specs.Reading.{Reads, closed, risen, leafed, backed, entered, run}
-use Rattle.decoding.proofs.Bounds.{all-head, head-below, ups-below, seconds-below}
+use Rattle.decoding.proofs.Bounds.{head-below, ups-below, seconds-below}
 use Rattle.decoding.proofs.Nesting.{nest-end, nest-up, nest-second, no-second, bits-on}
 use Rattle.decoding.proofs.Lengths.{head-tail, no-entries, ups-count, seconds-count}
 use Rattle.decoding.proofs.Turns.{turn-close, turn-up, turn-star, turn-back, turn-tree, turn-done}
 use Rattle.decoding.proofs.Within.{Within, starts-within, within-close, within-up, within-star, within-back, within-tree}
 use Rattle.decoding.proofs.Runs.{run-goes, run-done, decodeWord-run}
-use Rattle.decoding.proofs.Validity.{valid-nested, valid-root}
 
 pub record Onward (m : ℕ) (s : Machine) (ls w : List Letter) : Type 0 where
   pub next : Machine
@@ -42,7 +43,7 @@ no-star x h e = omega arith
 
 head-low : (n : ℕ) (xs : List ℕ) → allBelow n xs ≡ true → head xs ≤ n
 head-low n [] e = zero-le
-head-low n (x ∷ xs) e = let h = all-head n x xs e in omega arith
+head-low n (x ∷ xs) e = let h = below-head n x xs e in omega arith
 
 -- ---- each letter
 

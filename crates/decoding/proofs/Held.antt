@@ -15,9 +15,10 @@ use lib.ListN.{length}
 use Rattle.model.specs.Numbers.{allBelow}
 use Rattle.model.specs.Traversal.{Letter}
 use Rattle.model.specs.LabelledTree.{star}
+use Rattle.model.proofs.Below.{below-cons}
 use Rattle.words.specs.Word.{Machine, done, stuck, goes, turn, start}
 use Rattle.decoding.specs.Reading.{closed, risen, leafed, backed, entered}
-use Rattle.decoding.proofs.Bounds.{all-cons, all-part, head-below, tail-below}
+use Rattle.decoding.proofs.Bounds.{all-part, head-below, tail-below}
 use Rattle.decoding.proofs.Lengths.{length-tail}
 use Rattle.decoding.proofs.Turns.{Next, next-of, Step, closes, rises, leafs, backs, enters, finishes, halts, step, turn-close, turn-up, turn-star, turn-back, turn-tree, turn-done}
 
@@ -66,12 +67,12 @@ module _ (s : Machine) (k : Held s) where
     pub held-back : l ≢ star → Held (backed s l bs ls)
     held-back h = record {
       bits-low = all-part 2 (c ∷ bs) c bs refl rest-low .1; labels-low = labels-rest; ups-low = k .ups-low;
-      seconds-low = all-cons 2 l (s .seconds) (label-rest h) (k .seconds-low); label-low = omega arith;
+      seconds-low = below-cons 2 l (s .seconds) (label-rest h) (k .seconds-low); label-low = omega arith;
       ups-match = k .ups-match; seconds-match = ap suc (k .seconds-match) }
 
     pub held-tree : l ≢ star → Held (entered s l (c ∷ bs) ls)
     held-tree h = record {
-      bits-low = rest-low; labels-low = labels-rest; ups-low = all-cons 2 l (s .ups) (label-rest h) (k .ups-low);
+      bits-low = rest-low; labels-low = labels-rest; ups-low = below-cons 2 l (s .ups) (label-rest h) (k .ups-low);
       seconds-low = k .seconds-low; label-low = omega arith; ups-match = ap suc (k .ups-match); seconds-match = k .seconds-match }
 
 pub starts-held : (bits labels : List ℕ) → allBelow 2 bits ≡ true → allBelow 3 labels ≡ true → Held (start bits labels)

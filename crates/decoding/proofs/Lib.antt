@@ -1,4 +1,3 @@
-pub mod Counts
 pub mod Validity
 pub mod Bounds
 pub mod Nesting

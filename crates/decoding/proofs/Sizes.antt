@@ -13,10 +13,11 @@ use lib.Dec.{eqb}
 use lib.ListN.{length}
 use Rattle.model.specs.Numbers.{allBelow}
 use Rattle.model.specs.Traversal.{Letter}
-use Rattle.words.specs.Word.{valid, wordLabels, wordBits}
 use Rattle.model.specs.Record.{labelBase}
-use Rattle.decoding.proofs.Validity.{valid-nested, valid-plain}
-use Rattle.decoding.proofs.Bounds.{all-more, labels-below, labels-plain}
+use Rattle.model.proofs.Below.{below-mono}
+use Rattle.words.specs.Word.{valid, wordLabels, wordBits}
+use Rattle.words.proofs.Validity.{valid-nested, valid-plain}
+use Rattle.decoding.proofs.Bounds.{labels-below, labels-plain}
 use Rattle.decoding.proofs.Lengths.{bits-count, letters-count}
 
 -- ---- the bound of a kind
@@ -26,7 +27,7 @@ unfolding labelBase
 bound-three k labels h = go (eqb k 1) h
   where
     go : (b : Bool) → allBelow (cond b 2 3) labels ≡ true → allBelow 3 labels ≡ true
-    go true e = all-more 2 3 labels (omega arith) e
+    go true e = below-mono 2 3 (omega arith) labels e
     go false e = e
 
 pub bound-two : (k : ℕ) (labels : List ℕ) → allBelow (labelBase k) labels ≡ true → eqb k 1 ≡ true → allBelow 2 labels ≡ true

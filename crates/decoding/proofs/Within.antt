@@ -14,9 +14,10 @@ use mathlib.Core.List.{List, _∷_}
 use lib.ListN.{length}
 use Rattle.model.specs.Numbers.{allBelow}
 use Rattle.model.specs.Traversal.{Letter}
+use Rattle.model.proofs.Below.{below-cons, below-mono}
 use Rattle.words.specs.Word.{Machine, done, stuck, goes, turn, start}
 use Rattle.decoding.specs.Reading.{closed, risen, leafed, backed, entered}
-use Rattle.decoding.proofs.Bounds.{all-cons, all-part, all-more}
+use Rattle.decoding.proofs.Bounds.{all-part}
 use Rattle.decoding.proofs.Turns.{Next, next-of, Step, closes, rises, leafs, backs, enters, finishes, halts, step, turn-close, turn-up, turn-star, turn-back, turn-tree, turn-done}
 
 pub record Within (m : ℕ) (s : Machine) : Type 0 where
@@ -44,7 +45,7 @@ module _ (m : ℕ) (s : Machine) (i : Within m s) where
       record { here-in = p .0; below-in = p .1; opens-in = i .opens-in; vertices = i .vertices; open-edges = omega arith }
 
   one-more : (xs : List ℕ) → allBelow (s .n) xs ≡ true → allBelow (suc (s .n)) xs ≡ true
-  one-more xs h = all-more (s .n) (suc (s .n)) xs (omega arith) h
+  one-more xs h = below-mono (s .n) (suc (s .n)) (omega arith) xs h
 
   module _ (l : ℕ) (bs ls : List ℕ) (e : s .labels ≡ l ∷ ls) where
     pub within-star : (c : ℕ) → Within m (leafed s c bs ls)
@@ -58,7 +59,7 @@ module _ (m : ℕ) (s : Machine) (i : Within m s) where
     within-back =
         let k = ap length e in let j = i .open-edges in let n = i .vertices in
         record {
-          here-in = i .here-in; below-in = i .below-in; opens-in = all-cons (s .n) (s .here) (s .opens) (i .here-in) (i .opens-in);
+          here-in = i .here-in; below-in = i .below-in; opens-in = below-cons (s .n) (s .here) (s .opens) (i .here-in) (i .opens-in);
           vertices = omega arith; open-edges = omega arith }
 
     pub within-tree : Within m (entered s l bs ls)
@@ -66,7 +67,7 @@ module _ (m : ℕ) (s : Machine) (i : Within m s) where
         let k = ap length e in let j = i .open-edges in let n = i .vertices in
         record {
           here-in = lt-suc-self (s .n);
-          below-in = all-cons (suc (s .n)) (s .here) (s .below) (le-step (i .here-in)) (one-more (s .below) (i .below-in));
+          below-in = below-cons (suc (s .n)) (s .here) (s .below) (le-step (i .here-in)) (one-more (s .below) (i .below-in));
           opens-in = one-more (s .opens) (i .opens-in); vertices = omega arith; open-edges = omega arith }
 
   pub turn-within : (ls : List Letter) (t : Machine) → turn s ≡ goes ls t → Within m t

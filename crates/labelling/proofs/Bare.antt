@@ -1,6 +1,5 @@
 -- Vertices of degree one: their down stands right before their up.
 --
---   isDown l           the letter l is down
 --   afterDown p i      the letter before position i is down
 --   bare-down          the vertex that a down enters has degree one just where an up comes next
 --   bare-up            the vertex that an up leaves has degree one just where a down comes before
@@ -11,30 +10,15 @@ use mathlib.Core.Bool.{Bool, true, false, false≢true}
 use mathlib.Core.List.{List, _∷_}
 use lib.ListN.{drop}
 use borrow.Author.Tests.{eqb-true, eq-eqb}
-use Rattle.model.specs.Map.{Plan, darts, opposite, next, degreeOne, dartCountFits}
-use Rattle.model.specs.Traversal.{Letter, down, up, first, second, opens, onward, word}
+use Rattle.model.specs.Map.{Plan, darts, opposite, degreeOne, dartCountFits}
+use Rattle.model.specs.Traversal.{Letter, down, up, first, second, opens, word}
+use Rattle.model.proofs.Booleans.{bool-ext}
 use Rattle.words.specs.Word.{startsUp}
-use Rattle.words.specs.Toured.{Toured, Bracketed, dartAt, letterOf, mateOf, isTree}
-use Rattle.orbits.proofs.Order.{le-split}
-use Rattle.labelling.proofs.Mates.{mate-bound, dart-mate, mate-back, mate-letter, dart-inj, closes-later}
-use Rattle.labelling.proofs.Lit.{drop-word}
-
-bool-ext : (a b : Bool) → (a ≡ true → b ≡ true) → (b ≡ true → a ≡ true) → a ≡ b
-bool-ext true b f g = sym (f refl)
-bool-ext false true f g = g refl
-bool-ext false false f g = refl
-
-abbrev pub isDown : Letter → Bool
-isDown down = true
-isDown up = false
-isDown first = false
-isDown second = false
-
-is-down : (l : Letter) → isDown l ≡ true → l ≡ down
-is-down down e = refl
-is-down up e = absurd (false≢true e)
-is-down first e = absurd (false≢true e)
-is-down second e = absurd (false≢true e)
+use Rattle.words.specs.Toured.{Toured, Bracketed, dartAt, letterOf, mateOf}
+use Rattle.words.specs.Entered.{isDown}
+use Rattle.words.proofs.Letters.{is-down}
+use Rattle.words.proofs.Positions.{mate-bound, mate-dart, mate-back, mate-letter, dart-inj, word-left}
+use Rattle.words.proofs.Leaves.{down-step, leaf-mate, leaf-own}
 
 unfoldable pub afterDown : Plan → ℕ → Bool
 afterDown p zero = false
@@ -55,44 +39,32 @@ module _ (p : Plan) (toured : Toured p) (bracketed : Bracketed p) (fits : dartCo
   room : (i : ℕ) → i < darts p → letterOf p i ≡ down → suc i < darts p
   room i h e = let a = later i h e in let b = mate-bound p toured fits i h in omega arith
 
-  -- an up right after a down is its mate
-  up-next : (i : ℕ) → suc i < darts p → letterOf p i ≡ down → letterOf p (suc i) ≡ up → mateOf p i ≡ suc i
-  up-next i h e f =
-      le-split (later i (omega arith) e) sym
-      (λ l. let a = bracketed .trees i (suc i) (omega arith) e (omega arith) l (ap isTree f) in
-        let b = closes-later p toured fits (suc i) h (ap opens f) in absurd (omega arith))
-
-  -- so the vertex has one dart, and only so
-  after-down : (i : ℕ) → suc i < darts p → letterOf p i ≡ down → next (p .rotation) (opposite (dartAt p i)) ≡ dartAt p (suc i)
-  unfolding onward
-  after-down i h e = sym (toured .step i h ∙ ap (λ (l : Letter). onward (p .rotation) l (dartAt p i)) e)
-
   alone : (i : ℕ) → i < darts p → letterOf p i ≡ down → mateOf p i ≡ suc i → degreeOne (p .rotation) (opposite (dartAt p i)) ≡ true
   unfolding degreeOne
-  alone i h e m = eq-eqb _ _ (after-down i (room i h e) e ∙ ap (dartAt p) (sym m) ∙ dart-mate p toured fits i h)
+  alone i h e m = eq-eqb _ _ (leaf-own p toured fits i (room i h e) e m)
 
   lone : (i : ℕ) → i < darts p → letterOf p i ≡ down → degreeOne (p .rotation) (opposite (dartAt p i)) ≡ true → mateOf p i ≡ suc i
   unfolding degreeOne
   lone i h e t =
-      dart-inj p toured fits (mateOf p i) (suc i) (mate-bound p toured fits i h) (room i h e)
-      (dart-mate p toured fits i h ∙ sym (eqb-true _ _ t) ∙ after-down i (room i h e) e)
+      dart-inj p toured (mateOf p i) (suc i) (mate-bound p toured fits i h) (room i h e)
+      (mate-dart p toured fits i h ∙ sym (eqb-true _ _ t) ∙ down-step p toured i (room i h e) e)
 
   pub bare-down : (i : ℕ) → i < darts p → letterOf p i ≡ down → degreeOne (p .rotation) (opposite (dartAt p i)) ≡ startsUp (drop (suc i) (word p))
   unfolding startsUp
   bare-down i h e =
       let r = room i h e in
-      let starts = ap startsUp (drop-word p toured (suc i) r) in
+      let starts = ap startsUp (word-left p toured (suc i) r) in
       bool-ext _ _
       (λ t. starts ∙ ap (λ (l : Letter). startsUp (l ∷ drop (suc (suc i)) (word p)))
-        (ap (letterOf p) (sym (lone i h e t)) ∙ mate-letter p toured fits i h down e))
-      (λ t. alone i h e (up-next i r e (starts-up (letterOf p (suc i)) (drop (suc (suc i)) (word p)) (sym starts ∙ t))))
+        (ap (letterOf p) (sym (lone i h e t)) ∙ mate-letter p toured i h down e))
+      (λ t. alone i h e (leaf-mate p toured fits bracketed i r e (starts-up (letterOf p (suc i)) (drop (suc (suc i)) (word p)) (sym starts ∙ t))))
 
   -- the down right before an up is its mate
   down-before : (i : ℕ) → i < darts p → letterOf p i ≡ up → afterDown p i ≡ true → mateOf p (mateOf p i) ≡ suc (mateOf p i)
   unfolding afterDown
   down-before zero h e t = absurd (false≢true t)
   down-before (suc i) h e t =
-      let m = up-next i h (is-down (letterOf p i) t) e in
+      let m = leaf-mate p toured fits bracketed i h (is-down (letterOf p i) t) e in
       let back : mateOf p (suc i) ≡ i = ap (mateOf p) (sym m) ∙ mate-back p toured fits i (omega arith) in
       ap (mateOf p) back ∙ m ∙ ap suc (sym back)
 
@@ -101,9 +73,9 @@ module _ (p : Plan) (toured : Toured p) (bracketed : Bracketed p) (fits : dartCo
   bare-up i h e =
       let a = mateOf p i in
       let ha = mate-bound p toured fits i h in
-      let ea = mate-letter p toured fits i h up e in
+      let ea = mate-letter p toured i h up e in
       let back = mate-back p toured fits i h in
-      let here : opposite (dartAt p a) ≡ dartAt p i = sym (dart-mate p toured fits a ha) ∙ ap (dartAt p) back in
+      let here : opposite (dartAt p a) ≡ dartAt p i = sym (mate-dart p toured fits a ha) ∙ ap (dartAt p) back in
       bool-ext _ _
       (λ t. let m = lone a ha ea (ap (degreeOne (p .rotation)) here ∙ t) in
         ap (afterDown p) (sym back ∙ m) ∙ ap isDown ea)

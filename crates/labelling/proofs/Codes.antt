@@ -1,8 +1,5 @@
--- The codes of the letters, dart by dart, and what a visit holds.
+-- The codes of the letters, dart by dart.
 --
---   no-visit           the visit that stands for none
---   visit-dart         the dart of the visit at position i
---   visit-letter       its letter
 --   code-at            the code of the dart at position i is that of its letter
 use Prim.Native.Nat.{ℕ, zero, suc, _<_}
 use native.Mathlib.Nat.{not-suc-le-zero, le-of-suc-le-suc}
@@ -10,26 +7,16 @@ use native.Mathlib.Omega.{arith}
 use mathlib.Core.Path.{_≡_, refl, sym, ap, _∙_}
 use mathlib.Core.Logic.{_≢_}
 use mathlib.Core.List.{List, [], _∷_}
-use lib.ListN.{length, getD, set, replicate, length-set, length-replicate, List·getD-map}
+use lib.ListN.{length, getD, set, replicate, length-set, length-replicate}
 use lib.Seq.{getD-set-same, getD-set-other}
 use Rattle.model.specs.Map.{Plan, darts}
-use Rattle.model.specs.Traversal.{second, code, Visit, visits, word}
+use Rattle.model.specs.Traversal.{code, Visit, visits}
 use Rattle.model.specs.LabelledTree.{codesOf, codes}
-use Rattle.words.specs.Toured.{Toured, dartsMet, dartAt, letterOf, posOf}
-
-abbrev pub no-visit : Visit
-no-visit = record { dart = 0; letter = second }
+use Rattle.words.specs.Toured.{Toured, dartAt, letterOf}
+use Rattle.words.proofs.Positions.{no-visit, visit-dart, visit-letter, dart-inj}
 
 abbrev visitAt : List Visit → ℕ → Visit
 visitAt vs i = getD vs i no-visit
-
-pub visit-dart : (p : Plan) (i : ℕ) → getD (visits p) i no-visit .dart ≡ dartAt p i
-unfolding dartAt dartsMet
-visit-dart p i = sym (List·getD-map (λ (v : Visit). v .dart) (visits p) i no-visit)
-
-pub visit-letter : (p : Plan) (i : ℕ) → getD (visits p) i no-visit .letter ≡ letterOf p i
-unfolding letterOf word
-visit-letter p i = sym (List·getD-map (λ (v : Visit). v .letter) (visits p) i no-visit)
 
 -- what is not visited stays
 codes-other : (vs : List Visit) (met : List ℕ) (d : ℕ) → ((k : ℕ) → k < length vs → visitAt vs k .dart ≢ d)
@@ -58,7 +45,7 @@ codes-visited (v ∷ vs) met (suc k) h l inj =
 different : (p : Plan) → Toured p → Different (visits p)
 different p toured a b ha hb e =
     let all = toured .all-met in
-    sym (toured .pos-dart a (omega arith)) ∙ ap (posOf p) (sym (visit-dart p a) ∙ e ∙ visit-dart p b) ∙ toured .pos-dart b (omega arith)
+    dart-inj p toured a b (omega arith) (omega arith) (sym (visit-dart p a) ∙ e ∙ visit-dart p b)
 
 pub code-at : (p : Plan) (toured : Toured p) (i : ℕ) → i < darts p → getD (codes p) (dartAt p i) 0 ≡ code (letterOf p i)
 unfolding codes

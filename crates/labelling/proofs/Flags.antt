@@ -18,8 +18,9 @@ use Rattle.model.specs.Map.{Plan, darts, dartCountFits}
 use Rattle.model.specs.Traversal.{Letter, down, up, first, second, opens, word}
 use Rattle.words.specs.Word.{Ends, ends, endsOne, startsSecond, head, tail}
 use Rattle.words.specs.Toured.{Toured, Bracketed, letterOf, mateOf, fellow, isTree}
-use Rattle.labelling.proofs.Mates.{mate-bound, mate-back, closes-later}
-use Rattle.labelling.proofs.Lit.{drop-word, startsAt}
+use Rattle.words.proofs.Positions.{mate-bound, mate-back, mate-before, word-left}
+use Rattle.words.proofs.Letters.{tree-fellow}
+use Rattle.labelling.proofs.Lit.{startsAt}
 use Rattle.labelling.proofs.Waiting.{Waiting, waits-mate}
 
 abbrev pub ofSort : Bool → Letter → Bool
@@ -33,14 +34,8 @@ waits false r = r .seconds
 -- ---- one letter
 
 fellow-sort : (b : Bool) (l : Letter) → ofSort b (fellow l) ≡ ofSort b l
-fellow-sort true down = refl
-fellow-sort true up = refl
-fellow-sort true first = refl
-fellow-sort true second = refl
-fellow-sort false down = refl
-fellow-sort false up = refl
-fellow-sort false first = refl
-fellow-sort false second = refl
+fellow-sort true l = tree-fellow l
+fellow-sort false l = ap not (tree-fellow l)
 
 -- a letter of the other sort leaves what waits
 waits-skip : (b : Bool) (l : Letter) (w : List Letter) (r : Ends) → ofSort b l ≡ false → waits b (endsOne l w r) ≡ waits b r
@@ -76,7 +71,7 @@ endsFrom p i = ends (drop i (word p))
 module _ (p : Plan) (toured : Toured p) where
   pub ends-at : (i : ℕ) → i < darts p → endsFrom p i ≡ endsOne (letterOf p i) (drop (suc i) (word p)) (endsFrom p (suc i))
   unfolding ends
-  ends-at i h = ap ends (drop-word p toured i h)
+  ends-at i h = ap ends (word-left p toured i h)
 
   module _ (bracketed : Bracketed p) (fits : dartCountFits (darts p) ≡ true) where
     sort-nested : (b : Bool) (i x : ℕ) → i < darts p → ofSort b (letterOf p i) ≡ true → i < x → x < mateOf p i → ofSort b (letterOf p x) ≡ true
@@ -86,18 +81,18 @@ module _ (p : Plan) (toured : Toured p) where
         go : (b : Bool) (a : Letter) → letterOf p i ≡ a → ofSort b a ≡ true → ofSort b (letterOf p x) ≡ true
             → (i < mateOf p x) × (mateOf p x < mateOf p i)
         go true down e t tx = bracketed .trees i x h e l u tx
-        go true up e t tx = let z = closes-later p toured fits i h (ap opens e) in absurd (omega arith)
+        go true up e t tx = let z = mate-before p toured fits i h (ap opens e) in absurd (omega arith)
         go true first e t tx = absurd (false≢true t)
         go true second e t tx = absurd (false≢true t)
         go false down e t tx = absurd (false≢true t)
         go false up e t tx = absurd (false≢true t)
         go false first e t tx = bracketed .chords i x h e l u (not-true _ tx)
-        go false second e t tx = let z = closes-later p toured fits i h (ap opens e) in absurd (omega arith)
+        go false second e t tx = let z = mate-before p toured fits i h (ap opens e) in absurd (omega arith)
 
     -- the letter of an opener or of an ender says on which side its mate is
     side : (i : ℕ) (A B : Type 0) → i < darts p → ((opens (letterOf p i) ≡ true) × A) ⊎ ((opens (letterOf p i) ≡ false) × B)
         → ((i < mateOf p i) × A) ⊎ ((mateOf p i < i) × B)
-    side i A B h = ⊎-elim (λ z. inl (toured .opens-first i h (z .0), z .1)) (λ z. inr (closes-later p toured fits i h (z .0), z .1))
+    side i A B h = ⊎-elim (λ z. inl (toured .opens-first i h (z .0), z .1)) (λ z. inr (mate-before p toured fits i h (z .0), z .1))
 
     waiting : (b : Bool) → Waiting (darts p) (mateOf p) (λ i. ofSort b (letterOf p i)) (λ j. startsAt p (suc j)) (λ i. waits b (endsFrom p i))
     unfolding startsAt

@@ -8,11 +8,11 @@
 --   end-bound, end-letter      where the cut edge of a leaf ends
 --   marked-up, marked-second   step 1 at a leaf: its cut edge ends right after an up, or right after a second
 --   marked-removed     steps 2 and 3
-use Prim.Native.Nat.{ℕ, suc, _-_, _/_, _≤_, _<_}
+use Prim.Native.Nat.{ℕ, suc, _/_, _≤_, _<_}
 use native.Mathlib.Nat.{not-suc-le-zero, suc-inj}
 use native.Mathlib.Omega.{arith}
 use mathlib.Core.Path.{_≡_, sym, ap, _∙_, subst}
-use mathlib.Core.Logic.{_⊎_, ⊎-elim, _≢_}
+use mathlib.Core.Logic.{⊎-elim, _≢_}
 use mathlib.Core.Bool.{true, false, true≢false}
 use mathlib.Core.List.{List}
 use lib.ListN.{length, getD, set, length-set, length-replicate, getD-replicate}
@@ -20,9 +20,10 @@ use lib.Seq.{getD-set-same, getD-set-other}
 use Rattle.model.specs.Map.{Plan, darts, edges, dartCountFits}
 use Rattle.model.specs.Traversal.{Letter, up, first, second, code, opens}
 use Rattle.model.specs.LabelledTree.{Labels, unlabelled, removeCut}
-use Rattle.words.specs.Toured.{Toured, dartAt, letterOf, mateOf}
 use Rattle.orbits.proofs.Order.{eq-split, lt-suc-split}
-use Rattle.labelling.proofs.Mates.{fellow-opens, apart, mate-bound, mate-back, mate-letter, edge-inj, edge-bound}
+use Rattle.words.specs.Toured.{Toured, dartAt, letterOf, mateOf}
+use Rattle.words.proofs.Letters.{fellow-opens, apart}
+use Rattle.words.proofs.Positions.{mate-bound, mate-back, mate-letter, edge-inj, edge-bound}
 use Rattle.labelling.proofs.Lit.{lit, lit-start, lit-same, lit-now}
 
 -- the edge of the dart at position j
@@ -78,7 +79,7 @@ module _ (p : Plan) (toured : Toured p) (fits : dartCountFits (darts p) ≡ true
   pub marked-other : (i : ℕ) (s : Labels) → i < darts p → letterOf p i ≢ first → Marked p i i s → Marked p (suc i) (suc i) s
   marked-other i s h n m =
       let from : (j : ℕ) → j < darts p → letterOf p j ≡ second → mateOf p j ≢ i = λ j hj e q.
-        n (ap (letterOf p) (sym q) ∙ mate-letter p toured fits j hj second e) in
+        n (ap (letterOf p) (sym q) ∙ mate-letter p toured j hj second e) in
       let same : (j : ℕ) → lit p i j ≡ lit p (suc i) j = λ j. lit-same p toured i j (λ hj e. from (suc j) hj e) in
       record {
     tree-size = m .tree-size;
@@ -95,7 +96,7 @@ module _ (p : Plan) (toured : Toured p) (fits : dartCountFits (darts p) ≡ true
     end-bound = subst (λ (x : ℕ). x < darts p) b (mate-bound p toured fits i h)
 
     pub end-letter : letterOf p (suc a) ≡ second
-    end-letter = ap (letterOf p) (sym b) ∙ mate-letter p toured fits i h first f
+    end-letter = ap (letterOf p) (sym b) ∙ mate-letter p toured i h first f
 
     end-mate : mateOf p (suc a) ≡ i
     end-mate = ap (mateOf p) (sym b) ∙ mate-back p toured fits i h

@@ -1,6 +1,3 @@
-pub mod Entries
-pub mod Opposite
-pub mod Mates
 pub mod Codes
 pub mod Lit
 pub mod Leaves

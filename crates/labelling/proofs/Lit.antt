@@ -1,7 +1,5 @@
 -- Where a second stands, and the label that an edge has when the leaves before a position are taken.
 --
---   word-length        there are as many letters as darts
---   drop-word          the word from position k on begins with the letter there
 --   startsAt p k       1 if a second stands at position k, else 0
 --   Starts p k, starts-cases   which it is
 --   lit p i j          1 if a second stands right after position j and its first stands before i, else 0
@@ -16,22 +14,14 @@ use mathlib.Core.Logic.{_⊎_, inl, inr, ⊎-elim}
 use mathlib.Core.Bool.{Bool, true, false, cond}
 use mathlib.Core.List.{List, _∷_}
 use lib.Dec.{ltb}
-use lib.ListN.{length, drop, length-map, drop-of-length-le}
-use lib.Seq.{drop-cons}
+use lib.ListN.{drop, drop-of-length-le}
 use borrow.Author.Tests.{lt-ltb, le-ltb}
 use Rattle.model.specs.Map.{Plan, darts}
-use Rattle.model.specs.Traversal.{Letter, down, up, first, second, Visit, visits, word}
+use Rattle.model.specs.Traversal.{Letter, down, up, first, second, word}
+use Rattle.orbits.proofs.Order.{lt-or-le, tri}
 use Rattle.words.specs.Word.{startsSecond}
 use Rattle.words.specs.Toured.{Toured, letterOf, mateOf}
-use Rattle.orbits.proofs.Order.{lt-or-le, tri}
-
-pub word-length : (p : Plan) → Toured p → length (word p) ≡ darts p
-unfolding word
-word-length p toured = length-map (visits p) (λ (v : Visit). v .letter) ∙ toured .all-met
-
-pub drop-word : (p : Plan) → Toured p → (k : ℕ) → k < darts p → drop k (word p) ≡ letterOf p k ∷ drop (suc k) (word p)
-unfolding letterOf
-drop-word p toured k h = let e = word-length p toured in drop-cons (word p) k second (omega arith)
+use Rattle.words.proofs.Positions.{word-length, word-left}
 
 unfoldable pub startsAt : Plan → ℕ → ℕ
 startsAt p k = startsSecond (drop k (word p))
@@ -49,7 +39,7 @@ starts-letter second w = inr (refl, refl)
 pub starts-cases : (p : Plan) → Toured p → (k : ℕ) → Starts p k
 unfolding startsAt startsSecond
 starts-cases p toured k = lt-or-le k (darts p)
-    (λ h. let e = ap startsSecond (drop-word p toured k h) in
+    (λ h. let e = ap startsSecond (word-left p toured k h) in
       ⊎-elim (λ z. inl (e ∙ z)) (λ z. inr (h, z .0, e ∙ z .1)) (starts-letter (letterOf p k) (drop (suc k) (word p))))
     (λ h. let e = word-length p toured in inl (ap startsSecond (drop-of-length-le (word p) {i = k} (omega arith))))
 
@@ -89,7 +79,7 @@ lit-same p toured i j n =
 
 pub lit-now : (p : Plan) → Toured p → (i j : ℕ) → suc j < darts p → letterOf p (suc j) ≡ second → mateOf p (suc j) ≡ i → lit p (suc i) j ≡ 1
 unfolding startsAt startsSecond
-lit-now p toured i j h e m = lit-in p (suc i) j (omega arith) ∙ ap startsSecond (drop-word p toured (suc j) h) ∙ rw e
+lit-now p toured i j h e m = lit-in p (suc i) j (omega arith) ∙ ap startsSecond (word-left p toured (suc j) h) ∙ rw e
 
 pub lit-end : (p : Plan) → Toured p → ((i : ℕ) → i < darts p → mateOf p i < darts p) → (j : ℕ) → lit p (darts p) j ≡ startsAt p (suc j)
 lit-end p toured bound j =

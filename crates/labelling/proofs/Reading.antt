@@ -3,7 +3,7 @@
 --
 --   labels-read, bits-read     if the letter right before a second is always up or second
 --   tree-labels, tree-bits     if the plan has no loop
-use Prim.Native.Nat.{ℕ, zero, suc, _+_, _<_}
+use Prim.Native.Nat.{ℕ, suc, _<_}
 use native.Mathlib.Omega.{arith}
 use mathlib.Core.Path.{_≡_, refl, sym, ap, ap₂, _∙_}
 use mathlib.Core.Logic.{_⊎_}
@@ -15,13 +15,15 @@ use Rattle.model.specs.Numbers.{isPermutation}
 use Rattle.model.specs.Map.{Plan, darts, hasLoop, dartCountFits}
 use Rattle.model.specs.Traversal.{Letter, down, up, first, second, opens, visits, word}
 use Rattle.model.specs.LabelledTree.{star, treeLabels, labelOf, bitsOf, along, labels, treeBits}
+use Rattle.orbits.proofs.Order.{from-end}
 use Rattle.words.specs.Word.{Ends, ends, endsOne, wordLabels, wordBits}
 use Rattle.words.specs.Toured.{Toured, Bracketed, dartAt, letterOf, isTree}
-use Rattle.labelling.proofs.Codes.{no-visit, visit-dart, visit-letter}
-use Rattle.labelling.proofs.Lit.{word-length, drop-word, startsAt}
+use Rattle.words.specs.Entered.{isDown}
+use Rattle.words.proofs.Positions.{no-visit, visit-dart, visit-letter, word-left, word-end}
+use Rattle.labelling.proofs.Lit.{startsAt}
 use Rattle.labelling.proofs.Taking.{label-ends, label-opens}
 use Rattle.labelling.proofs.Flags.{ofSort, endsFrom, ends-at, waits-head}
-use Rattle.labelling.proofs.Bare.{isDown, afterDown, bare-down, bare-up}
+use Rattle.labelling.proofs.Bare.{afterDown, bare-down, bare-up}
 use Rattle.labelling.proofs.Seconds.{after-up-only}
 
 module _ (p : Plan) (toured : Toured p) (bracketed : Bracketed p) (fits : dartCountFits (darts p) ≡ true)
@@ -40,8 +42,12 @@ module _ (p : Plan) (toured : Toured p) (bracketed : Bracketed p) (fits : dartCo
   unfolding along
   along-end f i e = let len = toured .all-met in let q : i ≡ length (visits p) = omega arith in rw (q, drop-length)
 
-  word-end : (i : ℕ) → i ≡ darts p → drop i (word p) ≡ []
-  word-end i e = let len = word-length p toured in let q : i ≡ length (word p) = omega arith in rw (q, drop-length)
+  -- what f gives along the traversal, read from the end
+  along-read : (f : Letter → ℕ → List ℕ) (g : ℕ → List ℕ) → g (darts p) ≡ []
+      → ((i : ℕ) → i < darts p → f (letterOf p i) (dartAt p i) ++ g (suc i) ≡ g i) → along f (visits p) ≡ g 0
+  along-read f g end step =
+      from-end (λ i. along f (drop i (visits p)) ≡ g i) (darts p) (along-end f (darts p) refl ∙ sym end)
+      (λ i h r. along-at f i h ∙ ap (λ (xs : List ℕ). f (letterOf p i) (dartAt p i) ++ xs) r ∙ step i h) 0 (omega arith)
 
   module _ (after : (j : ℕ) → suc j < darts p → letterOf p (suc j) ≡ second → (letterOf p j ≡ up) ⊎ (letterOf p j ≡ second)) where
     -- ---- the labels
@@ -61,21 +67,11 @@ module _ (p : Plan) (toured : Toured p) (bracketed : Bracketed p) (fits : dartCo
           ∙ sym (waits-head p toured bracketed fits false i h (ap (ofSort false) e) (ap opens e)))
     label-one i h second e = refl
 
-    -- the k positions from i on
-    labels-from : (k i : ℕ) → i + k ≡ darts p → along (labelOf (p .rotation) (treeLabels p)) (drop i (visits p)) ≡ endsFrom p i .labels
-    unfolding ends
-    labels-from zero i e =
-        along-end (labelOf (p .rotation) (treeLabels p)) i (omega arith) ∙ sym (ap (λ (w : List Letter). ends w .labels) (word-end i (omega arith)))
-    labels-from (suc k) i e =
-        let h : i < darts p = omega arith in
-        along-at (labelOf (p .rotation) (treeLabels p)) i h
-        ∙ ap (λ (xs : List ℕ). labelOf (p .rotation) (treeLabels p) (letterOf p i) (dartAt p i) ++ xs) (labels-from k (suc i) (omega arith))
-        ∙ label-one i h (letterOf p i) refl
-        ∙ sym (ap (λ (r : Ends). r .labels) (ends-at p toured i h))
-
     pub labels-read : labels p ≡ wordLabels (word p)
-    unfolding labels wordLabels
-    labels-read = labels-from (darts p) 0 (omega arith)
+    unfolding labels wordLabels ends
+    labels-read = along-read (labelOf (p .rotation) (treeLabels p)) (λ i. endsFrom p i .labels)
+        (ap (λ (w : List Letter). ends w .labels) (word-end p toured))
+        (λ i h. label-one i h (letterOf p i) refl ∙ sym (ap (λ (r : Ends). r .labels) (ends-at p toured i h)))
 
     -- ---- the tree bits
 
@@ -90,21 +86,11 @@ module _ (p : Plan) (toured : Toured p) (bracketed : Bracketed p) (fits : dartCo
     bits-one i h first e = refl
     bits-one i h second e = refl
 
-    bits-from : (k i : ℕ) → i + k ≡ darts p
-        → along (bitsOf (p .rotation) (treeLabels p)) (drop i (visits p)) ≡ wordBits (afterDown p i) (drop i (word p))
-    unfolding wordBits afterDown
-    bits-from zero i e =
-        along-end (bitsOf (p .rotation) (treeLabels p)) i (omega arith) ∙ sym (ap (wordBits (afterDown p i)) (word-end i (omega arith)))
-    bits-from (suc k) i e =
-        let h : i < darts p = omega arith in
-        along-at (bitsOf (p .rotation) (treeLabels p)) i h
-        ∙ ap (λ (xs : List ℕ). bitsOf (p .rotation) (treeLabels p) (letterOf p i) (dartAt p i) ++ xs) (bits-from k (suc i) (omega arith))
-        ∙ bits-one i h (letterOf p i) refl
-        ∙ sym (ap (wordBits (afterDown p i)) (drop-word p toured i h))
-
     pub bits-read : treeBits p ≡ wordBits false (word p)
-    unfolding treeBits afterDown
-    bits-read = bits-from (darts p) 0 (omega arith)
+    unfolding treeBits wordBits afterDown
+    bits-read = along-read (bitsOf (p .rotation) (treeLabels p)) (λ i. wordBits (afterDown p i) (drop i (word p)))
+        (ap (wordBits (afterDown p (darts p))) (word-end p toured))
+        (λ i h. bits-one i h (letterOf p i) refl ∙ sym (ap (wordBits (afterDown p i)) (word-left p toured i h)))
 
   -- ---- plans without loops
 

@@ -6,7 +6,7 @@ use Prim.Native.Nat.{ℕ, zero, suc, _+_, _-_, _/_, _≤_, _<_}
 use native.Mathlib.Nat.{not-suc-le-zero}
 use native.Mathlib.Omega.{arith}
 use mathlib.Core.Path.{_≡_, refl, sym, ap, ap₂, _∙_, subst}
-use mathlib.Core.Logic.{_⊎_, ⊎-elim, _≢_}
+use mathlib.Core.Logic.{_⊎_, ⊎-elim}
 use mathlib.Core.Bool.{Bool, true, false, _&&_, true≢false}
 use mathlib.Core.List.{List}
 use lib.Dec.{eqb}
@@ -18,12 +18,13 @@ use Rattle.model.specs.Map.{Plan, darts, edges, opposite, next, dartCountFits}
 use Rattle.model.specs.Traversal.{Letter, down, up, first, second, code, opens, onward, visits}
 use Rattle.model.specs.LabelledTree.{Labels, codes, unlabelled, isUpper, gone, before, labelOne, removeCut}
 use Rattle.model.specs.LabelledTree.{takeLeaf, takeOne, takeLeaves, treeLabels}
-use Rattle.words.specs.Toured.{Toured, Bracketed, dartAt, letterOf, mateOf, isTree}
+use Rattle.model.proofs.Opposite.{opposite-edge}
 use Rattle.orbits.proofs.Order.{le-split}
-use Rattle.labelling.proofs.Entries.{position-next}
-use Rattle.labelling.proofs.Opposite.{opposite-edge, opposite-below}
-use Rattle.labelling.proofs.Mates.{fellow-ends, apart, even, mate-bound, dart-mate, mate-letter, edge-mate}
-use Rattle.labelling.proofs.Codes.{no-visit, visit-dart, visit-letter, code-at}
+use Rattle.orbits.proofs.Maps.{position-next}
+use Rattle.words.specs.Toured.{Toured, Bracketed, dartAt, letterOf, mateOf, isTree}
+use Rattle.words.proofs.Letters.{fellow-closes, apart}
+use Rattle.words.proofs.Positions.{mate-bound, mate-dart, mate-letter, edge-mate, no-visit, visit-dart, visit-letter, opposite-at}
+use Rattle.labelling.proofs.Codes.{code-at}
 use Rattle.labelling.proofs.Lit.{startsAt, lit, lit-end}
 use Rattle.labelling.proofs.Leaves.{edgeAt, lightTree, lightCut, Marked, marked-start, marked-other}
 use Rattle.labelling.proofs.Leaves.{end-bound, end-letter, marked-up, marked-second, marked-removed}
@@ -58,9 +59,6 @@ still-there cs s d e = go (isUpper cs d)
 -- ---- the place before a position
 
 module _ (p : Plan) (toured : Toured p) (fits : dartCountFits (darts p) ≡ true) (perm : isPermutation (p .rotation) ≡ true) where
-  opposite-bound : (i : ℕ) → i < darts p → opposite (dartAt p i) < darts p
-  opposite-bound i h = opposite-below (darts p) (dartAt p i) (even p toured fits) (toured .dart-bound i h)
-
   -- the place before a position is that from which the walk went on
   place : (a d : ℕ) → suc a < darts p → d < darts p → onward (p .rotation) (letterOf p a) (dartAt p a) ≡ next (p .rotation) d
       → position (dartAt p (suc a)) (p .rotation) ≡ d
@@ -68,7 +66,7 @@ module _ (p : Plan) (toured : Toured p) (fits : dartCountFits (darts p) ≡ true
 
   place-up : (a : ℕ) → suc a < darts p → letterOf p a ≡ up → position (dartAt p (suc a)) (p .rotation) ≡ opposite (dartAt p a)
   unfolding onward
-  place-up a h e = place a _ h (opposite-bound a (omega arith)) (ap (λ (l : Letter). onward (p .rotation) l (dartAt p a)) e)
+  place-up a h e = place a _ h (opposite-at p toured fits a (omega arith)) (ap (λ (l : Letter). onward (p .rotation) l (dartAt p a)) e)
 
   place-second : (a : ℕ) → suc a < darts p → letterOf p a ≡ second → position (dartAt p (suc a)) (p .rotation) ≡ dartAt p a
   unfolding onward
@@ -88,7 +86,7 @@ module _ (p : Plan) (toured : Toured p) (fits : dartCountFits (darts p) ≡ true
       → takeLeaf (p .rotation) (codes p) s (dartAt p i) ≡ removeCut (labelOne (codes p) s d) (edgeAt p (suc a))
   unfolding takeLeaf
   taken i a s d h b e g =
-      let there : opposite (dartAt p i) ≡ dartAt p (suc a) = sym (dart-mate p toured fits i h) ∙ ap (dartAt p) b in
+      let there : opposite (dartAt p i) ≡ dartAt p (suc a) = sym (mate-dart p toured fits i h) ∙ ap (dartAt p) b in
       let place : position (opposite (dartAt p i)) (p .rotation) ≡ d = ap (λ (x : ℕ). position x (p .rotation)) there ∙ e in
       let one = before-one (p .rotation) (codes p) s (darts p) (opposite (dartAt p i)) (omega arith) (ap (gone (codes p) s) place ∙ g) ∙ place in
       ap₂ (λ (x y : ℕ). removeCut (labelOne (codes p) s x) y) one (sym (edge-mate p toured fits i h) ∙ ap (edgeAt p) b)
@@ -100,8 +98,8 @@ module _ (p : Plan) (toured : Toured p) (fits : dartCountFits (darts p) ≡ true
         let end = end-bound p toured fits i a h f b in
         let ha : a < darts p = omega arith in
         let y = opposite (dartAt p a) in
-        let low : isUpper (codes p) y ≡ false = subst (λ (d : ℕ). isUpper (codes p) d ≡ false) (dart-mate p toured fits a ha)
-          (not-upper (mateOf p a) (mate-bound p toured fits a ha) (mate-letter p toured fits a ha up g)) in
+        let low : isUpper (codes p) y ≡ false = subst (λ (d : ℕ). isUpper (codes p) d ≡ false) (mate-dart p toured fits a ha)
+          (not-upper (mateOf p a) (mate-bound p toured fits a ha) (mate-letter p toured a ha up g)) in
         let light : labelOne (codes p) s y ≡ lightTree s (edgeAt p a) = light-tree (codes p) s y low ∙ ap (lightTree s) (opposite-edge (dartAt p a)) in
         let step = taken i a s y h b (place-up a end g) (not-gone (codes p) s y low) ∙ ap (λ (x : Labels). removeCut x (edgeAt p (suc a))) light in
         subst (Marked p (suc i) (suc i)) (sym step)
@@ -182,4 +180,4 @@ module _ (p : Plan) (toured : Toured p) (fits : dartCountFits (darts p) ≡ true
     pub label-opens : (i : ℕ) → i < darts p → opens (letterOf p i) ≡ true → getD (treeLabels p) (edgeAt p i) 0 ≡ startsAt p (suc (mateOf p i))
     label-opens i h o =
         ap (λ (e : ℕ). getD (treeLabels p) e 0) (sym (edge-mate p toured fits i h))
-        ∙ label-ends (mateOf p i) (mate-bound p toured fits i h) (ap opens (toured .fellows i h) ∙ fellow-ends (letterOf p i) o)
+        ∙ label-ends (mateOf p i) (mate-bound p toured fits i h) (ap opens (toured .fellows i h) ∙ fellow-closes (letterOf p i) o)

@@ -9,8 +9,8 @@ use mathlib.Core.Path.{_≡_, refl, sym, ap, _∙_}
 use mathlib.Core.Logic.{_⊎_, ⊎-elim}
 use mathlib.Core.Bool.{Bool, true, false, true≢false}
 use mathlib.Core.List.{List, _∷_}
-use Rattle.words.specs.Word.{tail}
 use Rattle.orbits.proofs.Order.{le-split, tri}
+use Rattle.words.specs.Word.{tail}
 
 pub record Waiting (N : ℕ) (μ : ℕ → ℕ) (mine : ℕ → Bool) (flag : ℕ → ℕ) (us : ℕ → List ℕ) : Type 0 where
   pub bound : (i : ℕ) → i < N → μ i < N

@@ -21,7 +21,7 @@ use Rattle.model.specs.Map.{Plan, darts, edges, isKind, dartCountFits, connecte
 use Rattle.model.specs.Record.{recordLength, recordOf}
 use Rattle.model.specs.Calls.{front, writeRefusal, writeAnswer, writtenOutput, numberOfWritten, lengthOfWritten}
 use Rattle.model.specs.Writings.{Writing, Honest, isAccepted, bytesWritten}
-use Rattle.renumbering.proofs.Fitness.{all-fit}
+use Rattle.model.proofs.Fitness.{parts-fit}
 
 -- ---- no refusal
 
@@ -60,14 +60,14 @@ not-refused k p w o e =
     let c₁₁ = passed 10 (hasLoop (p .rotation)) _ (c₁₀ .1) in
     let c₁₂ = passed 11 (degreeRefused k p) _ (c₁₁ .1) in
     record {
-      is-fit = all-fit k p (record {
+      is-fit = parts-fit k p (record {
         kind = not-false (isKind k) (c₂ .0);
-        dart-count = not-false (dartCountFits (darts p)) (c₃ .0);
-        root-in = ltb-true (p .root) (darts p) (not-false (ltb (p .root) (darts p)) (c₄ .0));
+        count = not-false (dartCountFits (darts p)) (c₃ .0);
+        root = ltb-true (p .root) (darts p) (not-false (ltb (p .root) (darts p)) (c₄ .0));
         entries = not-false (isPermutation (p .rotation)) (c₆ .0);
-        whole = not-false (connected (p .rotation)) (c₉ .0);
+        joined = not-false (connected (p .rotation)) (c₉ .0);
         flat = not-false (planar (p .rotation)) (c₁₀ .0);
-        no-loop = c₁₁ .0;
+        loopless = c₁₁ .0;
         degrees = c₁₂ .0;
       });
       room = ltb-false o (recordLength k (edges (p .rotation))) (c₈ .0);

@@ -4,55 +4,26 @@
 --   same-record           equal records: equal kinds and equal words
 --   word-renumbering      equal words: a renumbering
 --   renumbered-record     a renumbering: equal records
-use Prim.Native.Nat.{ℕ, _/_, _%_, _≤_, _<_}
+use Prim.Native.Nat.{ℕ, _/_}
 use native.Mathlib.Omega.{arith}
-use mathlib.Core.Path.{_≡_, refl, sym, ap, ap₂, subst, _∙_}
+use mathlib.Core.Path.{_≡_, sym, ap, ap₂, subst, _∙_}
 use mathlib.Core.Bool.{true, false}
-use mathlib.Core.List.{List, [], _∷_}
-use lib.Dec.{eqb, ltb}
-use lib.ListN.{length, set, replicate, length-set, length-replicate}
-use borrow.Author.Tests.{eqb-true, ltb-true, leb-true}
-use Rattle.model.specs.Map.{Plan, darts, edges, dartCountFits, fit}
+use mathlib.Core.List.{List}
+use lib.ListN.{length}
+use Rattle.model.specs.Map.{Plan, darts, edges, fit}
 use Rattle.model.specs.Traversal.{Letter, word, standardNumbers, standardPlan}
 use Rattle.model.specs.Record.{recordLength, layOut, recordOf}
 use Rattle.model.specs.Renumbering.{Renumbering}
-use Rattle.words.specs.Word.{wordBits, wordLabels, wordDarts, placeOf, link, head, rotationOf, planOf, found, decodeWord}
+use Rattle.model.proofs.Fitness.{fit-parts, count-parts}
+use Rattle.model.proofs.Standard.{standard-darts}
+use Rattle.words.specs.Word.{wordBits, wordLabels, planOf, found, decodeWord}
+use Rattle.words.proofs.Plans.{rotation-length}
+use Rattle.packing.specs.Unlay.{Laid}
 use Rattle.renumbering.specs.Isomorphism.{inverseOf, composed}
-use Rattle.renumbering.proofs.Permutations.{and-left, and-right}
-use Rattle.renumbering.proofs.Fitness.{fit-all}
 use Rattle.renumbering.proofs.Renumberings.{inverse, compose}
 use Rattle.renumbering.proofs.Walk.{carries-word}
-use Rattle.renumbering.proofs.Standard.{standard-darts}
-use Rattle.packing.specs.Unlay.{Laid}
 use Rattle.lists.specs.Coding.{Coding, OfFit}
 use Rattle.lists.proofs.Split.{Framed}
-
--- ---- sizes
-
-length-link : (w : List Letter) (xs out : List ℕ) → length (link w xs out) ≡ length out
-unfolding link
-length-link [] xs out = refl
-length-link (l ∷ w) [] out = refl
-length-link (l ∷ w) (x ∷ xs) out = length-link w xs (set out (placeOf l x) (head xs)) ∙ length-set out (placeOf l x) (head xs)
-
-word-darts : (w : List Letter) → darts (planOf w) ≡ length w
-unfolding planOf rotationOf
-word-darts w = length-link w (wordDarts 0 [] [] w) (replicate (length w) 0) ∙ length-replicate (length w) 0
-
-record Sizes (n : ℕ) : Type 0 where
-  two : n % 2 ≡ 0
-  some-dart : 0 < n
-  few-darts : n ≤ 8192
-
-sizes : (n : ℕ) → dartCountFits n ≡ true → Sizes n
-unfolding dartCountFits
-sizes n e =
-    let rest = and-right (ltb 0 n) _ e in
-    record {
-      two = eqb-true (n % 2) 0 (and-left (eqb (n % 2) 0) _ rest);
-      some-dart = ltb-true 0 n (and-left (ltb 0 n) _ e);
-      few-darts = leb-true n 8192 (and-right (eqb (n % 2) 0) _ rest);
-    }
 
 module _ (coding : Coding) where
   -- ---- one fit plan
@@ -62,17 +33,18 @@ module _ (coding : Coding) where
 
     -- the word has a letter for each dart
     word-length : length (word p) ≡ darts p
-    word-length = sym (word-darts (word p)) ∙ ap darts (sym (of-fit .standard)) ∙ standard-darts p
+    unfolding planOf
+    word-length = sym (rotation-length (word p)) ∙ ap darts (sym (of-fit .standard)) ∙ standard-darts p
 
     laid : Laid k (edges (p .rotation)) (wordBits false (word p)) (wordLabels (word p))
     unfolding edges
     laid =
-        let s = sizes (darts p) (fit-all k p e .dart-count) in
+        let s = count-parts (darts p) (fit-parts k p e .count) in
         let n = word-length in
         let b = coding .bit-count k (word p) (of-fit .proper) in
         let l = coding .label-count k (word p) (of-fit .proper) in
         record {
-          kind = fit-all k p e .kind;
+          kind = fit-parts k p e .kind;
           some-edge = omega arith;
           few-edges = omega arith;
           bit-count = omega arith;
@@ -111,21 +83,21 @@ module _ (coding : Coding) where
 
   pub word-renumbering : (k : ℕ) (p q : Plan) → fit k p ≡ true → fit k q ≡ true → word p ≡ word q → (f : List ℕ) × Renumbering p q f
   word-renumbering k p q e f same =
-      let a = fit-all k p e in
-      let b = fit-all k q f in
+      let a = fit-parts k p e in
+      let b = fit-parts k q f in
       let one : standardPlan q ≡ standardPlan p = of-fit k q f .standard ∙ ap planOf (sym same) ∙ sym (of-fit k p e .standard) in
       let to : Renumbering p (standardPlan p) (standardNumbers p) = coding .standard-renumbering k p e in
       let from : Renumbering q (standardPlan p) (standardNumbers q) =
           subst (λ (s : Plan). Renumbering q s (standardNumbers q)) one (coding .standard-renumbering k q f) in
       (composed (standardNumbers p) (inverseOf (standardNumbers q)),
-      compose p (a .dart-count) (a .root-in) (a .entries) (standardPlan p) (standardNumbers p) to q (inverseOf (standardNumbers q))
-      (inverse q (b .dart-count) (b .root-in) (b .entries) (standardPlan p) (standardNumbers q) from))
+      compose p (a .count) (a .root) (a .entries) (standardPlan p) (standardNumbers p) to q (inverseOf (standardNumbers q))
+      (inverse q (b .count) (b .root) (b .entries) (standardPlan p) (standardNumbers q) from))
 
   pub renumbered-record : (k : ℕ) (p q : Plan) (f : List ℕ) → fit k p ≡ true → fit k q ≡ true → Renumbering p q f → recordOf k p ≡ recordOf k q
   unfolding edges
   renumbered-record k p q f e e′ r =
-      let a = fit-all k p e in
-      let same = carries-word p (a .dart-count) (a .root-in) (a .entries) q f r in
+      let a = fit-parts k p e in
+      let same = carries-word p (a .count) (a .root) (a .entries) q f r in
       record-of-word k p e
       ∙ ap₂ (λ (n : ℕ) (w : List Letter). layOut k (n / 2) (wordBits false w) (wordLabels w)) (r .same-darts) same
       ∙ sym (record-of-word k q e′)

@@ -1,5 +1,10 @@
 pub mod Booleans
+pub mod Permutations
+pub mod Below
+pub mod Opposite
 pub mod Fitness
+pub mod Characteristic
+pub mod Standard
 pub mod Line
 pub mod Table
 pub mod Vectors

@@ -2,10 +2,9 @@
 --
 --   starred              the lines of document 01 on writing that are marked *
 --   starred-hold         every line of the table holds. The two lines on reading are in `Unreadable.antt`.
-use Prim.Native.Nat.{ℕ}
 use mathlib.Core.List.{List, [], _∷_}
 use lib.Dec.{T}
-use lib.IntN.{ℤ, pos}
+use lib.IntN.{pos}
 use Rattle.model.specs.Numbers.{count, some, elem, distinct, allBelow, isPermutation, position, least, cycles, firstRefusal}
 use Rattle.model.specs.Map.{opposite, next, vertexOf, faceNext, edges, vertices, faces, degreeOne, spread, spreads, reached, connected, characteristic, planar, hasLoop, hasDegreeOne, isKind, dartCountFits, degreeRefused}
 use Rattle.model.specs.Traversal.{letterAt, onward, seenAfter, walk, visits}

@@ -1,6 +1,15 @@
--- Chords and faces. With k chords there are at most k + 1 faces (`faces-le`), and there are that many exactly where the chords are nested
--- (`nested-of-faces`, `faces-of-nested`). The faces' least positions are among the k + 1 marked positions: 0, and those just after an opener.
--- Assumes nothing.
+-- Chords and faces: with k chords there are at most k + 1 faces, and there are that many exactly where the chords are nested. The faces' least
+-- positions are among the k + 1 marked positions: 0, and those just after an opener. Assumes nothing.
+--
+--   next-cases         one position on, by whether the circle's end is met
+--   φ-cases, φ-before  one step of a face, and the step that leads to suc a
+--   μ-inj              an involution is injective
+--   crossed-perm       a permutation after an involution is one
+--   φ-perm             the face permutation is one
+--   faces-le           at most k + 1 faces
+--   nested-of-faces, faces-of-nested   that many exactly where the chords are nested
+--   nested-noncrossing nested chords do not cross
+--   nested-ext         a diagram that is another one below N is nested if that one is
 use Prim.Native.Nat.{ℕ, zero, suc, _+_, _≤_, _<_, zero-le}
 use native.Mathlib.Nat.{le-trans, le-antisymm, le-of-eq, lt-suc-self}
 use native.Mathlib.Decide.{ℕ-discrete}
@@ -60,6 +69,13 @@ module _ (N : ℕ) (μ : ℕ → ℕ) (inv : Involution N μ) where
 
   pub μ-inj : (i j : ℕ) → i < N → j < N → μ i ≡ μ j → i ≡ j
   μ-inj i j hi hj e = sym (inv .back i hi) ∙ ap μ e ∙ inv .back j hj
+
+  -- a permutation after the involution
+  pub crossed-perm : (σ : ℕ → ℕ) → Perm N σ → Perm N (λ i. σ (μ i))
+  crossed-perm σ turn = record {
+    bound = λ i h. turn .bound (μ i) (inv .bound i h);
+    inj = λ i j hi hj e. μ-inj i j hi hj (turn .inj (μ i) (μ j) (inv .bound i hi) (inv .bound j hj) e);
+  }
 
   pub φ-perm : Perm N (φ μ N)
   φ-perm = record {
@@ -186,4 +202,14 @@ module _ (N : ℕ) (μ : ℕ → ℕ) (inv : Involution N μ) where
   -- (C)
   pub faces-of-nested : zero < N → Nested μ N → faces μ N ≡ suc (chords μ N)
   unfolding faces cycles
-  faces-of-nested h nest = le-antisymm faces-le (le-trans (le-of-eq (sym (marks N μ inv h))) (count-mono (mark μ) (isLeast (φ μ N) N) N (marked-least nest)))
+  faces-of-nested h nest = le-antisymm faces-le
+      (le-trans (le-of-eq (sym (marks N μ inv h))) (count-mono (mark μ) (isLeast (φ μ N) N) N (marked-least nest)))
+
+-- a diagram that is another one below N is nested if that one is
+pub nested-ext : (N : ℕ) (μ ν : ℕ → ℕ) → ((i : ℕ) → i < N → μ i ≡ ν i) → Involution N ν → Nested ν N → Nested μ N
+nested-ext N μ ν same inv nested a h l x u v =
+    let ea = same a h in
+    let ba = inv .bound a h in
+    let ex = same x (omega arith) in
+    let k = nested a h (omega arith) x u (omega arith) in
+    omega arith

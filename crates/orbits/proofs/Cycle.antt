@@ -1,10 +1,16 @@
--- `least p N` labels the cycles of a permutation p below N. Four facts say all that is needed of it:
---     least-le     the label of x is at most x
---     least-in     a set that p maps into itself and that has x has the label of x
---     least-step   p keeps the label
---     least-idem   a label is its own label
--- The theorem on chords needs only these. Iterates and periods serve to show `least-step`, and `same-reach`: two numbers with one label reach
--- each other, which `Merge.antt` and `Number.antt` use. `isLeast-all` and `all-isLeast` tie `isLeast` to "at most all its iterates". Assumes nothing.
+-- `least p N` labels the cycles of a permutation p below N. The theorem on chords needs only the first four facts of it. Assumes nothing.
+--
+--   least-le           the label of x is at most x
+--   least-in           a set that p maps into itself and that has x has the label of x
+--   least-step         p keeps the label
+--   least-idem         a label is its own label
+--   least-bound        a label is below N
+--   least-keeps        what p keeps has one value at x and at its label
+--   least-ext, perm-ext   a function that agrees with p below N has the same labels, and is a permutation
+--   iter-out, iter-bound, iter-inj   iterates: the last step, their bound, different ones before the period
+--   Back, On, on-self, on-step   x is back after q + 1 steps; what it then runs through
+--   comes-back         every number comes back
+--   Reach, same-reach  two numbers with one label reach each other
 use Prim.Native.Nat.{ℕ, zero, suc, min, _≤_, _<_, zero-le}
 use native.Mathlib.Nat.{le-refl, le-trans, le-antisymm, le-of-suc-le-suc, le-of-lt, min-le-left, min-le-right}
 use native.Mathlib.Decide.{ℕ-discrete}
@@ -12,11 +18,10 @@ use native.Mathlib.Omega.{arith}
 use mathlib.Core.Path.{_≡_, refl, sym, ap, subst, _∙_}
 use mathlib.Core.Logic.{⊎-elim}
 use mathlib.Core.Bool.{true}
-use Rattle.model.specs.Numbers.{count, iter, least, isLeast}
-use lib.Dec.{T, eqb→eq}
+use Rattle.model.specs.Numbers.{count, iter, least}
 use Rattle.orbits.specs.Permutation.{Perm}
 use Rattle.orbits.proofs.Tally.{count-inj}
-use Rattle.orbits.proofs.Order.{le-split, min-either, find-below, eq→eqb}
+use Rattle.orbits.proofs.Order.{le-split, min-either, find-below}
 
 -- ---- any function: what `least` and `iter` are
 
@@ -136,22 +141,6 @@ module _ (N : ℕ) (p : ℕ → ℕ) (perm : Perm N p) where
 
   pub least-idem : (x : ℕ) → x < N → least p N (least p N x) ≡ least p N x
   least-idem = least-keeps (least p N) least-step
-
-  -- ---- what `isLeast` says: x is at most each of its iterates
-
-  iter-keeps : (j x : ℕ) → x < N → least p N (iter p j x) ≡ least p N x
-  unfolding iter
-  iter-keeps zero x h = refl
-  iter-keeps (suc j) x h = iter-keeps j (p x) (perm .bound x h) ∙ least-step x h
-
-  pub isLeast-all : (x : ℕ) → x < N → T (isLeast p N x) → (j : ℕ) → x ≤ iter p j x
-  isLeast-all x h t j = omega (arith, eqb→eq (least p N x) x t, iter-keeps j x h, least-le p N (iter p j x))
-
-  pub all-isLeast : (x : ℕ) → ((j : ℕ) → x ≤ iter p j x) → T (isLeast p N x)
-  unfolding iter
-  all-isLeast x h =
-      let (j, e) = least-in p (λ z. (j : ℕ) × (iter p j x ≡ z)) (λ z s. (suc (s .0), iter-out p (s .0) x ∙ ap p (s .1))) N x (zero, refl) in
-      eq→eqb (least p N x) x (omega (arith, least-le p N x, h j))
 
   -- ---- two numbers of one cycle reach each other
 

@@ -1,5 +1,14 @@
--- Every balanced word is the word of a nested involution: of the one that the stack machine joins
--- (`decoded-inv`, `decoded-nested`, `decoded-kind`). By `nested-unique` of `Stack.antt` it is the only one. Assumes nothing.
+-- Every balanced word is the word of a nested involution, of the one that the stack machine joins; by `nested-unique` of Stack it is the only one.
+-- Assumes nothing.
+--
+--   Each, Falls, In    a list of positions: P holds of each; they fall, from below i; x is one of them
+--   Waits, Kept, Held  what holds before position i: of those that wait, of each position, of all
+--   flat≢open, close≢open, flat≢close   the kinds differ
+--   put-same, put-other   a function changed at one place
+--   held               it holds
+--   decoded-inv, decoded-nested, decoded-kind   at the end: an involution, nested, with the word
+--   kind-balanced      the word of a nested involution is balanced
+--   decode-encode      and is joined to that involution
 use Prim.Native.Nat.{ℕ, zero, suc, _≤_, _<_}
 use native.Mathlib.Nat.{le-step, lt-suc-self}
 use native.Mathlib.Omega.{arith}

@@ -1,5 +1,9 @@
--- Euler's inequality for connected maps, with no tour in its statement: E edges (N = 2 E darts), V vertices and F faces have V + F ≤ E + 2
--- (`euler`). A map is planar where they are equal, and then the tour of every tree is nested (`planar-nested`). Assumes nothing.
+-- Euler's inequality and planarity, for E edges (N = 2 E darts), V vertices and F faces. Assumes nothing.
+--
+--   Free N μ           no position stays where it is
+--   chords-half        half of the positions of such an involution open a chord
+--   planar-nested, nested-planar   V + F = E + 2 exactly where the tour of a tree is nested
+--   euler              V + F ≤ E + 2 for connected maps
 use Prim.Native.Nat.{ℕ, zero, _+_, _≤_, _<_}
 use native.Mathlib.Omega.{arith}
 use mathlib.Core.Path.{_≡_, sym, ap, _∙_}

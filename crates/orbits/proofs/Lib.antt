@@ -5,8 +5,11 @@ pub mod Transversal
 pub mod Chord
 pub mod Stack
 pub mod Decode
+pub mod Match
 pub mod Tour
 pub mod Merge
 pub mod Number
 pub mod Span
 pub mod Euler
+pub mod Maps
+pub mod Inverse

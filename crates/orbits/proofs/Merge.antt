@@ -1,12 +1,18 @@
--- Exchanging two numbers of different cycles before p joins the two cycles into one: there is one cycle fewer (`merge`). Assumes nothing.
+-- Exchanging two numbers of different cycles before p joins the two cycles into one. Assumes nothing.
+--
+--   swap-a, swap-b, swap-other, swap-split   the exchange, and its three cases
+--   p′, swap-perm      p after the exchange is a permutation
+--   L, L′              the labels before and after
+--   joined, together   a and b come into one cycle, and what was together stays so
+--   merge              there is one cycle fewer
 use Prim.Native.Nat.{ℕ, zero, suc, _<_}
 use native.Mathlib.Omega.{arith}
 use mathlib.Core.Path.{_≡_, refl, sym, ap, ap₂, _∙_}
 use mathlib.Core.Bool.{Bool, cond}
 use lib.Dec.{T, eqb, eqb→eq}
 use borrow.Author.Tests.{eq-eqb, ne-eqb}
-use Rattle.orbits.specs.Permutation.{Perm, swap}
 use Rattle.model.specs.Numbers.{iter, least, isLeast, cycles}
+use Rattle.orbits.specs.Permutation.{Perm, swap}
 use Rattle.orbits.proofs.Order.{eq-split, eq→eqb}
 use Rattle.orbits.proofs.Tally.{except, except-in, except-l, except-ne, count-except}
 use Rattle.orbits.proofs.Cycle.{least-step, least-bound, least-idem, least-keeps, same-reach}

@@ -1,5 +1,10 @@
--- A permutation with one cycle numbers what it permutes: from any r, the j-th iterate of r runs through all the numbers below N, each once
--- (`dart`, `pos`), and the permutation is then the step to the next number (`pos-step`). Assumes nothing.
+-- A permutation with one cycle numbers what it permutes: from any r the iterates of r run through all the numbers below N, each once. Assumes nothing.
+--
+--   count-all          there are n numbers below n
+--   one-label          one cycle has one label
+--   dart, dart-bound   the i-th iterate of r
+--   pos, pos-bound, dart-pos, pos-dart   its inverse
+--   pos-step           the permutation is the step to the next number
 use Prim.Native.Nat.{ℕ, zero, suc, pred, _≤_, _<_, zero-le}
 use native.Mathlib.Decide.{ℕ-discrete}
 use native.Mathlib.Omega.{arith}

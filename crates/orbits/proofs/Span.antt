@@ -1,5 +1,9 @@
--- Every connected map has a tour: a set of edges can be found, edge by edge, whose tour goes through all the darts in one cycle (`spanned`), and a
--- tour of one cycle numbers the darts (`tour`). So V + F ≤ E + 2 of every connected map (`euler`). Assumes nothing.
+-- Every connected map has a tour: a set of edges can be found, edge by edge, whose tour goes through all the darts in one cycle. Assumes nothing.
+--
+--   Connected N σ α    what σ and α keep is the same everywhere
+--   tour               a tour of one cycle numbers the darts
+--   Edges tree         a set of edges, whole, whose tour is a permutation and has both darts of each edge of the set in one cycle
+--   Spanning, spanned  such a set with one cycle; a connected map has it
 use Prim.Native.Nat.{ℕ, zero, suc, _≤_, _<_}
 use native.Mathlib.Nat.{lt-suc-self}
 use native.Mathlib.Decide.{ℕ-discrete}
@@ -31,7 +35,8 @@ dec-not (no f) = yes f
 module _ (N : ℕ) (σ α : ℕ → ℕ) (turn : Perm N σ) (cross : Involution N α) where
   -- ---- a tour of one cycle numbers the darts
 
-  module _ (tree : ℕ → Bool) (whole : (d : ℕ) → d < N → tree (α d) ≡ tree d) (perm : Perm N (onward σ α tree)) (single : cycles (onward σ α tree) N ≡ 1) (r : ℕ) (hr : r < N) where
+  module _ (tree : ℕ → Bool) (whole : (d : ℕ) → d < N → tree (α d) ≡ tree d) (perm : Perm N (onward σ α tree))
+      (single : cycles (onward σ α tree) N ≡ 1) (r : ℕ) (hr : r < N) where
     pub tour : Tour N σ α tree (pos N (onward σ α tree) perm single r hr) (dart N (onward σ α tree) perm single r hr)
     tour = record {
       turn = turn;

@@ -1,6 +1,12 @@
--- What the stack machine holds on the word of a nested involution μ: before i, the openers whose chords end at i or later (`stack-pending`).
--- So a closer finds its opener on top (`stack-top`), the stack is empty at the end (`stack-end`), and μ is the only nested involution
--- with that word (`nested-unique`). Assumes nothing.
+-- What the stack machine holds on the word of a nested involution μ. Assumes nothing.
+--
+--   kind-open, kind-close, kind-flat   the kind of a position by where it is joined
+--   close-lt, flat-eq  and back
+--   stack-pending      before i: the openers whose chords end at i or later
+--   stack-top          so a closer finds its opener on top
+--   stack-end          and the stack is empty at the end
+--   stack-ext          words that agree have one stack
+--   nested-unique      μ is the only nested involution with its word
 use Prim.Native.Nat.{ℕ, zero, suc, _≤_, _<_, zero-le}
 use native.Mathlib.Nat.{le-refl, le-of-lt, le-step, lt-suc-self}
 use native.Mathlib.Omega.{arith}
@@ -42,7 +48,9 @@ module _ (μ : ℕ → ℕ) where
   pending-skip : (i a j : ℕ) → a ≤ j → ((x : ℕ) → a ≤ x → x < j → μ x < i) → pending μ i j ≡ pending μ i a
   pending-skip i a zero l h = ap (pending μ i) (omega arith)
   pending-skip i a (suc j) l h =
-      le-split l (λ e. ap (pending μ i) (sym e)) (λ k. pending-out i j (h j (omega arith) (lt-suc-self j)) ∙ pending-skip i a j (omega arith) (λ x u v. h x u (le-step v)))
+      le-split l
+      (λ e. ap (pending μ i) (sym e))
+      (λ k. pending-out i j (h j (omega arith) (lt-suc-self j)) ∙ pending-skip i a j (omega arith) (λ x u v. h x u (le-step v)))
 
   -- what no position before j ends at makes no difference
   pending-next : (i j : ℕ) → ((x : ℕ) → x < j → μ x ≡ i → ⊥) → pending μ i j ≡ pending μ (suc i) j
@@ -51,7 +59,9 @@ module _ (μ : ℕ → ℕ) where
   pending-next i (suc j) h =
       lt-or-le (μ j) i
       (λ l. pending-out i j l ∙ pending-next i j (λ x u. h x (le-step u)) ∙ sym (pending-out (suc i) j (omega arith)))
-      (λ l. le-split l (λ e. absurd (h j (lt-suc-self j) (sym e))) (λ k. pending-in i j l ∙ ap (λ (s : List ℕ). j ∷ s) (pending-next i j (λ x u. h x (le-step u))) ∙ sym (pending-in (suc i) j k)))
+      (λ l. le-split l
+      (λ e. absurd (h j (lt-suc-self j) (sym e)))
+      (λ k. pending-in i j l ∙ ap (λ (s : List ℕ). j ∷ s) (pending-next i j (λ x u. h x (le-step u))) ∙ sym (pending-in (suc i) j k)))
 
 module _ (N : ℕ) (μ : ℕ → ℕ) (inv : Involution N μ) (nested : Nested μ N) where
   -- at a closer i the last pending position is its opener
@@ -63,7 +73,9 @@ module _ (N : ℕ) (μ : ℕ → ℕ) (inv : Involution N μ) (nested : Nested �
       let other : (x : ℕ) → x < μ i → μ x ≡ i → ⊥ = λ x u e. let k = inv .back x (omega arith) in omega (arith, ap μ e) in
       pending-skip μ i (suc (μ i)) i c under
       ∙ pending-in μ i (μ i) (omega arith)
-      ∙ ap (λ (s : List ℕ). μ i ∷ s) (pending-next μ i (μ i) other ∙ sym (pending-out μ (suc i) (μ i) (omega arith)) ∙ sym (pending-skip μ (suc i) (suc (μ i)) i c (λ x u v. le-step (under x u v))))
+      ∙ ap (λ (s : List ℕ). μ i ∷ s)
+      (pending-next μ i (μ i) other ∙ sym (pending-out μ (suc i) (μ i) (omega arith))
+      ∙ sym (pending-skip μ (suc i) (suc (μ i)) i c (λ x u v. le-step (under x u v))))
 
   -- elsewhere none is lost
   pending-same : (i : ℕ) → i < N → i ≤ μ i → pending μ i i ≡ pending μ (suc i) i
@@ -93,7 +105,7 @@ module _ (N : ℕ) (μ : ℕ → ℕ) (inv : Involution N μ) (nested : Nested �
 
 -- ---- the word determines μ
 
-stack-ext : (w v : ℕ → Kind) (i : ℕ) → ((x : ℕ) → x < i → w x ≡ v x) → stack w i ≡ stack v i
+pub stack-ext : (w v : ℕ → Kind) (i : ℕ) → ((x : ℕ) → x < i → w x ≡ v x) → stack w i ≡ stack v i
 unfolding stack
 stack-ext w v zero h = refl
 stack-ext w v (suc i) h = ap₂ (λ (k : Kind) (s : List ℕ). push k i s) (h i (lt-suc-self i)) (stack-ext w v i (λ x u. h x (le-step u)))

@@ -1,5 +1,13 @@
--- Laws of `count`: a stronger test counts less, strictly less unless the tests agree, and an injection between two tested sets bounds the one
--- count by the other. Assumes nothing.
+-- Laws of `count`. Assumes nothing.
+--
+--   count-in, count-out     the next number passes, or does not
+--   count-mono, count-tight a stronger test counts less, strictly less unless the tests agree
+--   count-grows, count-below   a count up to a later number is no less, and is more where one that passes lies between
+--   count-ext               tests that agree have one count
+--   count-either            two tests that never pass together
+--   tick-suc                ticks commute
+--   except, except-in, except-l, except-ne, count-except   a test but for one number
+--   Injection, count-inj    an injection between two tested sets bounds the one count by the other
 use Prim.Native.Nat.{ℕ, zero, suc, _+_, _≤_, _<_, zero-le}
 use native.Mathlib.Nat.{le-step, lt-suc-self}
 use native.Mathlib.Omega.{arith}
@@ -8,7 +16,8 @@ use mathlib.Core.Bool.{Bool, true, false, not, _&&_, _||_}
 use borrow.Author.Tests.{ne-eqb}
 use lib.Dec.{T, T-not, not-T, eqb, eqb→eq, eqb-refl}
 use Rattle.model.specs.Numbers.{tick, count}
-use Rattle.orbits.proofs.Order.{lt-suc-split}
+use Rattle.model.proofs.Booleans.{true-T}
+use Rattle.orbits.proofs.Order.{lt-suc-split, le-split}
 
 -- ---- one test
 
@@ -64,6 +73,19 @@ module _ (f g : ℕ → Bool) where
       let h′ : (i : ℕ) → i < n → T (f i) → T (g i) = λ i p. h i (le-step p) in
       let here = tick-tight (f n) (g n) (h n (lt-suc-self n)) (count-mono n h′) e in
       lt-suc-split p (λ q. subst (λ (k : ℕ). T (g k) → T (f k)) (sym q) (here .1)) (count-tight n h′ (here .0) i)
+
+-- up to a later number the count is no less, and is more where one that passes lies between
+pub count-grows : (f : ℕ → Bool) (i j : ℕ) → i ≤ j → count f i ≤ count f j
+unfolding count
+count-grows f i zero h = let e : i ≡ 0 = omega arith in rw e (omega arith)
+count-grows f i (suc j) h = le-split h (λ e. rw e (omega arith)) (λ l. let ih = count-grows f i j (omega arith) in more (f j) ih)
+  where
+    more : (b : Bool) {m n : ℕ} → m ≤ n → m ≤ tick b n
+    more true h = omega arith
+    more false h = h
+
+pub count-below : (f : ℕ → Bool) (i j : ℕ) → i < j → f i ≡ true → count f i < count f j
+count-below f i j h e = let s = count-in f i (true-T (f i) e) in let g = count-grows f (suc i) j h in omega arith
 
 pub count-ext : (f g : ℕ → Bool) (n : ℕ) → ((i : ℕ) → i < n → f i ≡ g i) → count f n ≡ count g n
 unfolding count

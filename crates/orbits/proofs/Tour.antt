@@ -1,5 +1,13 @@
--- The faces of a map are those of the chord diagram that a tour makes of it (`faces-tour`). So with k chords a map has at most k + 1 faces, and
--- has that many exactly where the diagram is nested. Assumes nothing.
+-- The faces of a map are those of the chord diagram that a tour makes of it, and its vertices those of the dual's. Assumes nothing.
+--
+--   tour-perm          the tour that crosses a set of edges is a permutation
+--   diagram-inv        the diagram is an involution
+--   faces-tour         it has the map's faces
+--   map-faces-le, map-nested, map-faces   so with k chords a map has at most k + 1 faces, and that many exactly where the diagram is nested
+--   dual               the tour as it is seen from the dual map, in which the tree's edges are the chords
+--   κ, ν, ε            the chords outside the tree, those of the tree, and all of them
+--   ε-inv, edges       all are an involution, and as many as both together
+--   euler-le, euler-nested, nested-euler   V + F ≤ E + 2, with equality exactly where both diagrams are nested
 use Prim.Native.Nat.{ℕ, zero, suc, _+_, _≤_, _<_}
 use native.Mathlib.Nat.{le-of-eq}
 use native.Mathlib.Omega.{arith}
@@ -7,24 +15,51 @@ use mathlib.Core.Path.{_≡_, refl, sym, ap, subst, _∙_}
 use mathlib.Core.Bool.{Bool, true, false, not, cond, _||_}
 use lib.Dec.{T, ltb}
 use borrow.Author.Tests.{le-ltb}
-use Rattle.orbits.specs.Permutation.{Perm}
 use Rattle.model.specs.Numbers.{cycles}
+use Rattle.orbits.specs.Permutation.{Perm}
 use Rattle.orbits.specs.Chord.{Involution, opener, chords, next, φ, faces, Nested}
 use Rattle.orbits.specs.Tour.{face, onward, chord, Tour, diagram, rest}
 use Rattle.orbits.proofs.Order.{or-false}
-use Rattle.orbits.proofs.Chord.{φ-perm, μ-inj, faces-le, nested-of-faces, faces-of-nested}
+use Rattle.orbits.proofs.Chord.{φ-perm, crossed-perm, faces-le, nested-of-faces, faces-of-nested}
 use Rattle.orbits.proofs.Tally.{count-ext, count-either}
 use Rattle.orbits.proofs.Transversal.{cycles-conj, cycles-ext}
+
+-- ---- the tour that crosses a set of edges
+
+module _ (N : ℕ) (σ α : ℕ → ℕ) (turn : Perm N σ) (cross : Involution N α) (t : ℕ → Bool) (whole : (d : ℕ) → d < N → t (α d) ≡ t d) where
+  -- across the edges of the set
+  abbrev ψ : ℕ → ℕ
+  ψ d = cond (t d) (α d) d
+
+  crossed-bound : (b : Bool) (d : ℕ) → d < N → cond b (α d) d < N
+  crossed-bound true d h = cross .bound d h
+  crossed-bound false d h = h
+
+  crossed-back : (b : Bool) (d : ℕ) → d < N → t d ≡ b → ψ (cond b (α d) d) ≡ d
+  crossed-back true d h e = ap (λ (c : Bool). cond c (α (α d)) (α d)) (whole d h ∙ e) ∙ cross .back d h
+  crossed-back false d h e = ap (λ (c : Bool). cond c (α d) d) e
+
+  crossed-on : (b : Bool) (d : ℕ) → cond b (σ (α d)) (σ d) ≡ σ (cond b (α d) d)
+  crossed-on true d = refl
+  crossed-on false d = refl
+
+  pub tour-perm : Perm N (onward σ α t)
+  tour-perm = record {
+    bound = λ d h. subst (λ (x : ℕ). x < N) (sym (crossed-on (t d) d)) (turn .bound (ψ d) (crossed-bound (t d) d h));
+    inj = λ d e hd he q.
+        let same : ψ d ≡ ψ e = turn .inj (ψ d) (ψ e) (crossed-bound (t d) d hd) (crossed-bound (t e) e he)
+            (sym (crossed-on (t d) d) ∙ q ∙ crossed-on (t e) e) in
+        sym (crossed-back (t d) d hd refl) ∙ ap ψ same ∙ crossed-back (t e) e he refl;
+  }
+
+-- ---- faces
 
 module _ (N : ℕ) (σ α : ℕ → ℕ) (tree : ℕ → Bool) (pos dart : ℕ → ℕ) (t : Tour N σ α tree pos dart) where
   abbrev μ : ℕ → ℕ
   μ = diagram α tree pos dart
 
   face-perm : Perm N (face σ α)
-  face-perm = record {
-    bound = λ d h. t .turn .bound (α d) (t .cross .bound d h);
-    inj = λ d e hd he q. μ-inj N α (t .cross) d e hd he (t .turn .inj (α d) (α e) (t .cross .bound d hd) (t .cross .bound e he) q);
-  }
+  face-perm = crossed-perm N α (t .cross) σ (t .turn)
 
   -- by whether a dart is in the tree
   chord-bound : (b : Bool) (d : ℕ) → d < N → cond b d (α d) < N

@@ -1,19 +1,22 @@
--- Cycles are counted by any set of representatives. For a permutation p below N and a test R below N:
---     cycles-le-of-meets     R meets every cycle: p has at most as many cycles as R has numbers
---     meets-once             and if it has as many, R meets each only once
---     cycles-of-once         R meets every cycle just once: p has as many cycles as R has numbers
--- And a renumbering keeps the number of cycles (`cycles-conj`). Assumes nothing.
+-- Cycles are counted by any set of representatives: for a permutation p below N and a test R below N. Assumes nothing.
+--
+--   Meets N p R           each cycle has a number that R passes
+--   Once N p R            no cycle has two
+--   cycles-le-of-meets, count-le-of-once   so there are at most as many cycles, or at least as many, as R has numbers
+--   cycles-of-once        both: as many
+--   Onto                  t sends the numbers below M onto those below N, and what q does to what p does
+--   cycles-onto           then p has at most as many cycles as q
+--   cycles-conj           a renumbering keeps the number of cycles
+--   cycles-ext            what p does from N on does not matter
 use Prim.Native.Nat.{ℕ, _≤_, _<_}
 use native.Mathlib.Nat.{le-antisymm}
-use native.Mathlib.Decide.{ℕ-discrete}
-use native.Mathlib.Omega.{arith}
 use mathlib.Core.Path.{_≡_, refl, sym, ap, _∙_}
 use mathlib.Core.Bool.{Bool}
 use lib.Dec.{T, eqb→eq}
 use Rattle.model.specs.Numbers.{count, least, isLeast, cycles}
 use Rattle.orbits.specs.Permutation.{Perm}
 use Rattle.orbits.proofs.Order.{eq→eqb}
-use Rattle.orbits.proofs.Tally.{count-inj, except, except-in, count-except}
+use Rattle.orbits.proofs.Tally.{count-inj}
 use Rattle.orbits.proofs.Cycle.{least-step, least-bound, least-idem, least-keeps}
 
 -- each cycle has a number that R passes
@@ -35,24 +38,6 @@ module _ (N : ℕ) (p : ℕ → ℕ) (R : ℕ → Bool) where
         sym (eqb→eq (least p N x) x t) ∙ sym (meets x hx .3) ∙ ap (least p N) e ∙ meets y hy .3 ∙ eqb→eq (least p N y) y s;
   })
 
-module _ (N : ℕ) (p : ℕ → ℕ) (R : ℕ → Bool) where
-  -- a number that shares its cycle with another is not needed
-  meets-except : Meets N p R → (r s : ℕ) → r < N → T (R r) → (r ≡ s → ⊥) → least p N r ≡ least p N s → Meets N p (except R s)
-  meets-except meets r s hr tr ne e y h =
-      let (c, hc, tc, ec) = meets y h in
-      elim (ℕ-discrete c s) [
-        | yes q ↦ (r, hr, except-in R s r tr ne, e ∙ ap (least p N) (sym q) ∙ ec)
-        | no q ↦ (c, hc, except-in R s c tc q, ec)
-      ]
-
-  pub meets-once : Meets N p R → cycles p N ≡ count R N → Once N p R
-  meets-once meets f r s hr hs tr ts e = elim (ℕ-discrete r s) [
-    | yes q ↦ q
-    | no q ↦
-        let most = cycles-le-of-meets N p (except R s) (meets-except meets r s hr tr q e) in
-        absurd (omega (arith, count-except R s N hs ts))
-  ]
-
   module _ (perm : Perm N p) where
     pub count-le-of-once : Once N p R → count R N ≤ cycles p N
     unfolding cycles
@@ -64,7 +49,7 @@ module _ (N : ℕ) (p : ℕ → ℕ) (R : ℕ → Bool) where
     })
 
     pub cycles-of-once : Meets N p R → Once N p R → cycles p N ≡ count R N
-    cycles-of-once meets once = le-antisymm (cycles-le-of-meets N p R meets) (count-le-of-once once)
+    cycles-of-once meets once = le-antisymm (cycles-le-of-meets meets) (count-le-of-once once)
 
 -- ---- renumbering
 

@@ -22,8 +22,8 @@ use lib.Arith.{digits-lt, digits-div, mod-mul}
 use lib.ListN.{length, getD, set, take, replicate}
 use Rattle.model.specs.Numbers.{allBelow}
 use Rattle.model.specs.Record.{digitsFrom, digits}
+use Rattle.model.proofs.Below.{below-cons, below-head, below-tail}
 use Rattle.packing.specs.Unpack.{digitsOf}
-use Rattle.packing.proofs.Below.{below-cons, below-head, below-tail}
 
 -- a digit d after the digits that make s
 shift-in : (s d b p x : ℕ) → (s * b + d) * p + x ≡ s * (p * b) + (d * p + x)

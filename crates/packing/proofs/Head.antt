@@ -22,7 +22,8 @@ use Rattle.model.specs.Numbers.{allBelow, firstRefusal, refuse}
 use Rattle.model.specs.Map.{isKind}
 use Rattle.model.specs.Record.{le16, recordLength}
 use Rattle.model.specs.Shelf.{word16, kindOf, edgesOf, headRefusal, passes}
-use Rattle.packing.proofs.Below.{below-cons}
+use Rattle.model.proofs.Booleans.{or-split, or-none}
+use Rattle.model.proofs.Below.{below-cons}
 
 pub word16-le16 : (n : ℕ) (rest : List ℕ) → n < 65536 → word16 (le16 n ++ rest) 0 ≡ n
 unfolding word16 le16
@@ -42,14 +43,10 @@ le16-bytes n = below-cons 256 (n % 256) (n / 256 % 256 ∷ []) (omega arith) (be
 
 -- ---- kinds and lengths
 
-or-cases : {C : Type 0} (a b : Bool) → (a || b) ≡ true → (a ≡ true → C) → (b ≡ true → C) → C
-or-cases true b e f g = f refl
-or-cases false b e f g = g e
-
 pub kind-cases : (P : ℕ → Type 0) → P 1 → P 2 → (k : ℕ) → isKind k ≡ true → P k
 unfolding isKind
 kind-cases P p q k e =
-    or-cases (eqb k 1) (eqb k 2) e (λ t. subst P (sym (eqb-true k 1 t)) p) (λ t. subst P (sym (eqb-true k 2 t)) q)
+    or-split (eqb k 1) (eqb k 2) e (λ t. subst P (sym (eqb-true k 1 t)) p) (λ t. subst P (sym (eqb-true k 2 t)) q)
 
 pub recordLength-range : (k m : ℕ) → 1 ≤ m → m ≤ 4096 → (7 ≤ recordLength k m) × (recordLength k m ≤ 1850)
 unfolding recordLength
@@ -81,17 +78,13 @@ four-none false false true d e = absurd (false≢true e)
 four-none false false false true e = absurd (false≢true e)
 four-none false false false false e = (refl, refl, refl, refl)
 
-or-false : (a b : Bool) → (a || b) ≡ false → (a ≡ false) × (b ≡ false)
-or-false true b e = absurd (false≢true (sym e))
-or-false false b e = (refl, e)
-
 pub passes-facts : (r : List ℕ) → passes r ≡ true → Passes r
 unfolding passes headRefusal
 passes-facts r e =
     let f = four-none (ltb (length r) 6 || not (eqb (word16 r 0) (length r))) (not (isKind (kindOf r)))
     (eqb (edgesOf r) 0 || ltb 4096 (edgesOf r)) (not (eqb (length r) (recordLength (kindOf r) (edgesOf r)))) e in
-    let g = or-false (ltb (length r) 6) (not (eqb (word16 r 0) (length r))) (f .0) in
-    let h = or-false (eqb (edgesOf r) 0) (ltb 4096 (edgesOf r)) (f .2) in
+    let g = or-none (ltb (length r) 6) (not (eqb (word16 r 0) (length r))) (f .0) in
+    let h = or-none (eqb (edgesOf r) 0) (ltb 4096 (edgesOf r)) (f .2) in
     let z = eqb-false (edgesOf r) 0 (h .0) in
     record {
       whole-head = ltb-false (length r) 6 (g .0);

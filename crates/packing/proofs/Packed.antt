@@ -24,9 +24,8 @@ use lib.ListN.{length, getD, take, drop, replicate, length-append, length-drop, 
 use lib.Seq.{drop-append-le, drop-nil, drop-drop, take-at, drop-at, length-take-le}
 use Rattle.model.specs.Numbers.{allBelow}
 use Rattle.model.specs.Record.{digits, pack}
+use Rattle.model.proofs.Below.{below-cons, below-head, below-tail, below-append, below-take, below-drop, below-replicate, blank-zeros, zeros-blank}
 use Rattle.packing.specs.Unpack.{digitsOf, unpack}
-use Rattle.packing.proofs.Below.{below-cons, below-head, below-tail, below-append, below-take, below-drop, below-replicate, blank-zeros}
-use Rattle.packing.proofs.Below.{zeros-blank}
 use Rattle.packing.proofs.Digits.{digits-below, digits-pad, digits-append, length-digitsOf, digitsOf-below, digitsOf-digits, digits-digitsOf}
 
 drop-zeros : (w k : ℕ) → drop w (replicate {A = ℕ} k 0) ≡ replicate (k - w) 0

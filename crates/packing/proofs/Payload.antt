@@ -18,9 +18,10 @@ use lib.Seq.{take-at, drop-at, take-add, length-take-le, take-append-le}
 use Rattle.model.specs.Numbers.{allBelow}
 use Rattle.model.specs.Map.{isKind}
 use Rattle.model.specs.Record.{pack, bytesFor, recordLength, payload, labelBase}
+use Rattle.model.proofs.Booleans.{and-left, and-right, both}
+use Rattle.model.proofs.Below.{below-append, below-take, below-drop, below-mono, zeros-blank}
 use Rattle.packing.specs.Unpack.{unpack, bits, groups}
 use Rattle.packing.specs.Unlay.{blankFrom, payloadBits, payloadLabels, payloadClean}
-use Rattle.packing.proofs.Below.{and-left, and-right, both, below-append, below-take, below-drop, below-mono, zeros-blank}
 use Rattle.packing.proofs.Packed.{pack-length, pack-below, unpack-append, length-unpack, unpack-below, unpack-pack, pack-take}
 use Rattle.packing.proofs.Head.{kind-cases}
 
@@ -38,9 +39,6 @@ module _ (b w : ℕ) (h : 0 < b) where
   pack-front : (n l : ℕ) (xs : List ℕ) → allBelow (b ^ w) xs ≡ true → length xs ≡ n → blankFrom l (unpack b w (length xs) xs) ≡ true
       → pack b w n (take l (unpack b w (length xs) xs)) ≡ xs
   pack-front n l xs e q z = rw q (pack-take b w h n l xs e q (rw q at z))
-
-  front-length : (xs : List ℕ) (l : ℕ) → l ≤ length xs * w → length (take l (unpack b w (length xs) xs)) ≡ l
-  front-length xs l k = length-take-le l _ (let e = length-unpack b w (length xs) xs in omega arith)
 
 pub payload-length : (k m : ℕ) (bs ls : List ℕ) → length (payload k m bs ls) + 6 ≡ recordLength k m
 unfolding payload recordLength

@@ -14,8 +14,8 @@ use lib.ListN.{length, getD, set, drop, length-set, List·getD-append}
 use lib.Seq.{take-all, getD-append-add, getD-drop, set-append-left}
 use Rattle.model.specs.Numbers.{allBelow}
 use Rattle.model.specs.Record.{digits}
+use Rattle.model.proofs.Below.{below-set}
 use Rattle.packing.specs.Unpack.{digitsOf, unpack}
-use Rattle.packing.proofs.Below.{below-set}
 use Rattle.packing.proofs.Digits.{digits-below, length-digitsOf, digitsOf-below, digitsOf-at, digitsOf-digits, digits-digitsOf, digits-set}
 
 set-append-right : (xs ys : List ℕ) (k a : ℕ) → set (xs ++ ys) (length xs + k) a ≡ xs ++ set ys k a

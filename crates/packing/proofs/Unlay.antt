@@ -5,7 +5,7 @@
 --   layOut-head          its three fields
 --   layOut-passes        it passes 1, 2, 3 and 5
 --   layOut-bytes         its entries are bytes
---   unlay-layOut         its bits and labels come back
+--   layOut-bits, layOut-labels, unlay-layOut   its bits and labels come back
 --   layOut-readable      its padding and fill are 0
 --   layOut-injective     kind, size, bits and labels are told apart
 --   unlay-laid           what is taken out of any record that passes is such as a record holds
@@ -26,9 +26,9 @@ use Rattle.model.specs.Numbers.{allBelow}
 use Rattle.model.specs.Map.{isKind}
 use Rattle.model.specs.Record.{bytesFor, le16, recordLength, payload, layOut}
 use Rattle.model.specs.Shelf.{word16, kindOf, edgesOf, headRefusal, passes}
+use Rattle.model.proofs.Below.{below-append, below-drop, below-head, below-tail}
 use Rattle.packing.specs.Unpack.{bits, groups}
 use Rattle.packing.specs.Unlay.{payloadBits, payloadLabels, Laid, bitsIn, labelsIn, unlay, readable}
-use Rattle.packing.proofs.Below.{below-append, below-drop, below-head, below-tail}
 use Rattle.packing.proofs.Packed.{unpack-drop}
 use Rattle.packing.proofs.Head.{le16-word16, le16-bytes, kind-cases, recordLength-range, Passes, passes-facts, facts-passes}
 use Rattle.packing.proofs.Payload.{payload-length, Parts, payload-bits, payload-labels, payload-clean, payload-bytes, unpayload-parts}
@@ -162,8 +162,8 @@ module _ (r : List ℕ) (pass : passes r ≡ true) where
       (from-clean e, λ q. ap readable q ∙ layOut-readable (kindOf r) (edgesOf r) (bitsIn r) (labelsIn r) unlay-laid)
 
   -- a record is told by its fields, bits and labels
-  pub readable-is : (k m : ℕ) (bs ls : List ℕ) → allBelow 256 r ≡ true → readable r ≡ true → kindOf r ≡ k → edgesOf r ≡ m → bitsIn r ≡ bs → labelsIn r ≡ ls
-      → r ≡ layOut k m bs ls
+  pub readable-is : (k m : ℕ) (bs ls : List ℕ) → allBelow 256 r ≡ true → readable r ≡ true → kindOf r ≡ k → edgesOf r ≡ m
+      → bitsIn r ≡ bs → labelsIn r ≡ ls → r ≡ layOut k m bs ls
   readable-is k m bs ls e z p q s t = from-clean e z ∙ rw (p, q, s, t)
 
 -- ---- where the bits and labels of a record stand

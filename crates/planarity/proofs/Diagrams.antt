@@ -15,10 +15,10 @@ use mathlib.Core.Path.{_≡_, refl, ap, _∙_}
 use mathlib.Core.Bool.{Bool, true, false, not, cond}
 use Rattle.model.specs.Map.{Plan, darts, opposite, dartCountFits}
 use Rattle.model.specs.Traversal.{Letter, down, up, first, second, opens}
-use Rattle.words.specs.Toured.{dartAt, letterOf, posOf, mateOf, Toured, isTree}
 use Rattle.orbits.specs.Chord.{Nested}
 use Rattle.orbits.specs.Tour.{diagram, rest}
-use Rattle.planarity.proofs.Positions.{mate-bound, closes-after}
+use Rattle.words.specs.Toured.{dartAt, letterOf, posOf, mateOf, Toured, isTree}
+use Rattle.words.proofs.Positions.{mate-bound, mate-before}
 use Rattle.planarity.proofs.Touring.{treeDart}
 
 abbrev pub treeMates : Plan → ℕ → ℕ
@@ -83,7 +83,7 @@ module _ (p : Plan) (t : Toured p) where
     opens-chord a down h e o = absurd (omega (arith, chord-off a h (ap isTree e)))
     opens-chord a up h e o = absurd (omega (arith, chord-off a h (ap isTree e)))
     opens-chord a first h e o = refl
-    opens-chord a second h e o = absurd (omega (arith, chord-on a h (ap isTree e), closes-after p t fits a h (ap opens e)))
+    opens-chord a second h e o = absurd (omega (arith, chord-on a h (ap isTree e), mate-before p t fits a h (ap opens e)))
 
     -- what lies under a chord, by whether it is of the tree
     chord-under : ChordsNest p → (a x : ℕ) (b : Bool) → a < darts p → letterOf p a ≡ first → a < x → x < mateOf p a → x < darts p

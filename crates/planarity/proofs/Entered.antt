@@ -17,12 +17,12 @@ use mathlib.Core.Bool.{true, false, true≢false, false≢true}
 use Rattle.model.specs.Numbers.{isPermutation}
 use Rattle.model.specs.Map.{Plan, darts, next, dartCountFits}
 use Rattle.model.specs.Traversal.{down, opens}
-use Rattle.words.specs.Toured.{letterOf, mateOf, Toured, isTree}
 use Rattle.orbits.specs.Chord as chord
 use Rattle.orbits.proofs.Order.{lt-suc-split, le-split}
 use Rattle.orbits.proofs.Chord.{next-cases}
+use Rattle.words.specs.Toured.{letterOf, mateOf, Toured, isTree}
 use Rattle.words.specs.Entered.{lastOpen, enteredAt}
-use Rattle.planarity.proofs.Positions.{mate-bound, mate-letter}
+use Rattle.words.proofs.Positions.{mate-bound, mate-letter}
 use Rattle.planarity.proofs.Vertices.{trees-nested}
 use Rattle.planarity.proofs.LastOpen.{Open, last-hit, last-skip, last-ext, last-cases}
 
@@ -50,7 +50,7 @@ module _ (p : Plan) (t : Toured p) (fits : dartCountFits (darts p) ≡ true) (pe
 
   open-past-flat : (k a : ℕ) → k < darts p → isTree (letterOf p k) ≡ false → a < k → Open p k a → Open p (suc k) a
   open-past-flat k a h e l (d, u) = (d, le-split u
-      (λ q. absurd (true≢false (sym (ap isTree (mate-letter p t fits down a (omega arith) d)) ∙ ap (λ (i : ℕ). isTree (letterOf p i)) (sym q) ∙ e)))
+      (λ q. absurd (true≢false (sym (ap isTree (mate-letter p t a (omega arith) down d)) ∙ ap (λ (i : ℕ). isTree (letterOf p i)) (sym q) ∙ e)))
       (λ m. m))
 
   pub enters-flat : (k : ℕ) → k < darts p → isTree (letterOf p k) ≡ false → enteredAt p (suc k) ≡ enteredAt p k
@@ -72,7 +72,7 @@ module _ (p : Plan) (t : Toured p) (fits : dartCountFits (darts p) ≡ true) (pe
       last-skip p m (suc k) m (t .opens-first k h (ap opens e)) (λ a u v o. inside-closed k a h e u v o) ∙ last-hit p m k (e, le-refl m)
 
   up-no-down : (k a : ℕ) → k < darts p → letterOf p k ≡ down → a ≡ mateOf p k → letterOf p a ≡ down → ⊥
-  up-no-down k a h e q d = false≢true (sym (ap opens (mate-letter p t fits down k h e)) ∙ ap (λ (i : ℕ). opens (letterOf p i)) (sym q) ∙ ap opens d)
+  up-no-down k a h e q d = false≢true (sym (ap opens (mate-letter p t k h down e)) ∙ ap (λ (i : ℕ). opens (letterOf p i)) (sym q) ∙ ap opens d)
 
   -- past the up all that came from the down on is closed
   closed-past-up : (k a : ℕ) → k < darts p → letterOf p k ≡ down → k ≤ a → a < suc (mateOf p k) → Open p (suc (mateOf p k)) a → ⊥

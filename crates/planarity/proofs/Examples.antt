@@ -3,9 +3,8 @@
 --   example             the plan
 --   example-entries     the entry of each of its twelve positions
 --   example-downs       its downs
-use Prim.Native.Nat.{ℕ}
 use mathlib.Core.Path.{_≡_, refl}
-use mathlib.Core.List.{List, [], _∷_, map}
+use mathlib.Core.List.{[], _∷_, map}
 use Rattle.model.specs.Numbers.{count, position, least}
 use Rattle.model.specs.Map.{Plan, opposite, next, vertexOf}
 use Rattle.model.specs.Traversal.{letterAt, onward, seenAfter, walk, visits, word}

@@ -11,15 +11,15 @@ use native.Mathlib.Omega.{arith}
 use mathlib.Core.Path.{_≡_, refl, sym, ap, subst, _∙_}
 use mathlib.Core.Logic.{_⊎_, inl, inr, ⊎-elim}
 use mathlib.Core.Bool.{Bool, true, false, _&&_, cond, true≢false}
-use lib.Dec.{T, leb}
+use lib.Dec.{leb}
 use borrow.Author.Tests.{leb-true, le-leb}
 use Rattle.model.specs.Map.{Plan}
 use Rattle.model.specs.Traversal.{Letter, down}
-use Rattle.words.specs.Toured.{letterOf, mateOf}
+use Rattle.model.proofs.Booleans.{and-left, and-right}
 use Rattle.orbits.proofs.Order.{lt-suc-split, le-split}
+use Rattle.words.specs.Toured.{letterOf, mateOf}
 use Rattle.words.specs.Entered.{isDown, stillOpen, lastOpen}
-use Rattle.planarity.proofs.Darts.{and-left, and-right}
-use Rattle.planarity.proofs.Vertices.{is-down}
+use Rattle.words.proofs.Letters.{is-down}
 
 module _ (p : Plan) where
   abbrev pub Open : ℕ → ℕ → Type 0
@@ -27,7 +27,7 @@ module _ (p : Plan) where
 
   test-open : (i a : ℕ) → stillOpen p i a ≡ true → Open i a
   test-open i a e =
-      (is-down (letterOf p a) (subst T (sym (and-left (isDown (letterOf p a)) (leb i (mateOf p a)) e)) tt),
+      (is-down (letterOf p a) (and-left (isDown (letterOf p a)) (leb i (mateOf p a)) e),
       leb-true i (mateOf p a) (and-right (isDown (letterOf p a)) (leb i (mateOf p a)) e))
 
   open-test : (i a : ℕ) → Open i a → stillOpen p i a ≡ true

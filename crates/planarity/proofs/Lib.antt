@@ -1,9 +1,6 @@
-pub mod Darts
-pub mod Positions
 pub mod Touring
 pub mod Diagrams
 pub mod Vertices
-pub mod Characteristic
 pub mod Planar
 pub mod LastOpen
 pub mod Entered

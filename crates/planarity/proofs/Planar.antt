@@ -10,15 +10,17 @@ use mathlib.Core.Bool.{true}
 use mathlib.Core.List.{List}
 use lib.ListN.{length}
 use Rattle.model.specs.Numbers.{cycles, isPermutation}
-use Rattle.model.specs.Map.{Plan, darts, opposite, next, faceNext, edges, vertices, faces, characteristic, planar, dartCountFits}
-use Rattle.words.specs.Toured.{dartAt, posOf, Toured, Bracketed}
+use Rattle.model.specs.Map.{Plan, darts, opposite, next, faceNext, edges, vertices, faces, planar, dartCountFits}
+use Rattle.model.proofs.Fitness.{count-even, count-positive}
+use Rattle.model.proofs.Opposite.{opposite-ne}
+use Rattle.model.proofs.Characteristic.{planar-two, two-planar}
 use Rattle.orbits.specs.Tour.{face}
 use Rattle.orbits.proofs.Euler.{planar-nested, nested-planar}
-use Rattle.planarity.proofs.Darts.{opposite-ne, opposite-inv, count-even, count-positive, next-perm}
+use Rattle.orbits.proofs.Maps.{opposite-inv, next-perm}
+use Rattle.words.specs.Toured.{dartAt, posOf, Toured, Bracketed}
 use Rattle.planarity.proofs.Touring.{treeDart, tour}
 use Rattle.planarity.proofs.Diagrams.{ChordsNest, nested-chords, chords-nested}
 use Rattle.planarity.proofs.Vertices.{trees-nested, tree-diagram-nested}
-use Rattle.planarity.proofs.Characteristic.{characteristic-two, two-characteristic}
 
 -- ---- planar, in plain numbers
 
@@ -27,12 +29,12 @@ module _ (rot : List ℕ) where
   Euler = cycles (next rot) (length rot) + cycles (face (next rot) opposite) (length rot) ≡ edges rot + 2
 
   planar-euler : planar rot ≡ true → Euler
-  unfolding planar characteristic vertices faces faceNext
-  planar-euler = characteristic-two (vertices rot) (edges rot) (faces rot)
+  unfolding vertices faces faceNext
+  planar-euler = planar-two rot
 
   euler-planar : Euler → planar rot ≡ true
-  unfolding planar characteristic vertices faces faceNext
-  euler-planar = two-characteristic (vertices rot) (edges rot) (faces rot)
+  unfolding vertices faces faceNext
+  euler-planar = two-planar rot
 
   edges-half : length rot % 2 ≡ 0 → edges rot + edges rot ≡ length rot
   unfolding edges

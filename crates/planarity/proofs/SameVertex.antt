@@ -13,12 +13,12 @@ use mathlib.Core.Bool.{true, false}
 use Rattle.model.specs.Numbers.{isPermutation}
 use Rattle.model.specs.Map.{Plan, darts, opposite, next, vertexOf, dartCountFits}
 use Rattle.model.specs.Traversal.{Letter, down, up, first, second, opens}
-use Rattle.words.specs.Toured.{dartAt, letterOf, posOf, mateOf, Toured, isTree}
 use Rattle.orbits.proofs.Order.{le-split}
 use Rattle.orbits.proofs.Cycle.{least-keeps}
+use Rattle.orbits.proofs.Maps.{next-perm}
+use Rattle.words.specs.Toured.{dartAt, letterOf, posOf, mateOf, Toured, isTree}
 use Rattle.words.specs.Entered.{enteredAt}
-use Rattle.planarity.proofs.Darts.{next-perm}
-use Rattle.planarity.proofs.Positions.{mate-bound, mate-dart, mate-mate, mate-letter, closes-after}
+use Rattle.words.proofs.Positions.{mate-bound, mate-dart, mate-back, mate-letter, mate-before}
 use Rattle.planarity.proofs.Touring.{turn-flat, turn-tree}
 use Rattle.planarity.proofs.Vertices.{after-flat, after-tree}
 use Rattle.planarity.proofs.LastOpen.{last-open}
@@ -42,9 +42,9 @@ module _ (p : Plan) (t : Toured p) (fits : dartCountFits (darts p) ≡ true) (pe
   kept-at i up h e =
       let c = mateOf p i in
       let hc = mate-bound p t fits i h in
-      let d = mate-letter p t fits up i h e in
+      let d = mate-letter p t i h up e in
       kept-tree i h (ap isTree e) ∙ enters-down p t fits perm c hc d
-      ∙ sym (enters-arrival p t fits perm c hc d) ∙ ap (enteredAt p) (mate-mate p t fits i h)
+      ∙ sym (enters-arrival p t fits perm c hc d) ∙ ap (enteredAt p) (mate-back p t fits i h)
   kept-at i first h e = kept-flat i h (ap isTree e)
   kept-at i second h e = kept-flat i h (ap isTree e)
 
@@ -76,9 +76,9 @@ module _ (p : Plan) (t : Toured p) (fits : dartCountFits (darts p) ≡ true) (pe
       let hk : k < darts p = omega arith in
       let c = mateOf p k in
       let hc = mate-bound p t fits k hk in
-      ap (λ (i : ℕ). at (enteredAt p (suc i))) (sym (mate-mate p t fits k hk))
-      ∙ ap at (enters-up p t fits perm c hc (mate-letter p t fits up k hk e))
-      ∙ ih c (le-of-lt (closes-after p t fits k hk (ap opens e))) hc
+      ap (λ (i : ℕ). at (enteredAt p (suc i))) (sym (mate-back p t fits k hk))
+      ∙ ap at (enters-up p t fits perm c hc (mate-letter p t k hk up e))
+      ∙ ih c (le-of-lt (mate-before p t fits k hk (ap opens e))) hc
       ∙ ap (vertexOf (p .rotation)) (mate-dart p t fits k hk) ∙ sym (after-tree p t fits perm k h (ap isTree e))
   entered-on k first h e ih = entered-flat k h (ap isTree e) (ih k (le-refl k) (omega arith))
   entered-on k second h e ih = entered-flat k h (ap isTree e) (ih k (le-refl k) (omega arith))
@@ -113,9 +113,9 @@ module _ (p : Plan) (t : Toured p) (fits : dartCountFits (darts p) ≡ true) (pe
   second-descends j h e apart =
       let i = mateOf p j in
       let hi = mate-bound p t fits j h in
-      let (q, l, v) = t .old i hi (mate-letter p t fits second j h e) in
-      let opp : opposite (dartAt p i) ≡ dartAt p j = sym (mate-dart p t fits i hi) ∙ ap (dartAt p) (mate-mate p t fits j h) in
+      let (q, l, v) = t .old i hi (mate-letter p t j h second e) in
+      let opp : opposite (dartAt p i) ≡ dartAt p j = sym (mate-dart p t fits i hi) ∙ ap (dartAt p) (mate-back p t fits j h) in
       let same = same-vertex q j (omega arith) h (v ∙ ap (vertexOf (p .rotation)) opp) in
-      le-split (entered-between q i j l (le-of-lt (closes-after p t fits j h (ap opens e))) same)
+      le-split (entered-between q i j l (le-of-lt (mate-before p t fits j h (ap opens e))) same)
       (λ s. absurd (apart (same-entry i j hi h (sym s))))
       (λ s. s)

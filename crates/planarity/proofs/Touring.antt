@@ -1,42 +1,29 @@
 -- The traversal is a tour of the map that crosses the tree edges.
 --
 --   treeDart p d      the letter of dart d is of a tree edge
---   onward-tree, onward-flat   where the traversal goes from a letter of a tree edge, and from another
 --   step-on           it goes one position on, and from the last to the first
 --   turn-flat, turn-tree   where the next dart about a dart's vertex comes
 --   tour              the tour
 use Prim.Native.Nat.{ℕ, suc, _<_}
 use native.Mathlib.Omega.{arith}
-use mathlib.Core.Path.{_≡_, refl, sym, ap, _∙_}
+use mathlib.Core.Path.{_≡_, sym, ap, _∙_}
 use mathlib.Core.Logic.{⊎-elim}
-use mathlib.Core.Bool.{Bool, true, false, cond, true≢false, false≢true}
-use mathlib.Core.List.{List}
+use mathlib.Core.Bool.{Bool, true, false, cond}
 use Rattle.model.specs.Numbers.{isPermutation}
 use Rattle.model.specs.Map.{Plan, darts, opposite, next, dartCountFits}
-use Rattle.model.specs.Traversal.{Letter, down, up, first, second, onward}
-use Rattle.words.specs.Toured.{dartAt, letterOf, posOf, mateOf, Toured, isTree}
+use Rattle.model.specs.Traversal.{onward}
+use Rattle.model.proofs.Fitness.{count-even}
+use Rattle.model.proofs.Opposite.{opposite-opposite}
 use Rattle.orbits.specs.Chord as chord
 use Rattle.orbits.specs.Tour.{Tour}
 use Rattle.orbits.proofs.Chord.{next-cases}
-use Rattle.planarity.proofs.Darts.{opposite-opposite, opposite-inv, count-even, next-perm}
-use Rattle.planarity.proofs.Positions.{mate-bound, mate-dart, pos-mate, mate-tree}
+use Rattle.orbits.proofs.Maps.{opposite-inv, next-perm}
+use Rattle.words.specs.Toured.{dartAt, letterOf, posOf, mateOf, Toured, isTree}
+use Rattle.words.proofs.Letters.{onward-tree, onward-flat, onward-is}
+use Rattle.words.proofs.Positions.{mate-bound, mate-dart, pos-mate, mate-tree}
 
 abbrev pub treeDart : Plan → ℕ → Bool
 treeDart p d = isTree (letterOf p (posOf p d))
-
-pub onward-tree : (rot : List ℕ) (l : Letter) (d : ℕ) → isTree l ≡ true → onward rot l d ≡ next rot (opposite d)
-unfolding onward
-onward-tree rot down d e = refl
-onward-tree rot up d e = refl
-onward-tree rot first d e = absurd (false≢true e)
-onward-tree rot second d e = absurd (false≢true e)
-
-pub onward-flat : (rot : List ℕ) (l : Letter) (d : ℕ) → isTree l ≡ false → onward rot l d ≡ next rot d
-unfolding onward
-onward-flat rot down d e = absurd (true≢false e)
-onward-flat rot up d e = absurd (true≢false e)
-onward-flat rot first d e = refl
-onward-flat rot second d e = refl
 
 module _ (p : Plan) (t : Toured p) (fits : dartCountFits (darts p) ≡ true) where
   -- one position on, round the traversal
@@ -55,23 +42,17 @@ module _ (p : Plan) (t : Toured p) (fits : dartCountFits (darts p) ≡ true) whe
   turn-tree i h e =
       let m = mateOf p i in
       ap (λ (d : ℕ). posOf p (next (p .rotation) d)) (sym (ap opposite (mate-dart p t fits i h) ∙ opposite-opposite (dartAt p i)))
-      ∙ ap (posOf p) (sym (onward-tree (p .rotation) (letterOf p m) (dartAt p m) (mate-tree p t fits i h ∙ e)))
+      ∙ ap (posOf p) (sym (onward-tree (p .rotation) (letterOf p m) (dartAt p m) (mate-tree p t i h ∙ e)))
       ∙ step-on m (mate-bound p t fits i h)
 
   tree-whole : (d : ℕ) → d < darts p → treeDart p (opposite d) ≡ treeDart p d
-  tree-whole d h = ap (λ (i : ℕ). isTree (letterOf p i)) (pos-mate p t fits d h) ∙ mate-tree p t fits (posOf p d) (t .pos-bound d h)
-
-  -- by whether the dart is of the tree
-  onward-by : (b : Bool) (l : Letter) (d : ℕ) → isTree l ≡ b
-      → cond b (next (p .rotation) (opposite d)) (next (p .rotation) d) ≡ onward (p .rotation) l d
-  onward-by true l d e = sym (onward-tree (p .rotation) l d e)
-  onward-by false l d e = sym (onward-flat (p .rotation) l d e)
+  tree-whole d h = ap (λ (i : ℕ). isTree (letterOf p i)) (pos-mate p t d h) ∙ mate-tree p t (posOf p d) (t .pos-bound d h)
 
   tour-step : (d : ℕ) → d < darts p
       → posOf p (cond (treeDart p d) (next (p .rotation) (opposite d)) (next (p .rotation) d)) ≡ chord.next (darts p) (posOf p d)
   tour-step d h =
       let l = letterOf p (posOf p d) in
-      ap (posOf p) (onward-by (treeDart p d) l d refl ∙ ap (onward (p .rotation) l) (sym (t .dart-pos d h))) ∙ step-on (posOf p d) (t .pos-bound d h)
+      ap (posOf p) (sym (onward-is (p .rotation) l d) ∙ ap (onward (p .rotation) l) (sym (t .dart-pos d h))) ∙ step-on (posOf p d) (t .pos-bound d h)
 
   pub tour : isPermutation (p .rotation) ≡ true → Tour (darts p) (next (p .rotation)) opposite (treeDart p) (posOf p) (dartAt p)
   tour perm = record {

@@ -1,7 +1,5 @@
 -- Every vertex but the root's is entered by one down.
 --
---   is-down            a letter that passes `isDown` is down
---   vertex-next        the next dart about a vertex is at that vertex
 --   after-flat, after-tree   the vertex one position on, after a letter that is not of the tree and after one that is
 --   vertices-downs     there is one vertex more than downs
 --   tree-chords        the tree's diagram has as many chords as there are downs
@@ -12,32 +10,28 @@ use native.Mathlib.Nat.{le-antisymm, le-of-lt, le-of-eq, le-of-suc-le-suc}
 use native.Mathlib.Omega.{arith}
 use mathlib.Core.Path.{_≡_, refl, sym, ap, _∙_}
 use mathlib.Core.Bool.{Bool, true, false}
-use mathlib.Core.List.{List}
 use lib.Dec.{T, ltb}
-use lib.ListN.{length}
 use borrow.Author.Tests.{lt-ltb, le-ltb}
 use Rattle.model.specs.Numbers.{tick, count, least, isLeast, cycles, isPermutation}
 use Rattle.model.specs.Map.{Plan, darts, opposite, next, vertexOf, vertices, dartCountFits}
 use Rattle.model.specs.Traversal.{Letter, down, up, first, second, opens}
-use Rattle.words.specs.Toured.{dartAt, letterOf, posOf, mateOf, Toured, isTree}
+use Rattle.model.proofs.Fitness.{count-positive}
+use Rattle.model.proofs.Opposite.{opposite-opposite}
+use Rattle.model.proofs.Booleans.{T-true}
 use Rattle.orbits.specs.Chord.{opener, chords, Nested}
 use Rattle.orbits.specs.Tour.{face, rest}
 use Rattle.orbits.proofs.Order.{tri, eq→eqb}
 use Rattle.orbits.proofs.Tally.{tick-suc, count-out, count-ext, count-inj}
-use Rattle.orbits.proofs.Cycle.{least-step, least-bound, least-idem, perm-ext}
+use Rattle.orbits.proofs.Cycle.{least-bound, least-idem, perm-ext}
 use Rattle.orbits.proofs.Transversal.{cycles-ext}
 use Rattle.orbits.proofs.Tour.{dual, map-faces-le, map-nested}
+use Rattle.orbits.proofs.Maps.{next-perm, vertex-turn}
+use Rattle.words.specs.Toured.{dartAt, letterOf, posOf, mateOf, Toured, isTree}
 use Rattle.words.specs.Entered.{isDown, downs}
-use Rattle.planarity.proofs.Darts.{opposite-opposite, count-positive, next-perm}
-use Rattle.planarity.proofs.Positions.{mate-bound, closes-after, opposite-at}
-use Rattle.planarity.proofs.Touring.{treeDart, onward-tree, onward-flat, tour}
+use Rattle.words.proofs.Letters.{onward-tree, onward-flat, is-down}
+use Rattle.words.proofs.Positions.{mate-bound, mate-before, opposite-at}
+use Rattle.planarity.proofs.Touring.{treeDart, tour}
 use Rattle.planarity.proofs.Diagrams.{treeMates, TreesNest, tree-on, tree-off, nested-trees}
-
-pub is-down : (l : Letter) → T (isDown l) → l ≡ down
-is-down down t = refl
-is-down up t = absurd t
-is-down first t = absurd t
-is-down second t = absurd t
 
 -- ---- the positions where a vertex is entered: the first, and those just after a down
 
@@ -56,13 +50,8 @@ count-all-enters : (p : Plan) (n : ℕ) → 0 < n → ((a : ℕ) → suc a ≡ n
     → count (enters p) n ≡ suc (count (λ i. isDown (letterOf p i)) n)
 count-all-enters p zero h last = absurd (omega arith)
 count-all-enters p (suc n) h last =
-    count-enters p n ∙ ap suc (sym (count-out (λ i. isDown (letterOf p i)) n (λ t. last n refl (is-down (letterOf p n) t))))
-
--- ---- vertices
-
-pub vertex-next : (rot : List ℕ) → isPermutation rot ≡ true → (d : ℕ) → d < length rot → vertexOf rot (next rot d) ≡ vertexOf rot d
-unfolding vertexOf
-vertex-next rot perm d h = least-step (length rot) (next rot) (next-perm rot perm) d h
+    count-enters p n ∙ ap suc (sym (count-out (λ i. isDown (letterOf p i)) n (λ t.
+    last n refl (is-down (letterOf p n) (T-true (isDown (letterOf p n)) t)))))
 
 module _ (p : Plan) (t : Toured p) (fits : dartCountFits (darts p) ≡ true) (perm : isPermutation (p .rotation) ≡ true) where
   -- the vertex one position on
@@ -70,19 +59,20 @@ module _ (p : Plan) (t : Toured p) (fits : dartCountFits (darts p) ≡ true) (pe
       → vertexOf (p .rotation) (dartAt p (suc k)) ≡ vertexOf (p .rotation) (dartAt p k)
   after-flat k h e =
       ap (vertexOf (p .rotation)) (t .step k h ∙ onward-flat (p .rotation) (letterOf p k) (dartAt p k) e)
-      ∙ vertex-next (p .rotation) perm (dartAt p k) (t .dart-bound k (omega arith))
+      ∙ vertex-turn (p .rotation) (next-perm (p .rotation) perm) (dartAt p k) (t .dart-bound k (omega arith))
 
   pub after-tree : (k : ℕ) → suc k < darts p → isTree (letterOf p k) ≡ true
       → vertexOf (p .rotation) (dartAt p (suc k)) ≡ vertexOf (p .rotation) (opposite (dartAt p k))
   after-tree k h e =
       ap (vertexOf (p .rotation)) (t .step k h ∙ onward-tree (p .rotation) (letterOf p k) (dartAt p k) e)
-      ∙ vertex-next (p .rotation) perm (opposite (dartAt p k)) (opposite-at p t fits k (omega arith))
+      ∙ vertex-turn (p .rotation) (next-perm (p .rotation) perm) (opposite (dartAt p k)) (opposite-at p t fits k (omega arith))
 
   -- a vertex that is entered has no dart before
   entered-new : (i j : ℕ) → i < j → j < darts p → T (enters p j) → vertexOf (p .rotation) (dartAt p i) ≡ vertexOf (p .rotation) (dartAt p j) → ⊥
   entered-new i zero l h u e = absurd (omega arith)
   entered-new i (suc a) l h u e =
-      let d = is-down (letterOf p a) u in t .new a (omega arith) d i (le-of-suc-le-suc l) (e ∙ after-tree a h (ap isTree d))
+      let d = is-down (letterOf p a) (T-true (isDown (letterOf p a)) u) in
+      t .new a (omega arith) d i (le-of-suc-le-suc l) (e ∙ after-tree a h (ap isTree d))
 
   entered-apart : (i j : ℕ) → i < darts p → j < darts p → T (enters p i) → T (enters p j)
       → vertexOf (p .rotation) (dartAt p i) ≡ vertexOf (p .rotation) (dartAt p j) → i ≡ j
@@ -111,7 +101,7 @@ module _ (p : Plan) (t : Toured p) (fits : dartCountFits (darts p) ≡ true) (pe
   opener-down i down h e =
       ap (ltb i) (tree-on p t i h (ap isTree e)) ∙ lt-ltb i (mateOf p i) (t .opens-first i h (ap opens e))
   opener-down i up h e =
-      ap (ltb i) (tree-on p t i h (ap isTree e)) ∙ le-ltb i (mateOf p i) (le-of-lt (closes-after p t fits i h (ap opens e)))
+      ap (ltb i) (tree-on p t i h (ap isTree e)) ∙ le-ltb i (mateOf p i) (le-of-lt (mate-before p t fits i h (ap opens e)))
   opener-down i first h e = le-ltb i (treeMates p i) (le-of-eq (tree-off p t i h (ap isTree e)))
   opener-down i second h e = le-ltb i (treeMates p i) (le-of-eq (tree-off p t i h (ap isTree e)))
 

@@ -13,20 +13,22 @@ use lib.Dec.{eqb}
 use lib.IntN.{ℤ, pos, _+ℤ_, _-ℤ_}
 use lib.ListN.{length, getD}
 use Rattle.model.specs.Numbers.{some, cycles, isPermutation}
-use Rattle.model.specs.Map.{Plan, darts, opposite, next, vertexOf, faceNext, edges, vertices, faces, degreeOne, reached}
+use Rattle.model.specs.Map.{Plan, darts, opposite, next, vertexOf, faceNext, edges, vertices, faces, degreeOne}
 use Rattle.model.specs.Map.{connected, characteristic, planar, hasLoop, hasDegreeOne, degreeRefused, fit}
 use Rattle.model.specs.Renumbering.{Renumbering}
+use Rattle.model.proofs.Booleans.{some-no, no-some}
+use Rattle.model.proofs.Fitness.{count-even, fit-parts, parts-fit}
+use Rattle.model.proofs.Opposite.{opposite-bound}
 use Rattle.orbits.specs.Permutation.{Perm}
 use Rattle.orbits.proofs.Transversal.{cycles-conj}
+use Rattle.orbits.proofs.Maps.{next-perm, face-perm}
+use Rattle.traversal.specs.Reach.{Reached, start, across, turn}
+use Rattle.traversal.proofs.Reach.{connected-from, reached-connected}
 use Rattle.renumbering.specs.Isomorphism.{Isomorphism, inverseOf}
 use Rattle.renumbering.proofs.Permutations.{of-list}
-use Rattle.renumbering.proofs.Maps.{even, opposite-bound, next-perm, face-perm}
-use Rattle.renumbering.proofs.Fitness.{fit-all, all-fit}
 use Rattle.renumbering.proofs.Isomorphisms.{eqb-both, image-bound, image-inj, back-left, back-right, back-bound}
 use Rattle.renumbering.proofs.Isomorphisms.{iso-permutation, iso-face, iso-vertex}
 use Rattle.renumbering.proofs.Renumberings.{iso-of, carries-darts, carries-root, carries-permutation}
-use Rattle.renumbering.proofs.Connected.{Closed, nowhere, closed-from-one}
-use Rattle.renumbering.proofs.Reached.{Marked, none-below, reached-closed, reached-zero, all-connected}
 
 module _ {rot rot′ f : List ℕ} (two : length rot % 2 ≡ 0) (perm : isPermutation rot ≡ true) (iso : Isomorphism rot rot′ f) where
   -- every dart is a partner
@@ -37,12 +39,12 @@ module _ {rot rot′ f : List ℕ} (two : length rot % 2 ≡ 0) (perm : isPermut
 
   iso-some : (t t′ : ℕ → Bool) → ((d : ℕ) → d < length rot → t′ (getD f d 0) ≡ t d) → some t (length rot) ≡ false → some t′ (length rot′) ≡ false
   iso-some t t′ same none =
-      none-below t′ (length rot′) (from-partner (λ d. t′ d ≡ false) (λ d h. same d h ∙ nowhere t (length rot) none d h))
+      no-some t′ (length rot′) (from-partner (λ d. t′ d ≡ false) (λ d h. same d h ∙ some-no t (length rot) none d h))
 
   pub iso-loop : hasLoop rot ≡ false → hasLoop rot′ ≡ false
   unfolding hasLoop
   iso-loop = iso-some (λ d. eqb (vertexOf rot d) (vertexOf rot (opposite d))) (λ d. eqb (vertexOf rot′ d) (vertexOf rot′ (opposite d))) (λ d h.
-      let both = iso-vertex two perm iso d (opposite d) h (opposite-bound (length rot) two d h) in
+      let both = iso-vertex two perm iso d (opposite d) h (opposite-bound (length rot) d two h) in
       ap (λ (x : ℕ). eqb (vertexOf rot′ (getD f d 0)) (vertexOf rot′ x)) (sym (iso .opposites d h))
       ∙ eqb-both (vertexOf rot d) (vertexOf rot (opposite d)) (vertexOf rot′ (getD f d 0)) (vertexOf rot′ (getD f (opposite d) 0))
       (both .0) (both .1))
@@ -55,19 +57,12 @@ module _ {rot rot′ f : List ℕ} (two : length rot % 2 ≡ 0) (perm : isPermut
       (image-inj iso (next rot d) d (next-perm rot perm .bound d h) h))
 
   pub iso-connected : 0 < length rot → connected rot ≡ true → connected rot′ ≡ true
-  iso-connected some-dart e = all-connected rot′ (from-partner (Marked (reached rot′)) (
-      closed-from-one rot two perm (λ d. Marked (reached rot′) (getD f d 0)) (record {
-        across = λ d h m. subst (Marked (reached rot′)) (sym (iso .opposites d h)) (closed .across (getD f d 0) (in′ d h) m);
-        around = λ d h m. subst (Marked (reached rot′)) (sym (iso .rotations d h)) (closed .around (getD f d 0) (in′ d h) m);
-      }) e (getD (inverseOf f) 0 0) (back-bound two perm iso 0 some-dart)
-      (subst (Marked (reached rot′)) (sym (back-right two perm iso 0 some-dart)) (reached-zero rot′ some-dart′))))
-    where
-      some-dart′ : 0 < length rot′
-      some-dart′ = omega (arith, iso .same-darts)
-      in′ : (d : ℕ) → d < length rot → getD f d 0 < length rot′
-      in′ d h = let b = image-bound iso d h in omega (arith, iso .same-darts)
-      closed : Closed rot′ (Marked (reached rot′))
-      closed = reached-closed rot′ (subst (λ (n : ℕ). n % 2 ≡ 0) (iso .same-darts) two) (iso-permutation two perm iso) some-dart′
+  iso-connected some-dart e =
+      reached-connected rot′ (subst (λ (n : ℕ). n % 2 ≡ 0) (iso .same-darts) two) (iso-permutation two perm iso) (from-partner (Reached rot′) (
+      connected-from rot two perm e (λ d. Reached rot′ (getD f d 0)) (record {
+        across = λ d h s. subst (Reached rot′) (sym (iso .opposites d h)) (across s);
+        turn = λ d h s. subst (Reached rot′) (sym (iso .rotations d h)) (turn s);
+      }) (getD (inverseOf f) 0 0) (back-bound two perm iso 0 some-dart) (subst (Reached rot′) (sym (back-right two perm iso 0 some-dart)) start)))
 
   -- a permutation that is carried keeps its number of cycles
   cycles-carried : (s s′ : ℕ → ℕ) → Perm (length rot) s → Perm (length rot′) s′ → ((d : ℕ) → d < length rot → getD f (s d) 0 ≡ s′ (getD f d 0))
@@ -104,15 +99,15 @@ degree-carried k p q on = go (eqb k 1)
 
 pub carries-fit : (k : ℕ) (p q : Plan) (f : List ℕ) → Renumbering p q f → fit k p ≡ true → fit k q ≡ true
 carries-fit k p q f r e =
-    let a = fit-all k p e in
-    let two = even (darts p) (a .dart-count) in
-    all-fit k q (record {
+    let a = fit-parts k p e in
+    let two = count-even (darts p) (a .count) in
+    parts-fit k q (record {
       kind = a .kind;
-      dart-count = carries-darts p (a .dart-count) (a .root-in) (a .entries) q f r;
-      root-in = carries-root p (a .dart-count) (a .root-in) (a .entries) q f r;
-      entries = carries-permutation p (a .dart-count) (a .root-in) (a .entries) q f r;
-      whole = iso-connected two (a .entries) (iso-of r) (omega (arith, a .root-in)) (a .whole);
+      count = carries-darts p (a .count) (a .root) (a .entries) q f r;
+      root = carries-root p (a .count) (a .root) (a .entries) q f r;
+      entries = carries-permutation p (a .count) (a .root) (a .entries) q f r;
+      joined = iso-connected two (a .entries) (iso-of r) (omega (arith, a .root)) (a .joined);
       flat = iso-planar two (a .entries) (iso-of r) (a .flat);
-      no-loop = iso-loop two (a .entries) (iso-of r) (a .no-loop);
+      loopless = iso-loop two (a .entries) (iso-of r) (a .loopless);
       degrees = degree-carried k p q (iso-degree two (a .entries) (iso-of r)) (a .degrees);
     })

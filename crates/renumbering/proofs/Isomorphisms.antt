@@ -20,13 +20,14 @@ use lib.ListN.{length, getD}
 use borrow.Author.Tests.{eq-eqb, ne-eqb}
 use Rattle.model.specs.Numbers.{isPermutation, least}
 use Rattle.model.specs.Map.{opposite, next, vertexOf, faceNext}
+use Rattle.model.proofs.Opposite.{opposite-bound}
 use Rattle.orbits.specs.Permutation.{Perm}
 use Rattle.orbits.proofs.Order.{eq-split}
 use Rattle.orbits.proofs.Cycle.{least-step, least-keeps}
+use Rattle.orbits.proofs.Maps.{list-perm, perm-list, next-perm}
 use Rattle.renumbering.specs.Isomorphism.{Isomorphism, identityOf, inverseOf, composed}
-use Rattle.renumbering.proofs.Permutations.{of-list, list-perm, perm-list, length-tabulate, tabulate-at, identity-perm}
+use Rattle.renumbering.proofs.Permutations.{of-list, length-tabulate, tabulate-at, identity-perm}
 use Rattle.renumbering.proofs.Permutations.{length-inverse, inverse-bound, inverse-left, inverse-right, inverse-perm, composed-at, composed-perm}
-use Rattle.renumbering.proofs.Maps.{opposite-bound, next-perm}
 
 -- two tests of equality that agree
 pub eqb-both : (a b a′ b′ : ℕ) → (a ≡ b → a′ ≡ b′) → (a′ ≡ b′ → a ≡ b) → eqb a′ b′ ≡ eqb a b
@@ -60,7 +61,7 @@ module _ (rot : List ℕ) (two : length rot % 2 ≡ 0) (perm : isPermutation rot
     size = length-identity;
     same-darts = refl;
     partners = identity-perm (length rot);
-    opposites = λ d h. identity-at (opposite d) (opposite-bound (length rot) two d h) ∙ ap opposite (sym (identity-at d h));
+    opposites = λ d h. identity-at (opposite d) (opposite-bound (length rot) d two h) ∙ ap opposite (sym (identity-at d h));
     rotations = λ d h. identity-at (next rot d) (next-perm rot perm .bound d h) ∙ ap (next rot) (sym (identity-at d h));
   }
 
@@ -84,7 +85,7 @@ module _ {rot rot′ f : List ℕ} (two : length rot % 2 ≡ 0) (perm : isPermut
         let c = getD (inverseOf f) d 0 in
         let hc = back-bound d (omega (arith, iso .same-darts)) in
         let on : getD f (opposite c) 0 ≡ opposite d = iso .opposites c hc ∙ ap opposite (back-right d (omega (arith, iso .same-darts))) in
-        ap (of-list (inverseOf f)) (sym on) ∙ back-left (opposite c) (opposite-bound (length rot) two c hc);
+        ap (of-list (inverseOf f)) (sym on) ∙ back-left (opposite c) (opposite-bound (length rot) c two hc);
     rotations = λ d h.
         let c = getD (inverseOf f) d 0 in
         let hc = back-bound d (omega (arith, iso .same-darts)) in
@@ -129,7 +130,7 @@ module _ {rot rot′ rot″ f g : List ℕ} (two : length rot % 2 ≡ 0) (perm :
     partners = composed-perm f g same-size (iso .partners) (iso′ .partners);
     opposites = λ d h.
         let b = image-bound iso d h in
-        then (opposite d) (opposite-bound (length rot) two d h) ∙ ap (of-list g) (iso .opposites d h)
+        then (opposite d) (opposite-bound (length rot) d two h) ∙ ap (of-list g) (iso .opposites d h)
         ∙ iso′ .opposites (getD f d 0) (omega (arith, iso .same-darts)) ∙ ap opposite (sym (then d h));
     rotations = λ d h.
         let b = image-bound iso d h in
@@ -143,7 +144,7 @@ pub iso-face : {rot rot′ f : List ℕ} → length rot % 2 ≡ 0 → Isomorphis
     → (d : ℕ) → d < length rot → getD f (faceNext rot d) 0 ≡ faceNext rot′ (getD f d 0)
 unfolding faceNext
 iso-face {rot} {rot′} {f} two iso d h =
-    iso .rotations (opposite d) (opposite-bound (length rot) two d h) ∙ ap (next rot′) (iso .opposites d h)
+    iso .rotations (opposite d) (opposite-bound (length rot) d two h) ∙ ap (next rot′) (iso .opposites d h)
 
 -- darts of one vertex have partners of one vertex
 vertex-on : {rot rot′ f : List ℕ} → isPermutation rot ≡ true → isPermutation rot′ ≡ true → Isomorphism rot rot′ f

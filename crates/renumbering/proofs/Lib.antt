@@ -1,10 +1,7 @@
 pub mod Permutations
-pub mod Maps
-pub mod Fitness
 pub mod Isomorphisms
 pub mod Renumberings
 pub mod Walk
 pub mod Connected
-pub mod Reached
 pub mod Carried
 pub mod Standard

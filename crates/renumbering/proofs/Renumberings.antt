@@ -5,7 +5,7 @@
 --   identity, inverse, compose   the identity of a plan, the inverse of a renumbering, two renumberings one after the other
 --   carries-darts, carries-root, carries-permutation   what makes the second plan a plan
 --   carries-vertex        two darts are of one vertex exactly when their partners are
-use Prim.Native.Nat.{ℕ, _<_}
+use Prim.Native.Nat.{ℕ, _%_, _<_}
 use native.Mathlib.Omega.{arith}
 use mathlib.Core.Path.{_≡_, sym, ap, subst, _∙_}
 use mathlib.Core.Logic.{_↔_}
@@ -15,9 +15,9 @@ use lib.ListN.{getD}
 use Rattle.model.specs.Numbers.{isPermutation}
 use Rattle.model.specs.Map.{Plan, darts, vertexOf, dartCountFits}
 use Rattle.model.specs.Renumbering.{Renumbering}
+use Rattle.model.proofs.Fitness.{count-even}
 use Rattle.renumbering.specs.Isomorphism.{Isomorphism, identityOf, inverseOf, composed}
 use Rattle.renumbering.proofs.Permutations.{of-list}
-use Rattle.renumbering.proofs.Maps.{even}
 use Rattle.renumbering.proofs.Isomorphisms.{image-bound, identity-at, back-left, then}
 use Rattle.renumbering.proofs.Isomorphisms.{iso-identity, iso-inverse, iso-composed, iso-permutation, iso-vertex}
 
@@ -30,18 +30,20 @@ with-root iso e = record {
   size = iso .size; same-darts = iso .same-darts; partners = iso .partners; root-to-root = e; opposites = iso .opposites; rotations = iso .rotations }
 
 module _ (p : Plan) (fits : dartCountFits (darts p) ≡ true) (root-in : p .root < darts p) (perm : isPermutation (p .rotation) ≡ true) where
+  two : darts p % 2 ≡ 0
+  two = count-even (darts p) fits
+
   pub identity : Renumbering p p (identityOf (darts p))
-  identity =
-      with-root (iso-identity (p .rotation) (even (darts p) fits) perm) (identity-at (p .rotation) (even (darts p) fits) perm (p .root) root-in)
+  identity = with-root (iso-identity (p .rotation) two perm) (identity-at (p .rotation) two perm (p .root) root-in)
 
   module _ (q : Plan) (f : List ℕ) (r : Renumbering p q f) where
     pub inverse : Renumbering q p (inverseOf f)
-    inverse = with-root (iso-inverse (even (darts p) fits) perm (iso-of r))
-        (ap (of-list (inverseOf f)) (sym (r .root-to-root)) ∙ back-left (even (darts p) fits) perm (iso-of r) (p .root) root-in)
+    inverse = with-root (iso-inverse two perm (iso-of r))
+        (ap (of-list (inverseOf f)) (sym (r .root-to-root)) ∙ back-left two perm (iso-of r) (p .root) root-in)
 
     pub compose : (s : Plan) (g : List ℕ) → Renumbering q s g → Renumbering p s (composed f g)
-    compose s g r′ = with-root (iso-composed (even (darts p) fits) perm (iso-of r) (iso-of r′))
-        (then (even (darts p) fits) perm (iso-of r) (iso-of r′) (p .root) root-in ∙ ap (of-list g) (r .root-to-root) ∙ r′ .root-to-root)
+    compose s g r′ = with-root (iso-composed two perm (iso-of r) (iso-of r′))
+        (then two perm (iso-of r) (iso-of r′) (p .root) root-in ∙ ap (of-list g) (r .root-to-root) ∙ r′ .root-to-root)
 
     pub carries-darts : dartCountFits (darts q) ≡ true
     carries-darts = subst (λ (n : ℕ). dartCountFits n ≡ true) (r .same-darts) fits
@@ -50,8 +52,8 @@ module _ (p : Plan) (fits : dartCountFits (darts p) ≡ true) (root-in : p .root
     carries-root = let b = image-bound (iso-of r) (p .root) root-in in omega (arith, r .same-darts, r .root-to-root)
 
     pub carries-permutation : isPermutation (q .rotation) ≡ true
-    carries-permutation = iso-permutation (even (darts p) fits) perm (iso-of r)
+    carries-permutation = iso-permutation two perm (iso-of r)
 
     pub carries-vertex : (d e : ℕ) → d < darts p → e < darts p
         → (vertexOf (p .rotation) d ≡ vertexOf (p .rotation) e) ↔ (vertexOf (q .rotation) (getD f d 0) ≡ vertexOf (q .rotation) (getD f e 0))
-    carries-vertex = iso-vertex (even (darts p) fits) perm (iso-of r)
+    carries-vertex = iso-vertex two perm (iso-of r)

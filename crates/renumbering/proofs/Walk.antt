@@ -12,14 +12,15 @@ use lib.Dec.{eqb}
 use lib.ListN.{length, getD, set, replicate, length-set, length-replicate, getD-replicate}
 use lib.Seq.{getD-set-same, getD-set-other}
 use Rattle.model.specs.Numbers.{isPermutation}
-use Rattle.model.specs.Map.{Plan, darts, opposite, next, vertexOf, faceNext, dartCountFits}
+use Rattle.model.specs.Map.{Plan, darts, opposite, vertexOf, faceNext, dartCountFits}
 use Rattle.model.specs.Traversal.{Letter, down, up, first, second, code, Visit, letterAt, onward, seenAfter, walk, visits, word}
 use Rattle.model.specs.Renumbering.{Renumbering}
+use Rattle.model.proofs.Fitness.{count-even}
+use Rattle.model.proofs.Opposite.{opposite-bound}
 use Rattle.orbits.proofs.Order.{eq-split}
-use Rattle.orbits.proofs.Cycle.{least-bound}
+use Rattle.orbits.proofs.Maps.{next-perm, vertex-bound}
 use Rattle.renumbering.specs.Isomorphism.{Isomorphism}
 use Rattle.renumbering.proofs.Permutations.{of-list}
-use Rattle.renumbering.proofs.Maps.{even, opposite-bound, next-perm}
 use Rattle.renumbering.proofs.Isomorphisms.{eqb-both, image-bound, image-inj, iso-permutation, iso-face, iso-vertex}
 use Rattle.renumbering.proofs.Renumberings.{iso-of}
 
@@ -37,15 +38,10 @@ set-both l l′ a b a′ b′ c h h′ on back same = eq-split b a
     (λ n. getD-set-other l′ a′ b′ c 0 (λ e. n (back e)) ∙ same ∙ sym (getD-set-other l a b c 0 n))
 
 module _ (rot rot′ f : List ℕ) (two : length rot % 2 ≡ 0) (perm : isPermutation rot ≡ true) (iso : Isomorphism rot rot′ f) where
-  vertex-bound : (d : ℕ) → d < length rot → vertexOf rot d < length rot
-  unfolding vertexOf
-  vertex-bound d h = least-bound (length rot) (next rot) (next-perm rot perm) d h
-
   vertex-bound′ : (d : ℕ) → d < length rot → vertexOf rot′ (getD f d 0) < length rot
-  unfolding vertexOf
   vertex-bound′ d h =
       let b = image-bound iso d h in
-      let c = least-bound (length rot′) (next rot′) (next-perm rot′ (iso-permutation two perm iso)) (getD f d 0) (omega (arith, iso .same-darts)) in
+      let c = vertex-bound rot′ (next-perm rot′ (iso-permutation two perm iso)) (getD f d 0) (omega (arith, iso .same-darts)) in
       omega (arith, iso .same-darts)
 
   -- what is met and seen on one side is met and seen on the other
@@ -61,13 +57,13 @@ module _ (rot rot′ f : List ℕ) (two : length rot % 2 ≡ 0) (perm : isPermut
       → letterAt rot′ met′ seen′ (getD f d 0) ≡ letterAt rot met seen d
   unfolding letterAt
   letter-same met seen met′ seen′ m d h =
-      let b = opposite-bound (length rot) two d h in
+      let b = opposite-bound (length rot) d two h in
       rw (sym (iso .opposites d h), m .met-same (opposite d) b, m .seen-same (opposite d) b)
 
   onward-bound : (l : Letter) (d : ℕ) → d < length rot → onward rot l d < length rot
   unfolding onward
-  onward-bound down d h = next-perm rot perm .bound (opposite d) (opposite-bound (length rot) two d h)
-  onward-bound up d h = next-perm rot perm .bound (opposite d) (opposite-bound (length rot) two d h)
+  onward-bound down d h = next-perm rot perm .bound (opposite d) (opposite-bound (length rot) d two h)
+  onward-bound up d h = next-perm rot perm .bound (opposite d) (opposite-bound (length rot) d two h)
   onward-bound first d h = next-perm rot perm .bound d h
   onward-bound second d h = next-perm rot perm .bound d h
 
@@ -92,7 +88,7 @@ module _ (rot rot′ f : List ℕ) (two : length rot % 2 ≡ 0) (perm : isPermut
       → (d c : ℕ) → d < length rot → (e : ℕ) → e < length rot
       → getD (set seen′ (vertexOf rot′ (getD f d 0)) c) (vertexOf rot′ (getD f e 0)) 0 ≡ getD (set seen (vertexOf rot d) c) (vertexOf rot e) 0
   seen-at seen seen′ n n′ same d c hd e he =
-      let b = vertex-bound d hd in
+      let b = vertex-bound rot (next-perm rot perm) d hd in
       let b′ = vertex-bound′ d hd in
       let both = iso-vertex two perm iso e d he hd in
       set-both seen seen′ (vertexOf rot d) (vertexOf rot e) (vertexOf rot′ (getD f d 0)) (vertexOf rot′ (getD f e 0)) c (omega arith) (omega arith)
@@ -121,7 +117,7 @@ module _ (rot rot′ f : List ℕ) (two : length rot % 2 ≡ 0) (perm : isPermut
         seen-length′ = length-set seen′ (vertexOf rot′ (opposite (getD f d 0))) 1 ∙ m .seen-length′;
         met-same = plain .met-same;
         seen-same = λ e he. rw (sym (iso .opposites d h))
-            (seen-at seen seen′ (m .seen-length) (m .seen-length′) (m .seen-same) (opposite d) 1 (opposite-bound (length rot) two d h) e he);
+            (seen-at seen seen′ (m .seen-length) (m .seen-length′) (m .seen-same) (opposite d) 1 (opposite-bound (length rot) d two h) e he);
       }
       go up = plain
       go first = plain
@@ -156,7 +152,9 @@ module _ (rot rot′ f : List ℕ) (two : length rot % 2 ≡ 0) (perm : isPermut
     seen-length′ = length-set (replicate (length rot) 0) (vertexOf rot′ (getD f root 0)) 1 ∙ none;
     met-same = λ d hd. blank (getD f d 0) (image-bound iso d hd) ∙ sym (blank d hd);
     seen-same = seen-at (replicate (length rot) 0) (replicate (length rot) 0) none none
-        (λ d hd. blank (vertexOf rot′ (getD f d 0)) (vertex-bound′ d hd) ∙ sym (blank (vertexOf rot d) (vertex-bound d hd))) root 1 h;
+        (λ d hd.
+          blank (vertexOf rot′ (getD f d 0)) (vertex-bound′ d hd)
+          ∙ sym (blank (vertexOf rot d) (vertex-bound rot (next-perm rot perm) d hd))) root 1 h;
   }
     where
       none : length {A = ℕ} (replicate (length rot) 0) ≡ length rot
@@ -174,7 +172,7 @@ module _ (p : Plan) (fits : dartCountFits (darts p) ≡ true) (root-in : p .root
   pub carries-visits : visits q ≡ map (carried f) (visits p)
   unfolding visits
   carries-visits =
-      let two = even (darts p) fits in
+      let two = count-even (darts p) fits in
       rw (sym (r .same-darts), sym (r .root-to-root))
       (walk-same (p .rotation) (q .rotation) f two perm (iso-of r) (p .root) root-in (darts p) (p .root) root-in
       (replicate (darts p) 0) (set (replicate (darts p) 0) (vertexOf (p .rotation) (p .root)) 1)

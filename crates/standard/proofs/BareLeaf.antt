@@ -10,8 +10,8 @@ use mathlib.Core.Bool.{true, false≢true}
 use mathlib.Core.List.{List, [], _∷_}
 use lib.ListN.{length, getD}
 use Rattle.model.specs.Traversal.{Letter, down, up, first, second}
+use Rattle.model.proofs.Booleans.{or-split, or-left, or-right}
 use Rattle.words.specs.Word.{startsUp, bareLeaf}
-use Rattle.standard.proofs.Lists.{or-split, or-left, or-right}
 
 up-first : (w : List Letter) → startsUp w ≡ true → (0 < length w) × (getD w 0 second ≡ up)
 unfolding startsUp

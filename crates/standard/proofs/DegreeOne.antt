@@ -17,12 +17,16 @@ use lib.ListN.{length, drop}
 use borrow.Author.Tests.{eq-eqb, eqb-true}
 use Rattle.model.specs.Map.{Plan, darts, opposite, next, degreeOne, hasDegreeOne, dartCountFits}
 use Rattle.model.specs.Traversal.{Letter, down, up, first, second, opens, onward, word}
+use Rattle.model.proofs.Booleans.{some-in, some-at, bool-ext, or-split, or-left, or-right}
+use Rattle.model.proofs.Fitness.{count-even, count-positive}
+use Rattle.orbits.proofs.Order.{le-split, lt-or-le, from-end}
 use Rattle.words.specs.Word.{bareLeaf, atRoot, rootDegree}
 use Rattle.words.specs.Toured.{dartAt, letterOf, posOf, mateOf, fellow, isTree, Toured, Bracketed}
-use Rattle.orbits.proofs.Order.{le-split, lt-or-le}
-use Rattle.standard.proofs.Lists.{from-end, some-in, some-at, bool-ext, or-split, or-left, or-right, drop-end}
-use Rattle.standard.proofs.Positions.{even, positive, opening, mate-dart, mate-bound, mate-back, mate-before, starts-open, word-length, word-left}
-use Rattle.standard.proofs.Matching.{tree-whole, part-split, matching, matching-in, matching-inv, turn-onward}
+use Rattle.words.proofs.Letters.{tree-fellow}
+use Rattle.words.proofs.Positions.{mate-dart, mate-bound, mate-back, word-length, word-left, opposite-at, word-end}
+use Rattle.words.proofs.Leaves.{leaf-mate, leaf-own}
+use Rattle.standard.proofs.Ranks.{opening, starts-open}
+use Rattle.standard.proofs.Matching.{part-split, matching, matching-in, matching-inv, turn-onward}
 use Rattle.standard.proofs.OpenEdges.{down-only, openTrees, after-down, after-up, after-first, after-second, trees-start, trees-pending, pending-zero, pending-has}
 use Rattle.standard.proofs.BareLeaf.{BareAt, bare-at, at-bare}
 
@@ -68,7 +72,7 @@ module _ (p : Plan) (t : Toured p) (b : Bracketed p) (fits : dartCountFits (dart
 
   root-end : left (darts p) ≡ 0
   unfolding rootDegree
-  root-end = ap (rootDegree (length (openTrees p (darts p)))) (drop-end (word p) (darts p) (word-length p t))
+  root-end = ap (rootDegree (length (openTrees p (darts p)))) (word-end p t)
 
   root-falls : (i j : ℕ) → i ≤ j → j ≤ darts p → left j ≤ left i
   root-falls i zero l h = let e : i ≡ 0 = omega arith in subst (λ (k : ℕ). left 0 ≤ left k) (sym e) (le-refl (left 0))
@@ -85,7 +89,7 @@ module _ (p : Plan) (t : Toured p) (b : Bracketed p) (fits : dartCountFits (dart
 
   root-first : rootDegree 0 (word p) ≡ suc (left 1)
   root-first =
-      ap (λ (s : List ℕ). rootDegree (length s) (word p)) (sym (trees-start p)) ∙ root-step 0 (positive (darts p) fits)
+      ap (λ (s : List ℕ). rootDegree (length s) (word p)) (sym (trees-start p)) ∙ root-step 0 (count-positive (darts p) fits)
       ∙ ap (λ (s : List ℕ). counted s (left 1)) (trees-start p)
 
   -- ---- to degree one
@@ -94,24 +98,11 @@ module _ (p : Plan) (t : Toured p) (b : Bracketed p) (fits : dartCountFits (dart
   unfolding hasDegreeOne degreeOne
   alone d h e = some-in (degreeOne (p .rotation)) (darts p) d h (eq-eqb (next (p .rotation) d) d e)
 
-  -- a down is matched by an up right after it
-  bare-mate : (i : ℕ) → suc i < darts p → letterOf p i ≡ down → letterOf p (suc i) ≡ up → mateOf p i ≡ suc i
-  bare-mate i h d u =
-      let o = t .opens-first i (omega arith) (ap opens d) in
-      lt-or-le (suc i) (mateOf p i)
-      (λ l.
-      let k = b .trees i (suc i) (omega arith) d (lt-suc-self i) l (ap isTree u) in
-      absurd (omega (arith, mate-before p t fits (suc i) h (ap opens u))))
-      (λ l. omega arith)
-
   pub bare-degree-one : (i : ℕ) → BareAt (word p) i → hasDegreeOne (p .rotation) ≡ true
-  unfolding letterOf onward
+  unfolding letterOf
   bare-degree-one i (l, d, u) =
       let h : suc i < darts p = omega (arith, word-length p t) in
-      let m : dartAt p (suc i) ≡ opposite (dartAt p i) = ap (dartAt p) (sym (bare-mate i h d u)) ∙ mate-dart p t fits i (omega arith) in
-      let s : dartAt p (suc i) ≡ next (p .rotation) (opposite (dartAt p i)) =
-          t .step i h ∙ ap (λ (l : Letter). onward (p .rotation) l (dartAt p i)) d in
-      alone (dartAt p (suc i)) (t .dart-bound (suc i) h) (ap (next (p .rotation)) m ∙ sym s)
+      alone (opposite (dartAt p i)) (opposite-at p t fits i (omega arith)) (leaf-own p t fits i h d (leaf-mate p t fits b i h d u))
 
   -- what the tree edge from position 0 leaves open when it ends
   root-closed : (m : ℕ) → m < darts p → mateOf p m ≡ 0 → letterOf p m ≡ up → openTrees p (suc m) ≡ []
@@ -132,7 +123,7 @@ module _ (p : Plan) (t : Toured p) (b : Bracketed p) (fits : dartCountFits (dart
   root-degree-one one = go (letterOf p 0) refl
     where
       n : 0 < darts p
-      n = positive (darts p) fits
+      n = count-positive (darts p) fits
 
       z : left 1 ≡ 0
       z = suc-inj (sym root-first ∙ one)
@@ -141,7 +132,7 @@ module _ (p : Plan) (t : Toured p) (b : Bracketed p) (fits : dartCountFits (dart
       go up e = absurd (true≢false (sym (starts-open p t fits) ∙ ap opens e))
       go second e = absurd (true≢false (sym (starts-open p t fits) ∙ ap opens e))
       go first e =
-          let h : 1 < darts p = omega (arith, even (darts p) fits, n) in
+          let h : 1 < darts p = omega (arith, count-even (darts p) fits, n) in
           absurd (root-none 1 1 z (omega arith) h (after-first p t b fits 0 n e .0 ∙ trees-start p))
       go down e =
           let m : ℕ = mateOf p 0 in
@@ -157,7 +148,7 @@ module _ (p : Plan) (t : Toured p) (b : Bracketed p) (fits : dartCountFits (dart
   -- while the root's tree edge is open, none of the root's other darts is met
   root-over : (j : ℕ) → j ≤ mateOf p 0 → 0 < j → letterOf p 0 ≡ down → openTrees p j ≡ [] → ⊥
   root-over j h l e z =
-      let n = positive (darts p) fits in
+      let n = count-positive (darts p) fits in
       let m = matching-in isTree p 0 (ap isTree e) in
       pending-has (matching isTree p) j j (omega arith) l
       (sym (trees-pending p t b fits j (omega (arith, mate-bound p t fits 0 n))) ∙ z)
@@ -166,7 +157,7 @@ module _ (p : Plan) (t : Toured p) (b : Bracketed p) (fits : dartCountFits (dart
   root-once e m = root-first ∙ ap suc (from-end (λ j. 0 < j → left j ≡ 0) (darts p) (λ l. root-end) step 1 n (lt-suc-self 0))
     where
       n : 0 < darts p
-      n = positive (darts p) fits
+      n = count-positive (darts p) fits
 
       step : (j : ℕ) → j < darts p → (0 < suc j → left (suc j) ≡ 0) → 0 < j → left j ≡ 0
       step j h ih l = go (openTrees p j) refl
@@ -211,17 +202,17 @@ module _ (p : Plan) (t : Toured p) (b : Bracketed p) (fits : dartCountFits (dart
     at-bound = t .pos-bound d h
 
     before-bound : before < darts p
-    before-bound = matching-inv isTree tree-whole p t fits .bound at at-bound
+    before-bound = matching-inv isTree tree-fellow p t fits .bound at at-bound
 
     onto-d : onward (p .rotation) (letterOf p before) (dartAt p before) ≡ d
     onto-d =
         turn-onward p t fits before before-bound
-        ∙ ap (next (p .rotation)) (ap (dartAt p) (matching-inv isTree tree-whole p t fits .back at at-bound) ∙ t .dart-pos d h) ∙ own
+        ∙ ap (next (p .rotation)) (ap (dartAt p) (matching-inv isTree tree-fellow p t fits .back at at-bound) ∙ t .dart-pos d h) ∙ own
 
     round : (suc before ≡ at) ⊎ ((suc before ≡ darts p) × (at ≡ 0))
     round =
         le-split before-bound
-        (λ e. inr (e, ap (posOf p) (sym onto-d ∙ t .closes before e ∙ sym (t .starts)) ∙ t .pos-dart 0 (positive (darts p) fits)))
+        (λ e. inr (e, ap (posOf p) (sym onto-d ∙ t .closes before e ∙ sym (t .starts)) ∙ t .pos-dart 0 (count-positive (darts p) fits)))
         (λ l. inl (sym (t .pos-dart (suc before) l) ∙ ap (posOf p) (t .step before l ∙ onto-d)))
 
     pub degree-one-read : (bareLeaf (word p) || eqb (rootDegree 0 (word p)) 1) ≡ true
@@ -229,7 +220,7 @@ module _ (p : Plan) (t : Toured p) (b : Bracketed p) (fits : dartCountFits (dart
         part-split isTree p at
         (λ u m. ⊎-elim (λ s. read-leaf at at-bound u (ap suc (sym m) ∙ s)) (λ (s, z).
           read-root (subst (λ (i : ℕ). isTree (letterOf p i) ≡ true) z u) (ap (λ (i : ℕ). suc (mateOf p i)) (sym z) ∙ ap suc (sym m) ∙ s)) round)
-        (λ u m. absurd (⊎-elim (λ s. omega arith) (λ s. omega (arith, even (darts p) fits)) round))
+        (λ u m. absurd (⊎-elim (λ s. omega arith) (λ s. omega (arith, count-even (darts p) fits)) round))
 
   pub degree-one-word : (bareLeaf (word p) || eqb (rootDegree 0 (word p)) 1) ≡ hasDegreeOne (p .rotation)
   unfolding hasDegreeOne degreeOne

@@ -1,5 +1,4 @@
-pub mod Lists
-pub mod Positions
+pub mod Ranks
 pub mod Numbering
 pub mod Entries
 pub mod Matching

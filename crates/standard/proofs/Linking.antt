@@ -11,29 +11,21 @@ use lib.ListN.{length, getD, set, replicate, length-set, length-replicate, List�
 use lib.Seq.{getD-set-same, getD-set-other, ext-getD}
 use Rattle.model.specs.Map.{Plan, darts, opposite, next, dartCountFits}
 use Rattle.model.specs.Traversal.{Letter, down, up, first, second, word, standardPlan}
-use Rattle.words.specs.Word.{head, wordDarts, placeOf, link, rotationOf, planOf}
-use Rattle.words.specs.Toured.{dartAt, letterOf, posOf, isTree, Toured, Bracketed}
 use Rattle.orbits.proofs.Order.{le-split}
-use Rattle.standard.proofs.Positions.{dart-inj, word-length}
+use Rattle.words.specs.Word.{head, placeOf, link, rotationOf, planOf}
+use Rattle.words.specs.Toured.{dartAt, letterOf, posOf, isTree, Toured, Bracketed}
+use Rattle.words.proofs.Letters.{tree-fellow}
+use Rattle.words.proofs.Positions.{dart-inj, word-length}
+use Rattle.words.proofs.Plans.{head-at, rotation-length}
 use Rattle.standard.proofs.Numbering.{numbers-below, numbers-inj, numbers-onto, numbers-opposite, numbers-root}
 use Rattle.standard.proofs.Entries.{standard-darts, standard-entry}
-use Rattle.standard.proofs.Matching.{tree-whole, matching, matching-inv, pivot, turn, turn-is, turn-bound, turn-onward}
+use Rattle.standard.proofs.Matching.{matching, matching-inv, pivot, turn, turn-is, turn-bound, turn-onward}
 use Rattle.standard.proofs.WordDarts.{numberOf, numbersMet, numbers-met-length, number-met, word-darts}
 
 -- ---- what link enters
 
-head-at : (l : List ℕ) → head l ≡ getD l 0 0
-head-at [] = refl
-head-at (x ∷ l) = refl
-
 abbrev place : List Letter → List ℕ → ℕ → ℕ
 place w xs k = placeOf (getD w k second) (getD xs k 0)
-
-link-length : (w : List Letter) (xs out : List ℕ) → length (link w xs out) ≡ length out
-unfolding link
-link-length [] xs out = refl
-link-length (l ∷ w) [] out = refl
-link-length (l ∷ w) (x ∷ xs) out = link-length w xs (set out (placeOf l x) (head xs)) ∙ length-set out (placeOf l x) (head xs)
 
 link-past : (w : List Letter) (xs out : List ℕ) (y : ℕ) → ((k : ℕ) → k < length w → place w xs k ≡ y → ⊥)
     → getD (link w xs out) y 0 ≡ getD out y 0
@@ -90,10 +82,10 @@ module _ (p : Plan) (t : Toured p) (fits : dartCountFits (darts p) ≡ true) whe
 
   place-inj : (j k : ℕ) → j < darts p → k < darts p → place (word p) (numbersMet p) j ≡ place (word p) (numbersMet p) k → j ≡ k
   place-inj j k hj hk e =
-      let inv = matching-inv isTree tree-whole p t fits in
+      let inv = matching-inv isTree tree-fellow p t fits in
       let at = sym (place-is j hj) ∙ e ∙ place-is k hk in
       let same = numbers-inj p t fits (turn p j) (turn p k) (turn-bound p t fits j hj) (turn-bound p t fits k hk) at in
-      let one = dart-inj p t fits (matching isTree p j) (matching isTree p k) (inv .bound j hj) (inv .bound k hk) same in
+      let one = dart-inj p t (matching isTree p j) (matching isTree p k) (inv .bound j hj) (inv .bound k hk) same in
       sym (inv .back j hj) ∙ ap (matching isTree p) one ∙ inv .back k hk
 
   linked : (k : ℕ) → k < darts p
@@ -114,7 +106,7 @@ module _ (p : Plan) (t : Toured p) (b : Bracketed p) (fits : dartCountFits (dart
   entry : (d : ℕ) → d < darts p → getD (rotationOf (word p)) (numberOf p d) 0 ≡ numberOf p (next (p .rotation) d)
   unfolding rotationOf
   entry d h =
-      let inv = matching-inv isTree tree-whole p t fits in
+      let inv = matching-inv isTree tree-fellow p t fits in
       let i : ℕ = posOf p d in
       let hi = t .pos-bound d h in
       let k : ℕ = matching isTree p i in
@@ -123,14 +115,11 @@ module _ (p : Plan) (t : Toured p) (b : Bracketed p) (fits : dartCountFits (dart
       ∙ subst (λ (x : ℕ). getD (link (word p) (numbersMet p) (replicate (length (word p)) 0)) (numberOf p x) 0 ≡ numberOf p (next (p .rotation) x)) e
         (linked p t fits k (inv .bound i hi))
 
-  rotation-length : length (rotationOf (word p)) ≡ darts p
-  unfolding rotationOf
-  rotation-length =
-      link-length (word p) (wordDarts 0 [] [] (word p)) (replicate (length (word p)) 0) ∙ length-replicate (length (word p)) 0 ∙ word-length p t
-
   same-rotation : standardPlan p .rotation ≡ rotationOf (word p)
   unfolding next
-  same-rotation = ext-getD 0 (standardPlan p .rotation) (rotationOf (word p)) (standard-darts p ∙ sym rotation-length) (λ y h.
+  same-rotation =
+      let same = standard-darts p ∙ sym (rotation-length (word p) ∙ word-length p t) in
+      ext-getD 0 (standardPlan p .rotation) (rotationOf (word p)) same (λ y h.
       let (d, hd, e) = numbers-onto p t fits y (omega (arith, standard-darts p)) in
       subst (λ (x : ℕ). getD (standardPlan p .rotation) x 0 ≡ getD (rotationOf (word p)) x 0) e (entries d hd))
     where

@@ -1,7 +1,7 @@
 -- The edges of a tour as a matching of positions: the tree edges, or the others.
 --
 --   isChord l             the letter of a dart of an edge outside the tree
---   tree-whole, chord-whole    opposite darts are both of the tree or both not
+--   chord-whole           opposite darts are both of such an edge or both not
 --   matching part p       sends a position of the part (tree or chord) to that of the opposite dart, any other to itself
 --   matching-in, matching-out, part-split, matching-inv    it is an involution
 --   pivot l d             the dart d itself, or its opposite where l is the letter of a tree edge
@@ -9,31 +9,20 @@
 --   turn-is, turn-bound, turn-onward    it is the pivot of the dart at k
 use Prim.Native.Nat.{ℕ, _<_}
 use mathlib.Core.Path.{_≡_, refl, sym, ap, _∙_}
-use mathlib.Core.Bool.{Bool, true, false, cond}
+use mathlib.Core.Bool.{Bool, true, false, not, cond}
 use mathlib.Core.List.{List}
 use Rattle.model.specs.Map.{Plan, darts, opposite, next, dartCountFits}
 use Rattle.model.specs.Traversal.{Letter, down, up, first, second, onward}
-use Rattle.words.specs.Toured.{dartAt, letterOf, mateOf, fellow, isTree, Toured}
 use Rattle.orbits.specs.Chord.{Involution}
-use Rattle.standard.proofs.Positions.{mate-dart, mate-bound, mate-back}
+use Rattle.words.specs.Toured.{dartAt, letterOf, mateOf, fellow, isTree, Toured}
+use Rattle.words.proofs.Letters.{tree-fellow}
+use Rattle.words.proofs.Positions.{mate-dart, mate-bound, mate-back}
 
 abbrev pub isChord : Letter → Bool
-isChord down = false
-isChord up = false
-isChord first = true
-isChord second = true
-
-pub tree-whole : (l : Letter) → isTree (fellow l) ≡ isTree l
-tree-whole down = refl
-tree-whole up = refl
-tree-whole first = refl
-tree-whole second = refl
+isChord l = not (isTree l)
 
 pub chord-whole : (l : Letter) → isChord (fellow l) ≡ isChord l
-chord-whole down = refl
-chord-whole up = refl
-chord-whole first = refl
-chord-whole second = refl
+chord-whole l = ap not (tree-fellow l)
 
 unfoldable pub matching : (Letter → Bool) → Plan → ℕ → ℕ
 matching part p i = cond (part (letterOf p i)) (mateOf p i) i
@@ -95,7 +84,7 @@ module _ (p : Plan) (t : Toured p) (fits : dartCountFits (darts p) ≡ true) whe
       (λ u e. ap (dartAt p) e ∙ ap (λ (b : Bool). cond b (opposite (dartAt p k)) (dartAt p k)) (sym u))
 
   pub turn-bound : (k : ℕ) → k < darts p → turn p k < darts p
-  turn-bound k h = t .dart-bound (matching isTree p k) (matching-inv isTree tree-whole p t fits .bound k h)
+  turn-bound k h = t .dart-bound (matching isTree p k) (matching-inv isTree tree-fellow p t fits .bound k h)
 
   pub turn-onward : (k : ℕ) → k < darts p → onward (p .rotation) (letterOf p k) (dartAt p k) ≡ next (p .rotation) (turn p k)
   turn-onward k h = onward-pivot (p .rotation) (letterOf p k) (dartAt p k) ∙ ap (next (p .rotation)) (sym (turn-is k h))

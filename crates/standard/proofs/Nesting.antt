@@ -17,12 +17,14 @@ use borrow.Author.Tests.{lt-ltb, lt-leb}
 use Rattle.model.specs.Numbers.{tick, count}
 use Rattle.model.specs.Map.{Plan, darts, dartCountFits}
 use Rattle.model.specs.Traversal.{Letter, down, up, first, second, opens, word}
+use Rattle.model.proofs.Booleans.{and-left, both}
+use Rattle.orbits.specs.Stack.{stack, keep, pending}
+use Rattle.orbits.proofs.Tally.{count-grows, count-below}
+use Rattle.orbits.proofs.Order.{from-end}
 use Rattle.words.specs.Word.{nested}
 use Rattle.words.specs.Toured.{letterOf, mateOf, isTree, Toured, Bracketed}
-use Rattle.orbits.specs.Stack.{stack, keep, pending}
 use Rattle.words.specs.Entered.{isDown, stillOpen, lastOpen, enteredAt}
-use Rattle.standard.proofs.Lists.{from-end, and-left, both, drop-end}
-use Rattle.standard.proofs.Positions.{count-grows, count-below, mate-before, word-length, word-left}
+use Rattle.words.proofs.Positions.{mate-before, word-left, word-end}
 use Rattle.standard.proofs.Matching.{matching, matching-in, matching-out}
 use Rattle.standard.proofs.OpenEdges.{held, openTrees, openChords, after-down, after-up, after-first, after-second, trees-end, chords-end, trees-pending}
 
@@ -148,7 +150,7 @@ module _ (p : Plan) (t : Toured p) (b : Bracketed p) (fits : dartCountFits (dart
 
     nests-end : Nests (darts p)
     unfolding nested
-    nests-end = rw (trees-end p t b fits, chords-end p t b fits, drop-end (word p) (darts p) (word-length p t))
+    nests-end = rw (trees-end p t b fits, chords-end p t b fits, word-end p t)
 
     pub word-nested : nested 1 0 [] [] (word p) ≡ true
     unfolding held stack downsBefore count

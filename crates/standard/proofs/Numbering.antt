@@ -1,7 +1,6 @@
 -- The standard numbering of a toured plan: a permutation that sends opposite darts to opposite darts and the root to 0. The numbers of an edge are
 -- twice the number of edges opened before it, and one more.
 --
---   visit-dart, visit-letter    dart and letter of a visit, by position
 --   rank-opens, rank-stays      the rank rises by one at each opening
 --   numbers-length         there is a number for each dart
 --   opened-number, other-number, ended-number    the numbers of the two darts of an edge, by the position at which it is opened or ended
@@ -15,19 +14,21 @@ use mathlib.Core.Path.{_≡_, refl, sym, ap, subst, _∙_}
 use mathlib.Core.Logic.{_⊎_, inl, inr, ⊎-elim}
 use mathlib.Core.Bool.{Bool, true, false, not, cond}
 use mathlib.Core.List.{List, [], _∷_}
-use lib.ListN.{length, getD, set, drop, replicate, length-set, length-replicate, length-drop, List·getD-map}
+use lib.ListN.{length, getD, set, drop, replicate, length-set, length-replicate, length-drop}
 use lib.Seq.{drop-cons, getD-drop, getD-set-same, getD-set-other}
 use Rattle.model.specs.Numbers.{tick, count, isPermutation}
 use Rattle.model.specs.Map.{Plan, darts, opposite, dartCountFits}
-use Rattle.model.specs.Traversal.{second, Visit, opens, visits, word, number, standardNumbers}
-use Rattle.words.specs.Toured.{dartsMet, dartAt, letterOf, mateOf, Toured}
-use Rattle.standard.proofs.Lists.{permutation-of, onto}
-use Rattle.standard.proofs.Positions.{opposite-back, opposite-bound, opposite-even, opposite-odd, opposite-half, even, positive, opening, rank, rank-inj, rank-room, one-edge, opening-of, mate-dart, mate-bound, mate-opens, starts-open}
+use Rattle.model.specs.Traversal.{Visit, opens, visits, number, standardNumbers}
+use Rattle.model.proofs.Fitness.{count-positive}
+use Rattle.model.proofs.Opposite.{opposite-opposite, opposite-even, opposite-odd, opposite-edge}
+use Rattle.model.proofs.Permutations.{permutation-of}
+use Rattle.model.proofs.Standard.{standard-size}
+use Rattle.orbits.proofs.Maps.{onto}
+use Rattle.words.specs.Toured.{dartAt, mateOf, Toured}
+use Rattle.words.proofs.Positions.{no-visit, visit-dart, visit-letter, mate-dart, mate-bound, mate-opens, opposite-at}
+use Rattle.standard.proofs.Ranks.{opening, rank, rank-inj, rank-room, one-edge, opening-of, starts-open}
 
 -- ---- the numbering as a fold over visits
-
-abbrev blank : Visit
-blank = record { dart = 0; letter = second }
 
 abbrev entered : ℕ → ℕ → List ℕ → List ℕ
 entered d e ns = set (set ns d (2 * e)) (opposite d) (2 * e + 1)
@@ -44,25 +45,15 @@ number-skips : (v : Visit) (vs : List Visit) (e : ℕ) (ns : List ℕ) → opens
 unfolding number
 number-skips v vs e ns h = ap (λ (b : Bool). cond b (number vs (suc e) (entered (v .dart) e ns)) (number vs e ns)) h
 
-number-length : (vs : List Visit) (e : ℕ) (ns : List ℕ) → length (number vs e ns) ≡ length ns
-unfolding number
-number-length [] e ns = refl
-number-length (v ∷ vs) e ns = go (opens (v .letter)) refl (number-length vs (suc e) (entered (v .dart) e ns)) (number-length vs e ns)
-  where
-    go : (b : Bool) → opens (v .letter) ≡ b → length (number vs (suc e) (entered (v .dart) e ns)) ≡ length (entered (v .dart) e ns)
-        → length (number vs e ns) ≡ length ns → length (number (v ∷ vs) e ns) ≡ length ns
-    go true h ih ih′ = ap length (number-opens v vs e ns h) ∙ ih ∙ entered-length (v .dart) e ns
-    go false h ih ih′ = ap length (number-skips v vs e ns h) ∙ ih′
-
 -- a dart of another edge keeps its number
 entered-other : (d e : ℕ) (ns : List ℕ) (x : ℕ) → (x / 2 ≡ d / 2 → ⊥) → getD (entered d e ns) x 0 ≡ getD ns x 0
 entered-other d e ns x n =
-    getD-set-other (set ns d (2 * e)) (opposite d) x (2 * e + 1) 0 (λ q. n (ap (λ (y : ℕ). y / 2) q ∙ opposite-half d))
+    getD-set-other (set ns d (2 * e)) (opposite d) x (2 * e + 1) 0 (λ q. n (ap (λ (y : ℕ). y / 2) q ∙ opposite-edge d))
     ∙ getD-set-other ns d x (2 * e) 0 (λ q. n (ap (λ (y : ℕ). y / 2) q))
 
 -- the edge of x is not opened in vs
 abbrev Unopened : List Visit → ℕ → Type 0
-Unopened vs x = (k : ℕ) → k < length vs → opens (getD vs k blank .letter) ≡ true → x / 2 ≡ getD vs k blank .dart / 2 → ⊥
+Unopened vs x = (k : ℕ) → k < length vs → opens (getD vs k no-visit .letter) ≡ true → x / 2 ≡ getD vs k no-visit .dart / 2 → ⊥
 
 number-past : (vs : List Visit) (e : ℕ) (ns : List ℕ) (x : ℕ) → Unopened vs x → getD (number vs e ns) x 0 ≡ getD ns x 0
 unfolding number
@@ -88,14 +79,6 @@ entered-second d e ns h =
 
 -- ---- along the positions
 
-pub visit-dart : (p : Plan) (i : ℕ) → getD (visits p) i blank .dart ≡ dartAt p i
-unfolding dartAt dartsMet
-visit-dart p i = sym (List·getD-map (λ (v : Visit). v .dart) (visits p) i blank)
-
-pub visit-letter : (p : Plan) (i : ℕ) → getD (visits p) i blank .letter ≡ letterOf p i
-unfolding letterOf word
-visit-letter p i = sym (List·getD-map (λ (v : Visit). v .letter) (visits p) i blank)
-
 pub rank-opens : (p : Plan) (i : ℕ) → opening p i ≡ true → rank p (suc i) ≡ suc (rank p i)
 unfolding rank count
 rank-opens p i e = ap (λ (b : Bool). tick b (count (opening p) i)) e
@@ -110,10 +93,10 @@ Part p i = (ms : List ℕ) × (length ms ≡ darts p) × (standardNumbers p ≡ 
 
 module _ (p : Plan) (t : Toured p) (fits : dartCountFits (darts p) ≡ true) where
   abbrev at : ℕ → Visit
-  at i = getD (visits p) i blank
+  at i = getD (visits p) i no-visit
 
   left : (i : ℕ) → i < darts p → drop i (visits p) ≡ at i ∷ drop (suc i) (visits p)
-  left i h = drop-cons (visits p) i blank (omega (arith, t .all-met))
+  left i h = drop-cons (visits p) i no-visit (omega (arith, t .all-met))
 
   opened : (i : ℕ) → i < darts p → opening p i ≡ true → (ms : List ℕ)
       → number (drop i (visits p)) (rank p i) ms ≡ number (drop (suc i) (visits p)) (rank p (suc i)) (entered (dartAt p i) (rank p i) ms)
@@ -139,10 +122,10 @@ module _ (p : Plan) (t : Toured p) (fits : dartCountFits (darts p) ≡ true) whe
   later : (i : ℕ) → i < darts p → opening p i ≡ true → (x : ℕ) → x / 2 ≡ dartAt p i / 2 → Unopened (drop (suc i) (visits p)) x
   later i h o x e k l u f =
       let j : ℕ = suc i + k in
-      let same : getD (drop (suc i) (visits p)) k blank ≡ at j = getD-drop (suc i) (visits p) k blank in
+      let same : getD (drop (suc i) (visits p)) k no-visit ≡ at j = getD-drop (suc i) (visits p) k no-visit in
       let hj : j < darts p = omega (arith, length-drop (suc i) (visits p), t .all-met) in
       let v : opening p j ≡ true = ap opens (sym (visit-letter p j) ∙ ap (λ (v : Visit). v .letter) (sym same)) ∙ u in
-      let d : getD (drop (suc i) (visits p)) k blank .dart ≡ dartAt p j = ap (λ (v : Visit). v .dart) same ∙ visit-dart p j in
+      let d : getD (drop (suc i) (visits p)) k no-visit .dart ≡ dartAt p j = ap (λ (v : Visit). v .dart) same ∙ visit-dart p j in
       let q : i ≡ j = one-edge p t fits i j h hj o v (sym e ∙ f ∙ ap (λ (y : ℕ). y / 2) d) in
       omega arith
 
@@ -164,12 +147,11 @@ module _ (p : Plan) (t : Toured p) (fits : dartCountFits (darts p) ≡ true) whe
   pub other-number : (i : ℕ) → i < darts p → opening p i ≡ true → getD (standardNumbers p) (opposite (dartAt p i)) 0 ≡ 2 * rank p i + 1
   other-number i h o =
       let (ms, l, e) = given i h o in
-      let b = opposite-bound (darts p) (dartAt p i) (even (darts p) fits) (t .dart-bound i h) in
-      e (opposite (dartAt p i)) (opposite-half (dartAt p i)) ∙ entered-second (dartAt p i) (rank p i) ms (omega arith)
+      let b = opposite-at p t fits i h in
+      e (opposite (dartAt p i)) (opposite-edge (dartAt p i)) ∙ entered-second (dartAt p i) (rank p i) ms (omega arith)
 
   pub numbers-length : length (standardNumbers p) ≡ darts p
-  unfolding standardNumbers
-  numbers-length = number-length (visits p) 0 (replicate (darts p) 0) ∙ length-replicate (darts p) 0
+  numbers-length = standard-size p
 
   -- a dart's number, by whether it opens its edge
   abbrev Numbered : ℕ → Type 0
@@ -190,7 +172,7 @@ module _ (p : Plan) (t : Toured p) (fits : dartCountFits (darts p) ≡ true) whe
       ⊎-elim
       (λ (e, f). ap (λ (x : ℕ). sn (opposite x)) e ∙ other-number i hi o ∙ sym (opposite-even (rank p i)) ∙ ap opposite (sym f))
       (λ (e, f).
-      ap (λ (x : ℕ). sn (opposite x)) e ∙ ap sn (opposite-back (dartAt p i)) ∙ opened-number i hi o
+      ap (λ (x : ℕ). sn (opposite x)) e ∙ ap sn (opposite-opposite (dartAt p i)) ∙ opened-number i hi o
       ∙ sym (opposite-odd (rank p i)) ∙ ap opposite (sym f))
       w
 
@@ -214,16 +196,16 @@ module _ (p : Plan) (t : Toured p) (fits : dartCountFits (darts p) ≡ true) whe
       (λ i j hi hj e. let h = numbers-length in numbers-inj i j (omega arith) (omega arith) e)
 
   pub numbers-onto : (y : ℕ) → y < darts p → (d : ℕ) × (d < darts p) × (getD (standardNumbers p) d 0 ≡ y)
-  numbers-onto = onto (darts p) (λ d. getD (standardNumbers p) d 0) numbers-below numbers-inj
+  numbers-onto = onto (darts p) (λ d. getD (standardNumbers p) d 0) (record { bound = numbers-below; inj = numbers-inj })
 
   pub numbers-root : getD (standardNumbers p) (p .root) 0 ≡ 0
   unfolding rank count
   numbers-root =
       ap (λ (x : ℕ). getD (standardNumbers p) x 0) (sym (t .starts))
-      ∙ opened-number 0 (positive (darts p) fits) (starts-open p t fits)
+      ∙ opened-number 0 (count-positive (darts p) fits) (starts-open p t fits)
 
   pub ended-number : (i : ℕ) → i < darts p → opening p i ≡ false → getD (standardNumbers p) (dartAt p i) 0 ≡ 2 * rank p (mateOf p i) + 1
   ended-number i h o =
       ap (λ (x : ℕ). getD (standardNumbers p) x 0)
-      (sym (opposite-back (dartAt p i)) ∙ ap opposite (sym (mate-dart p t fits i h)))
-      ∙ other-number (mateOf p i) (mate-bound p t fits i h) (mate-opens p t fits i h ∙ ap not o)
+      (sym (opposite-opposite (dartAt p i)) ∙ ap opposite (sym (mate-dart p t fits i h)))
+      ∙ other-number (mateOf p i) (mate-bound p t fits i h) (mate-opens p t i h ∙ ap not o)

@@ -6,7 +6,7 @@
 --   held part p i         the positions before i at which edges of the part are opened and not ended, the last first
 --   openTrees p i, openChords p i    the same for the tree and for the other edges
 --   after-down, after-up, after-first, after-second    how they change where each letter stands
---   trees-start, chords-start, trees-end, chords-end    nothing is open at the start and at the end
+--   trees-start, trees-end, chords-end    nothing is open at the start and at the end
 --   trees-pending         the open tree edges are those that end at i or later
 --   pending-zero          where position 0 is pending, nothing lies below it
 --   pending-has           and something is pending
@@ -20,12 +20,15 @@ use lib.Dec.{leb}
 use borrow.Author.Tests.{le-leb}
 use Rattle.model.specs.Map.{Plan, darts, dartCountFits}
 use Rattle.model.specs.Traversal.{Letter, down, up, first, second, opens}
-use Rattle.words.specs.Toured.{letterOf, mateOf, fellow, isTree, Toured, Bracketed}
+use Rattle.model.proofs.Booleans.{not-left}
 use Rattle.orbits.specs.Chord.{Nested}
 use Rattle.orbits.specs.Stack.{Kind, flat, open′, kind, kindOf, push, stack, keep, pending}
 use Rattle.orbits.proofs.Stack.{kind-open, kind-flat, stack-pending, stack-top, stack-end}
-use Rattle.standard.proofs.Positions.{opening, mate-before}
-use Rattle.standard.proofs.Matching.{isChord, tree-whole, chord-whole, matching, matching-in, matching-out, part-split, matching-inv}
+use Rattle.words.specs.Toured.{letterOf, mateOf, fellow, isTree, Toured, Bracketed}
+use Rattle.words.proofs.Letters.{tree-fellow}
+use Rattle.words.proofs.Positions.{mate-before}
+use Rattle.standard.proofs.Ranks.{opening}
+use Rattle.standard.proofs.Matching.{isChord, chord-whole, matching, matching-in, matching-out, part-split, matching-inv}
 
 -- ---- brackets
 
@@ -45,17 +48,11 @@ first-only up e o = absurd (false≢true e)
 first-only first e o = refl
 first-only second e o = absurd (false≢true o)
 
-chord-no-tree : (l : Letter) → isChord l ≡ true → isTree l ≡ false
-chord-no-tree down e = absurd (false≢true e)
-chord-no-tree up e = absurd (false≢true e)
-chord-no-tree first e = refl
-chord-no-tree second e = refl
-
 tree-brackets : (p : Plan) → Bracketed p → Brackets isTree p
 tree-brackets p b i x h e o u v f = b .trees i x h (down-only (letterOf p i) e o) u v f
 
 chord-brackets : (p : Plan) → Bracketed p → Brackets isChord p
-chord-brackets p b i x h e o u v f = b .chords i x h (first-only (letterOf p i) e o) u v (chord-no-tree (letterOf p x) f)
+chord-brackets p b i x h e o u v f = b .chords i x h (first-only (letterOf p i) e o) u v (not-left (isTree (letterOf p x)) f)
 
 -- ---- stacks
 
@@ -117,25 +114,21 @@ pub trees-start : (p : Plan) → openTrees p 0 ≡ []
 unfolding held stack
 trees-start p = refl
 
-pub chords-start : (p : Plan) → openChords p 0 ≡ []
-unfolding held stack
-chords-start p = refl
-
 module _ (p : Plan) (t : Toured p) (b : Bracketed p) (fits : dartCountFits (darts p) ≡ true) where
   trees-stay : (i : ℕ) → isTree (letterOf p i) ≡ false → openTrees p (suc i) ≡ openTrees p i
-  trees-stay = held-stays isTree tree-whole p t fits (tree-brackets p b)
+  trees-stay = held-stays isTree tree-fellow p t fits (tree-brackets p b)
 
   chords-stay : (i : ℕ) → isChord (letterOf p i) ≡ false → openChords p (suc i) ≡ openChords p i
   chords-stay = held-stays isChord chord-whole p t fits (chord-brackets p b)
 
   pub after-down : (i : ℕ) → i < darts p → letterOf p i ≡ down → (openTrees p (suc i) ≡ i ∷ openTrees p i) × (openChords p (suc i) ≡ openChords p i)
   after-down i h e =
-      (held-opens isTree tree-whole p t fits (tree-brackets p b) i h (ap isTree e) (ap opens e), chords-stay i (ap isChord e))
+      (held-opens isTree tree-fellow p t fits (tree-brackets p b) i h (ap isTree e) (ap opens e), chords-stay i (ap isChord e))
 
   pub after-up : (i : ℕ) → i < darts p → letterOf p i ≡ up
       → (openTrees p i ≡ mateOf p i ∷ openTrees p (suc i)) × (openChords p (suc i) ≡ openChords p i)
   after-up i h e =
-      (held-closes isTree tree-whole p t fits (tree-brackets p b) i h (ap isTree e) (ap opens e), chords-stay i (ap isChord e))
+      (held-closes isTree tree-fellow p t fits (tree-brackets p b) i h (ap isTree e) (ap opens e), chords-stay i (ap isChord e))
 
   pub after-first : (i : ℕ) → i < darts p → letterOf p i ≡ first
       → (openTrees p (suc i) ≡ openTrees p i) × (openChords p (suc i) ≡ i ∷ openChords p i)
@@ -148,13 +141,13 @@ module _ (p : Plan) (t : Toured p) (b : Bracketed p) (fits : dartCountFits (dart
       (trees-stay i (ap isTree e), held-closes isChord chord-whole p t fits (chord-brackets p b) i h (ap isChord e) (ap opens e))
 
   pub trees-end : openTrees p (darts p) ≡ []
-  trees-end = held-end isTree tree-whole p t fits (tree-brackets p b)
+  trees-end = held-end isTree tree-fellow p t fits (tree-brackets p b)
 
   pub chords-end : openChords p (darts p) ≡ []
   chords-end = held-end isChord chord-whole p t fits (chord-brackets p b)
 
   pub trees-pending : (i : ℕ) → i ≤ darts p → openTrees p i ≡ pending (matching isTree p) i i
-  trees-pending = held-pending isTree tree-whole p t fits (tree-brackets p b)
+  trees-pending = held-pending isTree tree-fellow p t fits (tree-brackets p b)
 
 -- ---- pending positions and position 0
 

@@ -4,23 +4,31 @@
 --   numbersMet p        the standard numbers of the darts in the order in which they are met
 --   numbers-met-length, number-met    by index
 --   word-darts          wordDarts gives these
-use Prim.Native.Nat.{ℕ, suc, _+_, _*_, _<_}
+use Prim.Native.Nat.{ℕ, zero, suc, _+_, _*_, _<_}
+use native.Mathlib.Nat.{not-suc-le-zero, le-of-suc-le-suc}
 use native.Mathlib.Omega.{arith}
 use mathlib.Core.Path.{_≡_, refl, sym, ap, _∙_}
 use mathlib.Core.Bool.{true, false}
 use mathlib.Core.List.{List, [], _∷_, map}
-use lib.ListN.{length, getD, drop}
+use lib.ListN.{length, getD, drop, length-map, drop-of-length-le}
 use lib.Seq.{drop-cons}
 use Rattle.model.specs.Numbers.{count}
 use Rattle.model.specs.Map.{Plan, darts, dartCountFits}
-use Rattle.model.specs.Traversal.{Letter, down, up, first, second, Visit, opens, visits, word, standardNumbers}
+use Rattle.model.specs.Traversal.{Letter, down, up, first, second, opens, word, standardNumbers}
+use Rattle.orbits.specs.Stack.{stack}
+use Rattle.orbits.proofs.Order.{from-end}
 use Rattle.words.specs.Word.{wordDarts}
 use Rattle.words.specs.Toured.{dartsMet, dartAt, letterOf, mateOf, Toured, Bracketed}
-use Rattle.orbits.specs.Stack.{stack}
-use Rattle.standard.proofs.Lists.{from-end, map-length, map-at, drop-end}
-use Rattle.standard.proofs.Positions.{opening, rank, word-length, word-left}
+use Rattle.words.proofs.Positions.{length-darts, word-left, word-end}
+use Rattle.standard.proofs.Ranks.{opening, rank}
 use Rattle.standard.proofs.Numbering.{opened-number, ended-number, rank-opens, rank-stays}
 use Rattle.standard.proofs.OpenEdges.{held, openTrees, openChords, after-down, after-up, after-first, after-second}
+
+-- an entry of a mapped list
+map-at : {A B : Type 0} (f : A → B) (l : List A) (i : ℕ) (a : A) (b : B) → i < length l → getD (map f l) i b ≡ f (getD l i a)
+map-at f [] i a b h = absurd (not-suc-le-zero h)
+map-at f (x ∷ l) zero a b h = refl
+map-at f (x ∷ l) (suc i) a b h = map-at f l i a b (le-of-suc-le-suc h)
 
 abbrev pub numberOf : Plan → ℕ → ℕ
 numberOf p d = getD (standardNumbers p) d 0
@@ -29,16 +37,12 @@ abbrev pub numbersMet : Plan → List ℕ
 numbersMet p = map (numberOf p) (dartsMet p)
 
 module _ (p : Plan) (t : Toured p) where
-  met-length : length (dartsMet p) ≡ darts p
-  unfolding dartsMet
-  met-length = map-length (λ (v : Visit). v .dart) (visits p) ∙ t .all-met
-
   pub numbers-met-length : length (numbersMet p) ≡ darts p
-  numbers-met-length = map-length (numberOf p) (dartsMet p) ∙ met-length
+  numbers-met-length = length-map (dartsMet p) (numberOf p) ∙ length-darts p ∙ t .all-met
 
   pub number-met : (i : ℕ) → i < darts p → getD (numbersMet p) i 0 ≡ numberOf p (dartAt p i)
   unfolding dartAt
-  number-met i h = map-at (numberOf p) (dartsMet p) i 0 0 (omega (arith, met-length))
+  number-met i h = map-at (numberOf p) (dartsMet p) i 0 0 (omega (arith, length-darts p, t .all-met))
 
   numbers-left : (i : ℕ) → i < darts p → drop i (numbersMet p) ≡ numberOf p (dartAt p i) ∷ drop (suc i) (numbersMet p)
   numbers-left i h =
@@ -97,8 +101,8 @@ module _ (p : Plan) (t : Toured p) (b : Bracketed p) (fits : dartCountFits (dart
   given-end : Given (darts p)
   unfolding wordDarts
   given-end =
-      ap (wordDarts (rank p (darts p)) (trees (darts p)) (chords (darts p))) (drop-end (word p) (darts p) (word-length p t))
-      ∙ sym (drop-end (numbersMet p) (darts p) (numbers-met-length p t))
+      ap (wordDarts (rank p (darts p)) (trees (darts p)) (chords (darts p))) (word-end p t)
+      ∙ sym (drop-of-length-le (numbersMet p) {i = darts p} (omega (arith, numbers-met-length p t)))
 
   pub word-darts : wordDarts 0 [] [] (word p) ≡ map (λ d. getD (standardNumbers p) d 0) (dartsMet p)
   unfolding rank count held stack

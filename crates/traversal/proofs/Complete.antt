@@ -14,15 +14,19 @@ use lib.ListN.{length}
 use Rattle.model.specs.Numbers.{elem, isPermutation}
 use Rattle.model.specs.Map.{Plan, darts, opposite, next, connected, dartCountFits}
 use Rattle.model.specs.Traversal.{visits}
-use Rattle.words.specs.Toured.{dartsMet, dartAt}
+use Rattle.model.proofs.Booleans.{T-true, true-T}
+use Rattle.model.proofs.Opposite.{opposite-opposite}
+use Rattle.model.proofs.Permutations.{elem-at, at-elem}
+use Rattle.model.proofs.Fitness.{count-even}
 use Rattle.orbits.proofs.Order.{le-split}
 use Rattle.orbits.proofs.Tally.{count-inj, count-tight}
 use Rattle.orbits.proofs.Number.{count-all}
+use Rattle.words.specs.Toured.{dartsMet, dartAt}
+use Rattle.words.proofs.Positions.{length-darts}
 use Rattle.traversal.specs.Walked.{Among, Walked}
-use Rattle.traversal.proofs.Elements.{T-true, true-T, bit, bit-same, bit-in, elem-at, at-elem}
-use Rattle.traversal.proofs.Rotation.{opposite-back}
+use Rattle.traversal.proofs.Bits.{bit, bit-same, bit-in}
 use Rattle.traversal.proofs.Reach.{connected-kept, kept-connected}
-use Rattle.traversal.proofs.Walk.{length-darts, walked, walk-least}
+use Rattle.traversal.proofs.Walk.{walked, walk-least}
 
 -- ---- the darts met, as a test
 
@@ -53,7 +57,7 @@ module _ (p : Plan) (fits : dartCountFits (darts p) ≡ true) (hr : p .root < da
   pub connected-met : connected (p .rotation) ≡ true → (x : ℕ) → x < N → Among p x
   connected-met e x h =
       let one : bit (isMet p x) ≡ bit (isMet p (p .root)) =
-          connected-kept (p .rotation) fits good e (λ x. bit (isMet p x)) turns crosses x (p .root) h hr in
+          connected-kept (p .rotation) (count-even N fits) good e (λ x. bit (isMet p x)) turns crosses x (p .root) h hr in
       met-among p x (bit-in (isMet p x) (isMet p (p .root)) one root-met)
     where
       turns : (x : ℕ) → x < N → bit (isMet p (next (p .rotation) x)) ≡ bit (isMet p x)
@@ -62,7 +66,7 @@ module _ (p : Plan) (fits : dartCountFits (darts p) ≡ true) (hr : p .root < da
           (λ t. among-met p (next (p .rotation) x) (w .turn x (met-among p x t)))
       crosses : (x : ℕ) → x < N → bit (isMet p (opposite x)) ≡ bit (isMet p x)
       crosses x h = bit-same (isMet p (opposite x)) (isMet p x)
-          (λ t. among-met p x (subst (Among p) (opposite-back x) (w .across (opposite x) (met-among p (opposite x) t))))
+          (λ t. among-met p x (subst (Among p) (opposite-opposite x) (w .across (opposite x) (met-among p (opposite x) t))))
           (λ t. among-met p (opposite x) (w .across x (met-among p x t)))
 
   all-long : ((x : ℕ) → x < N → Among p x) → length (visits p) ≡ N
@@ -88,7 +92,8 @@ module _ (p : Plan) (fits : dartCountFits (darts p) ≡ true) (hr : p .root < da
       met-among p x (count-tight (isMet p) (λ i. true) N (λ i h t. tt) (omega (arith, count-all N, count-all (length (visits p)))) x h tt)
 
   pub long-connected : length (visits p) ≡ N → connected (p .rotation) ≡ true
-  long-connected e = kept-connected (p .rotation) fits good (λ g turns crosses x y hx hy. same g turns crosses x hx ∙ sym (same g turns crosses y hy))
+  long-connected e = kept-connected (p .rotation) (count-even N fits) good
+      (λ g turns crosses x y hx hy. same g turns crosses x hx ∙ sym (same g turns crosses y hy))
     where
       same : (g : ℕ → ℕ) → ((d : ℕ) → d < N → g (next (p .rotation) d) ≡ g d) → ((d : ℕ) → d < N → g (opposite d) ≡ g d)
           → (x : ℕ) → x < N → g x ≡ g (p .root)

@@ -1,7 +1,6 @@
 -- Until it is back at the root the walk follows one permutation, the tour that crosses the tree edges found so far and no others; so it meets no dart
 -- twice.
 --
---   tour-perm             the tour that crosses a set of edges is a permutation
 --   tour k                the tour that crosses the tree edges found within k steps; whole: these are edges; perm: it is a permutation
 --   Away k                the walk is not back at the root before step k; away-less: nor before an earlier one
 --   Followed k            it followed that tour, and the codes are those of its letters
@@ -22,44 +21,18 @@ use lib.ListN.{length}
 use borrow.Author.Tests.{ne-eqb}
 use Rattle.model.specs.Numbers.{iter}
 use Rattle.model.specs.Map.{opposite, next}
-use Rattle.model.specs.Traversal.{Letter, down, up, first, second, code, onward as go-on}
-use Rattle.words.specs.Toured.{isTree}
+use Rattle.model.specs.Traversal.{Letter, down, up, first, second, code}
+use Rattle.model.proofs.Opposite.{opposite-opposite, opposite-ne}
 use Rattle.orbits.specs.Permutation.{Perm}
 use Rattle.orbits.specs.Chord.{Involution}
 use Rattle.orbits.specs.Tour.{onward}
 use Rattle.orbits.proofs.Order.{eq-split, lt-suc-split}
 use Rattle.orbits.proofs.Cycle.{iter-out, iter-inj}
+use Rattle.orbits.proofs.Tour.{tour-perm}
+use Rattle.words.specs.Toured.{isTree}
+use Rattle.words.proofs.Letters.{onward-is}
 use Rattle.traversal.specs.Steps.{at, start, dart, letterOf, mark, tree}
-use Rattle.traversal.proofs.Rotation.{opposite-back, opposite-other}
 use Rattle.traversal.proofs.Steps.{Case, new, old, back, noted, case, down-case, code-some, dart-step, mark-here, mark-other, mark-met}
-
--- ---- the tour that crosses a set of edges
-
-module _ (N : ℕ) (σ α : ℕ → ℕ) (turn : Perm N σ) (cross : Involution N α) (t : ℕ → Bool) (whole : (d : ℕ) → d < N → t (α d) ≡ t d) where
-  -- across the edges of the set
-  abbrev ψ : ℕ → ℕ
-  ψ d = cond (t d) (α d) d
-
-  crossed-bound : (b : Bool) (d : ℕ) → d < N → cond b (α d) d < N
-  crossed-bound true d h = cross .bound d h
-  crossed-bound false d h = h
-
-  crossed-back : (b : Bool) (d : ℕ) → d < N → t d ≡ b → ψ (cond b (α d) d) ≡ d
-  crossed-back true d h e = ap (λ (c : Bool). cond c (α (α d)) (α d)) (whole d h ∙ e) ∙ cross .back d h
-  crossed-back false d h e = ap (λ (c : Bool). cond c (α d) d) e
-
-  crossed-on : (b : Bool) (d : ℕ) → cond b (σ (α d)) (σ d) ≡ σ (cond b (α d) d)
-  crossed-on true d = refl
-  crossed-on false d = refl
-
-  pub tour-perm : Perm N (onward σ α t)
-  tour-perm = record {
-    bound = λ d h. subst (λ (x : ℕ). x < N) (sym (crossed-on (t d) d)) (turn .bound (ψ d) (crossed-bound (t d) d h));
-    inj = λ d e hd he q.
-        let same : ψ d ≡ ψ e = turn .inj (ψ d) (ψ e) (crossed-bound (t d) d hd) (crossed-bound (t e) e he)
-            (sym (crossed-on (t d) d) ∙ q ∙ crossed-on (t e) e) in
-        sym (crossed-back (t d) d hd refl) ∙ ap ψ same ∙ crossed-back (t e) e he refl;
-  }
 
 or-comm : (a b : Bool) → (a || b) ≡ (b || a)
 or-comm true true = refl
@@ -82,14 +55,6 @@ case-tree (old m s e) = ap₂ (λ (a : Letter) (c : ℕ). eqb (code a) 1 || eqb 
 case-tree (back m e) = ap₂ (λ (a : Letter) (c : ℕ). eqb (code a) 1 || eqb c 1) e m ∙ sym (ap isTree e)
 case-tree {m} (noted u n e) = ap₂ (λ (a : Letter) (b : Bool). eqb (code a) 1 || b) e (ne-eqb m 1 n) ∙ sym (ap isTree e)
 
--- the walk goes on as a tour does that crosses the edges of down and up
-go-on-tour : (rot : List ℕ) (a : Letter) (d : ℕ) → cond (isTree a) (next rot (opposite d)) (next rot d) ≡ go-on rot a d
-unfolding go-on
-go-on-tour rot down d = refl
-go-on-tour rot up d = refl
-go-on-tour rot first d = refl
-go-on-tour rot second d = refl
-
 -- ---- the walk
 
 module _ (rot : List ℕ) (r : ℕ) (turn : Perm (length rot) (next rot)) (cross : Involution (length rot) opposite) (hr : r < length rot) where
@@ -111,7 +76,7 @@ module _ (rot : List ℕ) (r : ℕ) (turn : Perm (length rot) (next rot)) (cross
   pub whole : (k d : ℕ) → d < N → tree rot r k (opposite d) ≡ tree rot r k d
   unfolding tree
   whole k d h =
-      ap (λ (x : ℕ). eqb (M k (opposite d)) 1 || eqb (M k x) 1) (opposite-back d) ∙ or-comm (eqb (M k (opposite d)) 1) (eqb (M k d) 1)
+      ap (λ (x : ℕ). eqb (M k (opposite d)) 1 || eqb (M k x) 1) (opposite-opposite d) ∙ or-comm (eqb (M k (opposite d)) 1) (eqb (M k d) 1)
 
   pub perm : (k : ℕ) → Perm N (tour k)
   perm k = tour-perm N (next rot) opposite turn cross (tree rot r k) (whole k)
@@ -156,13 +121,13 @@ module _ (rot : List ℕ) (r : ℕ) (turn : Perm (length rot) (next rot)) (cross
 
       pub tree-same : (x : ℕ) → (l k ≡ down → (x ≢ D k) × (x ≢ opposite (D k))) → tree rot r (suc k) x ≡ tree rot r k x
       unfolding tree
-      tree-same x n = ap₂ _||_ (mark-same x (λ d. n d .0)) (mark-same (opposite x) (λ d e. n d .1 (sym (opposite-back x) ∙ ap opposite e)))
+      tree-same x n = ap₂ _||_ (mark-same x (λ d. n d .0)) (mark-same (opposite x) (λ d e. n d .1 (sym (opposite-opposite x) ∙ ap opposite e)))
 
       -- the letter of the dart says whether its edge is in the tree
       pub tree-here : tree rot r (suc k) (D k) ≡ isTree (l k)
       unfolding tree
       tree-here =
-          ap₂ (λ (c m : ℕ). eqb c 1 || eqb m 1) (mark-here rot r turn cross hr k) (mark-other rot r k (opposite (D k)) (opposite-other (D k)))
+          ap₂ (λ (c m : ℕ). eqb c 1 || eqb m 1) (mark-here rot r turn cross hr k) (mark-other rot r k (opposite (D k)) (opposite-ne (D k)))
           ∙ case-tree (case rot r k)
 
       -- down: the opposite is not met
@@ -177,7 +142,8 @@ module _ (rot : List ℕ) (r : ℕ) (turn : Perm (length rot) (next rot)) (cross
       next-followed = record {
         follow = λ j h. lt-suc-split h
             (λ e. subst (λ (i : ℕ). tour (suc k) (D i) ≡ D (suc i)) (sym e)
-            (ap (λ (b : Bool). cond b (next rot (opposite (D k))) (next rot (D k))) tree-here ∙ go-on-tour rot (l k) (D k) ∙ sym (dart-step rot r k)))
+            (ap (λ (b : Bool). cond b (next rot (opposite (D k))) (next rot (D k))) tree-here
+            ∙ sym (onward-is rot (l k) (D k)) ∙ sym (dart-step rot r k)))
             (λ g. ap (λ (b : Bool). cond b (next rot (opposite (D j))) (next rot (D j))) (tree-met j g) ∙ f .follow j g);
         marked = λ j h. lt-suc-split h
             (λ e. subst (λ (i : ℕ). M (suc k) (D i) ≡ code (l i)) (sym e) (mark-here rot r turn cross hr k))

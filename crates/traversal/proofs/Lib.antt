@@ -1,5 +1,4 @@
-pub mod Elements
-pub mod Rotation
+pub mod Bits
 pub mod Marks
 pub mod Spread
 pub mod Reach

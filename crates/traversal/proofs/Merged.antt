@@ -17,22 +17,20 @@ use borrow.Author.Tests.{eqb-true}
 use Rattle.model.specs.Numbers.{least}
 use Rattle.model.specs.Map.{opposite, next, vertexOf}
 use Rattle.model.specs.Traversal.{down}
-use Rattle.words.specs.Toured.{isTree}
+use Rattle.model.proofs.Booleans.{or-split}
+use Rattle.model.proofs.Opposite.{opposite-opposite}
 use Rattle.orbits.specs.Permutation.{Perm, swap}
 use Rattle.orbits.specs.Chord.{Involution}
 use Rattle.orbits.proofs.Order.{eq-split}
 use Rattle.orbits.proofs.Cycle.{least-in, least-step, least-ext}
 use Rattle.orbits.proofs.Merge.{swap-perm, swap-a, swap-b, swap-split, joined, together}
+use Rattle.orbits.proofs.Maps.{vertex-turn}
+use Rattle.words.specs.Toured.{isTree}
 use Rattle.traversal.specs.Steps.{at, start, dart, letterOf, mark, seenMark, tree}
-use Rattle.traversal.proofs.Rotation.{opposite-back, vertex-turn}
 use Rattle.traversal.proofs.Marks.{zeros-at}
 use Rattle.traversal.proofs.Steps.{case, down-case, letter-split, dart-bound, across-bound, mark-met}
 use Rattle.traversal.proofs.Steps.{seen-here, seen-across, seen-some, seen-same, seen-other}
 use Rattle.traversal.proofs.Follow.{tour, whole, perm, Away, away-less, Followed, follows, tree-same, tree-here, unmarked, across-unmarked}
-
-or-true-split : {C : Type 0} (a b : Bool) → (a || b) ≡ true → (a ≡ true → C) → (b ≡ true → C) → C
-or-true-split true b e u v = u refl
-or-true-split false b e u v = v e
 
 module _ (rot : List ℕ) (r : ℕ) (turn : Perm (length rot) (next rot)) (cross : Involution (length rot) opposite) (hr : r < length rot) where
   abbrev N : ℕ
@@ -60,11 +58,11 @@ module _ (rot : List ℕ) (r : ℕ) (turn : Perm (length rot) (next rot)) (cross
   pub tree-seen : (k x : ℕ) → tree rot r k x ≡ true → S k x ≢ 0
   unfolding tree
   tree-seen k x e =
-      or-true-split (eqb (M k x) 1) (eqb (M k (opposite x)) 1) e
+      or-split (eqb (M k x) 1) (eqb (M k (opposite x)) 1) e
       (λ t. let (j, h, f) = mark-met rot r k x (λ z. omega (arith, eqb-true (M k x) 1 t)) in
       subst (λ (y : ℕ). S k y ≢ 0) f (seen-here rot r turn cross hr k j (le-of-lt h)))
       (λ t. let (j, h, f) = mark-met rot r k (opposite x) (λ z. omega (arith, eqb-true (M k (opposite x)) 1 t)) in
-      subst (λ (y : ℕ). S k y ≢ 0) (ap opposite f ∙ opposite-back x) (seen-across rot r turn cross hr k j h))
+      subst (λ (y : ℕ). S k y ≢ 0) (ap opposite f ∙ opposite-opposite x) (seen-across rot r turn cross hr k j h))
 
   -- ---- the tour leads from seen to seen and from unseen to unseen
 
@@ -176,7 +174,7 @@ module _ (rot : List ℕ) (r : ℕ) (turn : Perm (length rot) (next rot)) (cross
           swap-split a b x
           (λ e. ap (τ (suc k)) e ∙ tour-in (suc k) a in-now ∙ sym (tour-out k b (whole rot r turn cross hr k a ha ∙ out-before))
           ∙ sym (ap ρ e ∙ ap (τ k) (swap-a a b)))
-          (λ e. ap (τ (suc k)) e ∙ tour-in (suc k) b (whole rot r turn cross hr (suc k) a ha ∙ in-now) ∙ ap (next rot) (opposite-back a)
+          (λ e. ap (τ (suc k)) e ∙ tour-in (suc k) b (whole rot r turn cross hr (suc k) a ha ∙ in-now) ∙ ap (next rot) (opposite-opposite a)
           ∙ sym (tour-out k a out-before) ∙ sym (ap ρ e ∙ ap (τ k) (swap-b a b)))
           (λ n o e. ap (λ (c : Bool). cond c (next rot (opposite x)) (next rot x)) (tree-same rot r turn cross hr k f away x (λ _. (n, o)))
           ∙ sym (ap (τ k) e))

@@ -17,12 +17,13 @@ use lib.ListN.{length, getD}
 use Rattle.model.specs.Numbers.{iter}
 use Rattle.model.specs.Map.{opposite, next}
 use Rattle.model.specs.Traversal.{Letter, down, up, first, second, code}
+use Rattle.model.proofs.Opposite.{opposite-opposite}
 use Rattle.orbits.specs.Permutation.{Perm}
 use Rattle.orbits.specs.Chord.{Involution}
 use Rattle.orbits.proofs.Order.{eq-split, lt-suc-split}
 use Rattle.orbits.proofs.Cycle.{iter-out, comes-back, same-reach, Back, On, on-self, on-step}
+use Rattle.orbits.proofs.Maps.{vertex-turn}
 use Rattle.traversal.specs.Steps.{at, dart, letterOf, mark, seenMark}
-use Rattle.traversal.proofs.Rotation.{opposite-back, vertex-turn}
 use Rattle.traversal.proofs.Steps.{Case, new, old, back, noted, case, dart-bound, across-bound, mark-met, seen-here, seen-across}
 use Rattle.traversal.proofs.Follow.{tour, perm, Away, Followed, follows, dart-iter, apart}
 use Rattle.traversal.proofs.Merged.{merges}
@@ -150,7 +151,7 @@ module _ (rot : List ℕ) (r : ℕ) (turn : Perm (length rot) (next rot)) (cross
 
       met-code : mark rot r j (opposite (D j)) ≡ code (l i)
       met-code =
-          ap (mark rot r j) (ap opposite e ∙ opposite-back (D i))
+          ap (mark rot r j) (ap opposite e ∙ opposite-opposite (D i))
           ∙ follows rot r turn cross hr j (λ t u v. o .away t u (omega arith)) .marked i h
 
       pub pair : ((l i ≡ down) × (l j ≡ up)) ⊎ ((l i ≡ first) × (l j ≡ second))

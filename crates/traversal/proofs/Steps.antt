@@ -28,13 +28,13 @@ use lib.Seq.{getD-set-same, getD-set-other}
 use borrow.Author.Tests.{eqb-true, eqb-false}
 use Rattle.model.specs.Map.{opposite, next, vertexOf}
 use Rattle.model.specs.Traversal.{Letter, down, up, first, second, code, letterAt, onward, seenAfter}
-use Rattle.words.specs.Toured.{isTree}
 use Rattle.orbits.specs.Permutation.{Perm}
 use Rattle.orbits.specs.Chord.{Involution}
 use Rattle.orbits.proofs.Order.{eq-split, le-split}
+use Rattle.orbits.proofs.Maps.{vertex-turn, vertex-bound}
+use Rattle.words.specs.Toured.{isTree}
 use Rattle.traversal.specs.Steps.{letter, step, start, at, dart, letterOf, mark, seenMark}
 use Rattle.traversal.proofs.Marks.{zeros-at, set-here, set-still}
-use Rattle.traversal.proofs.Rotation.{vertex-turn, vertex-bound}
 
 -- ---- the letter
 

@@ -9,12 +9,15 @@ use lib.ListN.{length}
 use Rattle.model.specs.Numbers.{isPermutation}
 use Rattle.model.specs.Map.{Plan, darts, opposite, connected, dartCountFits}
 use Rattle.model.specs.Traversal.{Letter, down, up, first, second, opens, visits}
-use Rattle.words.specs.Toured.{dartsMet, dartAt, letterOf, posOf, mateOf, fellow, Toured}
+use Rattle.model.proofs.Fitness.{count-even}
+use Rattle.model.proofs.Opposite.{opposite-opposite, opposite-ne}
+use Rattle.model.proofs.Permutations.{position-bound}
 use Rattle.orbits.proofs.Order.{tri}
+use Rattle.orbits.proofs.Maps.{opposite-inv}
+use Rattle.words.specs.Toured.{dartsMet, dartAt, letterOf, posOf, mateOf, fellow, Toured}
+use Rattle.words.proofs.Positions.{length-darts}
 use Rattle.traversal.specs.Walked.{Walked}
-use Rattle.traversal.proofs.Elements.{position-at}
-use Rattle.traversal.proofs.Rotation.{opposite-back, opposite-other, opposite-involution}
-use Rattle.traversal.proofs.Walk.{length-darts, walked}
+use Rattle.traversal.proofs.Walk.{walked}
 use Rattle.traversal.proofs.Complete.{connected-met, connected-long}
 
 -- the letters of two opposite darts, in the order in which they are met
@@ -49,7 +52,7 @@ module _ (p : Plan) (fits : dartCountFits (darts p) ≡ true) (hr : p .root < da
   unfolding posOf dartAt
   pos-of x h =
       let (i, hi, q) = connected-met p fits hr good whole x h in
-      let (b, f) = position-at x (dartsMet p) i (subst (λ (n : ℕ). i < n) (sym (length-darts p)) hi) q in
+      let (b, f) = position-bound x (dartsMet p) i (subst (λ (n : ℕ). i < n) (sym (length-darts p)) hi) q in
       (subst (λ (n : ℕ). posOf p x < n) (length-darts p ∙ long) b, f)
 
   dart-below : (i : ℕ) → i < N → dartAt p i < N
@@ -63,7 +66,7 @@ module _ (p : Plan) (fits : dartCountFits (darts p) ≡ true) (hr : p .root < da
 
   mate-of : (i : ℕ) → i < N → (mateOf p i < N) × (dartAt p (mateOf p i) ≡ opposite (dartAt p i))
   unfolding mateOf
-  mate-of i h = pos-of (opposite (dartAt p i)) (opposite-involution N fits .bound (dartAt p i) (dart-below i h))
+  mate-of i h = pos-of (opposite (dartAt p i)) (opposite-inv N (count-even N fits) .bound (dartAt p i) (dart-below i h))
 
   -- it comes later or it came earlier
   mate-split : {C : Type 0} (i : ℕ) → i < N → (i < mateOf p i → Matched (letterOf p i) (letterOf p (mateOf p i)) → C)
@@ -72,8 +75,8 @@ module _ (p : Plan) (fits : dartCountFits (darts p) ≡ true) (hr : p .root < da
       let (b, f) = mate-of i h in
       tri i (mateOf p i)
       (λ l. later l (w .pair i (mateOf p i) l (met-at (mateOf p i) b) f))
-      (λ q. absurd (opposite-other (dartAt p i) (sym f ∙ ap (dartAt p) (sym q))))
-      (λ g. sooner (w .pair (mateOf p i) i g (met-at i h) (sym (opposite-back (dartAt p i)) ∙ ap opposite (sym f))))
+      (λ q. absurd (opposite-ne (dartAt p i) (sym f ∙ ap (dartAt p) (sym q))))
+      (λ g. sooner (w .pair (mateOf p i) i g (met-at i h) (sym (opposite-opposite (dartAt p i)) ∙ ap opposite (sym f))))
 
   toured : Toured p
   toured = record {

@@ -1,6 +1,6 @@
 -- The visits of a plan are the steps of its first round; so all that is known of those holds of the visits, position by position.
 --
---   length-word, length-darts   as many letters and darts as visits
+--   length-word, length-darts   as many letters and darts as visits: passed on from words
 --   dart-steps, letter-steps    the visit at position i is step i of the walk
 --   walked                      all that is known of the traversal of a plan
 --   walk-closed, walk-least     the darts met are a closed set, and every closed set that has the root has them
@@ -12,18 +12,20 @@ use mathlib.Core.Logic.{_≢_, _⊎_}
 use mathlib.Core.Bool.{Bool, true, cond}
 use mathlib.Core.List.{List, [], _∷_, map}
 use lib.Dec.{eqb}
-use lib.ListN.{length, getD, length-map}
+use lib.ListN.{length, getD}
 use borrow.Author.Tests.{eq-eqb, ne-eqb}
 use Rattle.model.specs.Numbers.{isPermutation}
 use Rattle.model.specs.Map.{Plan, darts, opposite, next, vertexOf, dartCountFits}
 use Rattle.model.specs.Traversal.{Letter, down, up, first, second, onward, Visit, walk, visits, word}
-use Rattle.words.specs.Toured.{dartsMet, dartAt, letterOf}
+use Rattle.model.proofs.Fitness.{count-even}
 use Rattle.orbits.specs.Permutation.{Perm}
 use Rattle.orbits.specs.Chord.{Involution}
+use Rattle.orbits.proofs.Maps.{next-perm, opposite-inv}
+use Rattle.words.specs.Toured.{dartsMet, dartAt, letterOf}
+pub use Rattle.words.proofs.Positions.{length-word, length-darts}
 use Rattle.traversal.specs.Reach.{Closed}
 use Rattle.traversal.specs.Steps.{at, start, step, letter, dart, letterOf as letterAfter, seenMark}
 use Rattle.traversal.specs.Walked.{Among, Walked}
-use Rattle.traversal.proofs.Rotation.{rotation-perm, opposite-involution}
 use Rattle.traversal.proofs.Steps.{case, down-case, first-case, dart-step, dart-bound, seen-here, seen-some}
 use Rattle.traversal.proofs.Round.{Round, round, different, met-across, met-turn, met-turned, pair}
 
@@ -74,16 +76,6 @@ module _ (rot : List ℕ) (r : ℕ) where
       let on : dart rot r (suc i) ≢ r = away (suc i) (omega arith) (omega arith) in
       rest-step n i ∙ ap (λ (b : Bool). visit i ∷ cond b [] (rest n (suc i))) (ne-eqb (dart rot r (suc i)) r on)
       ∙ ap (λ (vs : List Visit). visit i ∷ vs) (walk-trace last returns away m n (suc i) (le-of-suc-le-suc h) (omega arith))
-
--- ---- as many letters and darts as visits
-
-pub length-word : (p : Plan) → length (word p) ≡ length (visits p)
-unfolding word
-length-word p = length-map (visits p) (λ v. v .letter)
-
-pub length-darts : (p : Plan) → length (dartsMet p) ≡ length (visits p)
-unfolding dartsMet
-length-darts p = length-map (visits p) (λ v. v .dart)
 
 -- ---- positions
 
@@ -191,10 +183,10 @@ module _ (p : Plan) (turn : Perm (darts p) (next (p .rotation))) (cross : Involu
 
 module _ (p : Plan) (fits : dartCountFits (darts p) ≡ true) (hr : p .root < darts p) (good : isPermutation (p .rotation) ≡ true) where
   turn : Perm (darts p) (next (p .rotation))
-  turn = rotation-perm (p .rotation) good
+  turn = next-perm (p .rotation) good
 
   cross : Involution (darts p) opposite
-  cross = opposite-involution (darts p) fits
+  cross = opposite-inv (darts p) (count-even (darts p) fits)
 
   pub walked : Walked p
   walked = walked-perm p turn cross hr

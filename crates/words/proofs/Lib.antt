@@ -1,1 +1,6 @@
-pub mod Examples
+pub mod Letters
+pub mod Positions
+pub mod Leaves
+pub mod Plans
+pub mod Validity
+pub mod Counts

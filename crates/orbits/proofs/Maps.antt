@@ -1,0 +1,62 @@
+-- The permutations of a map: a list of entries, the rotation, opposites, the steps of the faces.
+--
+--   list-perm, perm-list   a list passes isPermutation exactly when its entries are a permutation
+--   onto                   a permutation below N has every number below N as a value
+--   next-perm              the rotation is a permutation
+--   position-next          the place of an entry is its dart
+--   opposite-inv, opposite-free   opposites are an involution without fixed points, below an even number
+--   face-perm              the step of the faces is a permutation
+--   vertex-turn            a dart and its entry have one vertex
+--   vertex-bound           a vertex is named by a dart
+use Prim.Native.Nat.{ℕ, _%_, _<_}
+use mathlib.Core.Path.{_≡_, sym, _∙_}
+use mathlib.Core.Bool.{true}
+use mathlib.Core.List.{List}
+use lib.ListN.{length, getD}
+use Rattle.model.specs.Numbers.{iter, distinct, allBelow, isPermutation, position}
+use Rattle.model.specs.Map.{opposite, next, vertexOf, faceNext}
+use Rattle.model.proofs.Booleans.{and-right}
+use Rattle.model.proofs.Permutations.{permutation-below, permutation-inj, permutation-of, position-entry}
+use Rattle.model.proofs.Opposite.{opposite-opposite, opposite-ne, opposite-bound}
+use Rattle.orbits.specs.Permutation.{Perm}
+use Rattle.orbits.specs.Chord.{Involution}
+use Rattle.orbits.proofs.Cycle.{comes-back, iter-bound, iter-out, least-step, least-bound}
+use Rattle.orbits.proofs.Chord.{crossed-perm}
+use Rattle.orbits.proofs.Euler.{Free}
+
+pub list-perm : (xs : List ℕ) → isPermutation xs ≡ true → Perm (length xs) (λ d. getD xs d 0)
+list-perm xs e = record { bound = permutation-below xs e; inj = permutation-inj xs e }
+
+pub perm-list : (xs : List ℕ) → Perm (length xs) (λ d. getD xs d 0) → isPermutation xs ≡ true
+perm-list xs perm = permutation-of xs (perm .bound) (perm .inj)
+
+-- a number is its own last iterate's value
+pub onto : (N : ℕ) (p : ℕ → ℕ) → Perm N p → (y : ℕ) → y < N → (x : ℕ) × (x < N) × (p x ≡ y)
+onto N p perm y h = let (q, hq, back) = comes-back N p perm y h in (iter p q y, iter-bound N p perm q y h, sym (iter-out p q y) ∙ back)
+
+pub next-perm : (rot : List ℕ) → isPermutation rot ≡ true → Perm (length rot) (next rot)
+unfolding next
+next-perm rot e = record { bound = permutation-below rot e; inj = permutation-inj rot e }
+
+pub position-next : (rot : List ℕ) → isPermutation rot ≡ true → (d : ℕ) → d < length rot → position (next rot d) rot ≡ d
+unfolding next isPermutation
+position-next rot e d = position-entry rot (and-right (allBelow (length rot) rot) (distinct rot) e) d
+
+pub opposite-inv : (n : ℕ) → n % 2 ≡ 0 → Involution n opposite
+opposite-inv n e = record { bound = λ d h. opposite-bound n d e h; back = λ d h. opposite-opposite d }
+
+pub opposite-free : (n : ℕ) → Free n opposite
+opposite-free n d h = opposite-ne d
+
+pub face-perm : (rot : List ℕ) → isPermutation rot ≡ true → length rot % 2 ≡ 0 → Perm (length rot) (faceNext rot)
+unfolding faceNext
+face-perm rot e two = crossed-perm (length rot) opposite (opposite-inv (length rot) two) (next rot) (next-perm rot e)
+
+module _ (rot : List ℕ) (perm : Perm (length rot) (next rot)) where
+  pub vertex-turn : (d : ℕ) → d < length rot → vertexOf rot (next rot d) ≡ vertexOf rot d
+  unfolding vertexOf
+  vertex-turn = least-step (length rot) (next rot) perm
+
+  pub vertex-bound : (d : ℕ) → d < length rot → vertexOf rot d < length rot
+  unfolding vertexOf
+  vertex-bound = least-bound (length rot) (next rot) perm

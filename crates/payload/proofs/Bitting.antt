@@ -1,0 +1,218 @@
+-- The pass for tree bits, letter by letter.
+--
+--   before-first, before-down, before-other   whether the letter before a position is down
+--   bits-start, bits-next, bits-end   before the last letter; before another; after the first
+--   down-place, up-place, first-place   the bits of a letter have their places
+--   down-bit, up-bit, first-bits, second-bits   what each letter does
+use Prim.Native.Nat.{ℕ, suc, _+_, _-_, _*_, _/_, _≤_, _<_}
+use native.Mathlib.Nat.{sub-self, add-zero, sub-zero, add-suc}
+use native.Mathlib.Omega.{arith}
+use native.Mathlib.Numerals.{add-one}
+use mathlib.Core.Path.{_≡_, refl, sym, ap, _∙_, subst}
+use mathlib.Core.Logic.{_≢_}
+use mathlib.Core.Bool.{Bool, true, false, cond}
+use mathlib.Core.List.{List, _∷_}
+use lib.ListN.{length, getD, set, drop, length-set}
+use lib.Seq.{getD-drop}
+use Rattle.model.specs.Traversal.{Letter, down, up, first, second}
+use Rattle.words.specs.Word.{valid, startsSecond, wordBits}
+use Rattle.areas.specs.Area.{region}
+use Rattle.areas.proofs.Regions.{length-region, region-set-other}
+use Rattle.decoding.proofs.Sizes.{bits-length}
+use Rattle.payload.specs.Payload.{toLetter, lettersIn, bitsIn, labelsIn, BitsPut}
+use Rattle.payload.specs.Passes.{isDown, downBefore, bitsFrom, Bitted, BitStepped}
+use Rattle.payload.proofs.Suffixes.{bits-shrink}
+use Rattle.payload.proofs.Letters.{length-letters, letters-at, letters-end, letters-set, small-word, region-front}
+use Rattle.payload.proofs.Letters.{code-down, code-up, code-first, code-second, not-down}
+
+-- ---- the letter before a position
+
+module _ (n : ℕ) (w : List ℕ) (room : 16 * n ≤ length w) where
+  letter-before : (i : ℕ) → i < n → downBefore (i + 1) (lettersIn n w) ≡ isDown (toLetter (getD w (3 * n + i) 0))
+  unfolding downBefore
+  letter-before i h =
+      ap (λ (k : ℕ). downBefore k (lettersIn n w)) (add-one i)
+      ∙ ap (λ (k : ℕ). isDown (getD (lettersIn n w) k up)) (sym (add-zero i))
+      ∙ ap isDown (sym (getD-drop i (lettersIn n w) 0 up))
+      ∙ ap (λ (v : List Letter). isDown (getD v 0 up)) (letters-at n w room i h)
+
+  module _ (i : ℕ) where
+    pub before-first : i ≡ 0 → 0 ≡ cond (downBefore i (lettersIn n w)) (startsSecond (drop (i + 1) (lettersIn n w))) 0
+    unfolding downBefore
+    before-first e = rw e
+
+    module _ (h : 0 < i) (l : i ≤ n) where
+      before : downBefore i (lettersIn n w) ≡ isDown (toLetter (getD w (3 * n + (i - 1)) 0))
+      before =
+          let e : i ≡ i - 1 + 1 = omega arith in
+          ap (λ (k : ℕ). downBefore k (lettersIn n w)) e ∙ letter-before (i - 1) (omega arith)
+
+      pub before-down : getD w (3 * n + (i - 1)) 0 ≡ 1
+          → startsSecond (drop (i + 1) (lettersIn n w)) ≡ cond (downBefore i (lettersIn n w)) (startsSecond (drop (i + 1) (lettersIn n w))) 0
+      unfolding isDown
+      before-down e = rw (before, code-down _ e)
+
+      pub before-other : getD w (3 * n + (i - 1)) 0 ≢ 1
+          → 0 ≡ cond (downBefore i (lettersIn n w)) (startsSecond (drop (i + 1) (lettersIn n w))) 0
+      before-other e = rw (before, not-down _ e)
+
+-- ---- start and end
+
+pub bits-start : (n : ℕ) (w : List ℕ) → valid 2 (lettersIn n w) ≡ true → 16 * n ≤ length w → Bitted n w n n
+unfolding region bitsFrom wordBits
+bits-start n w v room = record {
+  word = v;
+  room = room;
+  small = small-word n w room v;
+  place = omega arith;
+  bits-left = omega arith;
+  put = rw (letters-end n w room n refl, sub-self);
+}
+
+all-bits : (n : ℕ) (w : List ℕ) → valid 2 (lettersIn n w) ≡ true → 16 * n ≤ length w → length (wordBits false (lettersIn n w)) ≡ n
+all-bits n w v room = bits-length 2 (lettersIn n w) v ∙ length-letters n w room
+
+bits-are : (n i t : ℕ) (w : List ℕ) → Bitted n w i t → n - t ≡ length (bitsFrom i (lettersIn n w))
+bits-are n i t w at =
+    let r = at .room in
+    let b = at .bits-left in
+    sym (length-region (8 * n + t) (n - t) w (omega arith)) ∙ ap length (at .put)
+
+pub bits-next : (n i t : ℕ) (w : List ℕ) → 0 < i → Bitted n w i t → (i - 1 < n) × Bitted n w (i - 1 + 1) t
+bits-next n i t w h at =
+    let p = at .place in
+    let z : i ≡ i - 1 + 1 = omega arith in
+    (omega arith, subst (λ (k : ℕ). Bitted n w k t) z at)
+
+pub bits-end : (n i t : ℕ) (w₀ w : List ℕ) → i ≡ 0 → Bitted n w i t → lettersIn n w ≡ lettersIn n w₀ → labelsIn n w ≡ labelsIn n w₀ → length w ≡ length w₀
+    → BitsPut n w₀ w
+unfolding bitsIn bitsFrom downBefore
+bits-end n i t w₀ w done bitted l m k =
+    let at = subst (λ (j : ℕ). Bitted n w j t) done bitted in
+    let h = all-bits n w (at .word) (at .room) in
+    let c = bits-are n 0 t w at in
+    let b = at .bits-left in
+    let z : t ≡ 0 = omega arith in
+    record {
+      bits =
+          ap (λ (a : ℕ). region a n w) (sym (add-zero (8 * n))) ∙ ap (λ (c : ℕ). region (8 * n + 0) c w) (sym (sub-zero n))
+          ∙ ap (λ (j : ℕ). region (8 * n + j) (n - j) w) (sym z) ∙ at .put ∙ ap (wordBits false) l;
+      labels = m;
+      kept = k;
+    }
+
+-- ---- one letter
+
+module _ (n i t : ℕ) (w : List ℕ) (h : i < n) (at : Bitted n w (i + 1) t) where
+  shrunk : length (bitsFrom i (lettersIn n w)) ≤ n
+  unfolding bitsFrom
+  shrunk = subst (λ (k : ℕ). length (bitsFrom i (lettersIn n w)) ≤ k) (all-bits n w (at .word) (at .room))
+      (bits-shrink (downBefore i (lettersIn n w)) false i (lettersIn n w))
+
+  these : (l : Letter) → toLetter (getD w (3 * n + i) 0) ≡ l
+      → bitsFrom i (lettersIn n w) ≡ wordBits (downBefore i (lettersIn n w)) (l ∷ drop (i + 1) (lettersIn n w))
+  unfolding bitsFrom
+  these l c = ap (wordBits (downBefore i (lettersIn n w)))
+      (letters-at n w (at .room) i h ∙ ap (λ (k : Letter). k ∷ drop (i + 1) (lettersIn n w)) c)
+
+  others : (l : Letter) → toLetter (getD w (3 * n + i) 0) ≡ l → bitsFrom (i + 1) (lettersIn n w) ≡ wordBits (isDown l) (drop (i + 1) (lettersIn n w))
+  unfolding bitsFrom
+  others l c = ap (λ (b : Bool). wordBits b (drop (i + 1) (lettersIn n w))) (letter-before n w (at .room) i h ∙ ap isDown c)
+
+  -- the bits of each letter, before those that are put
+  down-more : getD w (3 * n + i) 0 ≡ 1 → bitsFrom i (lettersIn n w) ≡ 1 ∷ region (8 * n + t) (n - t) w
+  unfolding wordBits isDown
+  down-more c = these down (code-down _ c) ∙ ap (λ (r : List ℕ). 1 ∷ r) (sym (at .put ∙ others down (code-down _ c)))
+
+  up-more : getD w (3 * n + i) 0 ≡ 2
+      → bitsFrom i (lettersIn n w) ≡ cond (downBefore i (lettersIn n w)) (startsSecond (drop (i + 1) (lettersIn n w))) 0 ∷ region (8 * n + t) (n - t) w
+  unfolding wordBits isDown
+  up-more c = these up (code-up _ c)
+      ∙ ap (λ (r : List ℕ). cond (downBefore i (lettersIn n w)) (startsSecond (drop (i + 1) (lettersIn n w))) 0 ∷ r) (sym (at .put ∙ others up (code-up _ c)))
+
+  first-more : getD w (3 * n + i) 0 ≡ 3 → bitsFrom i (lettersIn n w) ≡ 1 ∷ 0 ∷ region (8 * n + t) (n - t) w
+  unfolding wordBits isDown
+  first-more c = these first (code-first _ c) ∙ ap (λ (r : List ℕ). 1 ∷ 0 ∷ r) (sym (at .put ∙ others first (code-first _ c)))
+
+  second-more : getD w (3 * n + i) 0 ≢ 1 → getD w (3 * n + i) 0 ≢ 2 → getD w (3 * n + i) 0 ≢ 3
+      → bitsFrom i (lettersIn n w) ≡ region (8 * n + t) (n - t) w
+  unfolding wordBits isDown
+  second-more a b c = these second (code-second _ a b c) ∙ sym (at .put ∙ others second (code-second _ a b c))
+
+  size : length (region (8 * n + t) (n - t) w) ≡ n - t
+  size = let r = at .room in let b = at .bits-left in length-region (8 * n + t) (n - t) w (omega arith)
+
+  pub down-place : getD w (3 * n + i) 0 ≡ 1 → 0 < t
+  down-place c = let a = shrunk in let b = ap length (down-more c) in let s = size in let l = at .bits-left in omega arith
+
+  pub up-place : getD w (3 * n + i) 0 ≡ 2 → 0 < t
+  up-place c = let a = shrunk in let b = ap length (up-more c) in let s = size in let l = at .bits-left in omega arith
+
+  pub first-place : getD w (3 * n + i) 0 ≡ 3 → 1 < t
+  first-place c = let a = shrunk in let b = ap length (first-more c) in let s = size in let l = at .bits-left in omega arith
+
+  advance : (w′ : List ℕ) (t′ : ℕ) → t′ ≤ n → lettersIn n w′ ≡ lettersIn n w → labelsIn n w′ ≡ labelsIn n w → length w′ ≡ length w
+      → region (8 * n + t′) (n - t′) w′ ≡ bitsFrom i (lettersIn n w) → BitStepped n w w′ i t′
+  advance w′ t′ b same labels kept put =
+      let r = at .room in
+      record {
+        bitted = record {
+          word = ap (valid 2) same ∙ at .word;
+          room = omega arith;
+          small = at .small;
+          place = omega arith;
+          bits-left = b;
+          put = put ∙ ap (bitsFrom i) (sym same);
+        };
+        letters = same;
+        labels = labels;
+        kept = kept;
+      }
+
+-- a store among the bits, right before those that are put
+labels-beside : (n p x : ℕ) (w : List ℕ) → p < 9 * n → labelsIn n (set w p x) ≡ labelsIn n w
+unfolding labelsIn
+labels-beside n p x w h = region-set-other (9 * n) (n / 2) w p x (λ l. omega arith)
+
+bit-put : (n t x : ℕ) (w : List ℕ) → 16 * n ≤ length w → suc t ≤ n
+    → region (8 * n + t) (n - t) (set w (8 * n + t) x) ≡ x ∷ region (8 * n + suc t) (n - suc t) w
+bit-put n t x w room l =
+    let z : n - t ≡ suc (n - suc t) = omega arith in
+    ap (λ (k : ℕ). region (8 * n + t) k (set w (8 * n + t) x)) z ∙ region-front (8 * n + t) (n - suc t) x w (omega arith)
+    ∙ ap (λ (a : ℕ). x ∷ region a (n - suc t) w) (sym (add-suc (8 * n) t))
+
+module _ (n i t : ℕ) (w : List ℕ) (h : i < n) where
+  one-bit : (t′ x : ℕ) → t′ ≡ suc t → (at : Bitted n w (i + 1) t′) → bitsFrom i (lettersIn n w) ≡ x ∷ region (8 * n + t′) (n - t′) w
+      → BitStepped n w (set w (8 * n + t) x) i t
+  one-bit t′ x e at more =
+      let b = at .bits-left in
+      advance n i t′ w h at (set w (8 * n + t) x) t (omega arith) (letters-set n w (8 * n + t) x (omega arith))
+      (labels-beside n (8 * n + t) x w (omega arith)) (length-set w (8 * n + t) x)
+      (bit-put n t x w (at .room) (omega arith) ∙ ap (λ (k : ℕ). x ∷ region (8 * n + k) (n - k) w) (sym e) ∙ sym more)
+
+  pub down-bit : (t′ : ℕ) → t′ ≡ suc t → Bitted n w (i + 1) t′ → getD w (3 * n + i) 0 ≡ 1 → BitStepped n w (set w (8 * n + t) 1) i t
+  down-bit t′ e at c = one-bit t′ 1 e at (down-more n i t′ w h at c)
+
+  pub up-bit : (t′ x : ℕ) → t′ ≡ suc t → Bitted n w (i + 1) t′ → getD w (3 * n + i) 0 ≡ 2
+      → x ≡ cond (downBefore i (lettersIn n w)) (startsSecond (drop (i + 1) (lettersIn n w))) 0 → BitStepped n w (set w (8 * n + t) x) i t
+  up-bit t′ x e at c d = one-bit t′ x e at (up-more n i t′ w h at c ∙ ap (λ (y : ℕ). y ∷ region (8 * n + t′) (n - t′) w) (sym d))
+
+  pub first-bits : (t′ : ℕ) → t′ ≡ suc (suc t) → Bitted n w (i + 1) t′ → getD w (3 * n + i) 0 ≡ 3
+      → BitStepped n w (set (set w (8 * n + t + 1) 0) (8 * n + t) 1) i t
+  first-bits t′ e at c =
+      let b = at .bits-left in
+      let v = set w (8 * n + t + 1) 0 in
+      let room = at .room in
+      let l = length-set w (8 * n + t + 1) 0 in
+      let place : 8 * n + t + 1 ≡ 8 * n + suc t = omega arith in
+      advance n i t′ w h at (set v (8 * n + t) 1) t (omega arith)
+      (letters-set n v (8 * n + t) 1 (omega arith) ∙ letters-set n w (8 * n + t + 1) 0 (omega arith))
+      (labels-beside n (8 * n + t) 1 v (omega arith) ∙ labels-beside n (8 * n + t + 1) 0 w (omega arith))
+      (length-set v (8 * n + t) 1 ∙ l)
+      (bit-put n t 1 v (omega arith) (omega arith)
+      ∙ ap (λ (p : ℕ). 1 ∷ region (8 * n + suc t) (n - suc t) (set w p 0)) place
+      ∙ ap (λ (r : List ℕ). 1 ∷ r) (bit-put n (suc t) 0 w room (omega arith))
+      ∙ ap (λ (k : ℕ). 1 ∷ 0 ∷ region (8 * n + k) (n - k) w) (sym e) ∙ sym (first-more n i t′ w h at c))
+
+  pub second-bits : Bitted n w (i + 1) t → getD w (3 * n + i) 0 ≢ 1 → getD w (3 * n + i) 0 ≢ 2 → getD w (3 * n + i) 0 ≢ 3 → BitStepped n w w i t
+  second-bits at c₁ c₂ c₃ = advance n i t w h at w t (at .bits-left) refl refl refl (sym (second-more n i t w h at c₁ c₂ c₃))

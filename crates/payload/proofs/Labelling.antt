@@ -1,0 +1,181 @@
+-- The pass for labels, letter by letter.
+--
+--   scan-start, scan-next, scan-end   before the last letter; before another; after the first
+--   down-room, first-room  where an edge begins, its label has a place and its end waits on a stack
+--   down-step, up-step, first-step, second-step   what each letter does
+use Prim.Native.Nat.{ℕ, suc, _+_, _-_, _*_, _/_, _≤_, _<_}
+use native.Mathlib.Nat.{sub-self, add-zero, sub-zero}
+use native.Mathlib.Omega.{arith}
+use native.Mathlib.Numerals.{add-one}
+use mathlib.Core.Path.{_≡_, refl, sym, ap, _∙_, subst}
+use mathlib.Core.Logic.{_≢_}
+use mathlib.Core.Bool.{true, cond}
+use mathlib.Core.List.{List, [], _∷_}
+use lib.ListN.{length, getD, set, drop, length-set}
+use Rattle.model.specs.Traversal.{Letter, down, up, first, second}
+use Rattle.words.specs.Word.{valid, Ends, endsOne, ends, startsUp, startsSecond, wordLabels}
+use Rattle.areas.specs.Area.{region}
+use Rattle.areas.proofs.Regions.{length-region}
+use Rattle.decoding.proofs.Validity.{valid-nested}
+use Rattle.decoding.proofs.Sizes.{letters-length}
+use Rattle.payload.specs.Payload.{toLetter, lettersIn, labelsIn, LabelsPut}
+use Rattle.payload.specs.Passes.{tops, held, Scanned, Stepped}
+use Rattle.payload.proofs.Suffixes.{Goes, suffix, down-waits, first-waits, labels-shrink}
+use Rattle.payload.proofs.Letters.{length-letters, letters-at, letters-end, letters-set, small-word, code-down, code-up, code-first, code-second}
+use Rattle.payload.proofs.Stacks.{length-tops, held-down, held-up, held-first, held-second}
+
+pub scan-start : (n : ℕ) (w : List ℕ) → valid 2 (lettersIn n w) ≡ true → 16 * n ≤ length w → Scanned n w n (n / 2) 0 0
+unfolding held tops region ends
+scan-start n w v room = record {
+  word = v;
+  room = room;
+  small = small-word n w room v;
+  place = omega arith;
+  labels-left = omega arith;
+  ups-fit = omega arith;
+  seconds-fit = omega arith;
+  ended = rw (letters-end n w room n refl, sub-self);
+}
+
+half : (n : ℕ) (w : List ℕ) → valid 2 (lettersIn n w) ≡ true → 16 * n ≤ length w → length (ends (lettersIn n w) .labels) ≡ n / 2
+unfolding wordLabels
+half n w v room = let l = length-letters n w room in let h = letters-length 2 (lettersIn n w) v in omega arith
+
+module _ (n i e u s : ℕ) (w : List ℕ) (at : Scanned n w i e u s) where
+  labels-are : n / 2 - e ≡ length (ends (drop i (lettersIn n w)) .labels)
+  unfolding held
+  labels-are =
+      let r = at .room in
+      let b = at .labels-left in
+      sym (length-region (9 * n + e) (n / 2 - e) w (omega arith)) ∙ ap (λ (x : Ends). length (x .labels)) (at .ended)
+
+  ups-are : u ≡ length (ends (drop i (lettersIn n w)) .ups)
+  unfolding held
+  ups-are = sym (length-tops (5 * n) u w) ∙ ap (λ (x : Ends). length (x .ups)) (at .ended)
+
+  seconds-are : s ≡ length (ends (drop i (lettersIn n w)) .seconds)
+  unfolding held
+  seconds-are = sym (length-tops (6 * n) s w) ∙ ap (λ (x : Ends). length (x .seconds)) (at .ended)
+
+-- a letter is left
+pub scan-next : (n i e u s : ℕ) (w : List ℕ) → 0 < i → Scanned n w i e u s → (i - 1 < n) × Scanned n w (i - 1 + 1) e u s
+scan-next n i e u s w h at =
+    let p = at .place in
+    let z : i ≡ i - 1 + 1 = omega arith in
+    (omega arith, subst (λ (k : ℕ). Scanned n w k e u s) z at)
+
+-- all labels are put when all letters are done
+pub scan-end : (n i e u s : ℕ) (w₀ w : List ℕ) → i ≡ 0 → Scanned n w i e u s → lettersIn n w ≡ lettersIn n w₀ → length w ≡ length w₀
+    → LabelsPut n w₀ w
+unfolding held labelsIn wordLabels
+scan-end n i e u s w₀ w done scanned l k =
+    let at = subst (λ (j : ℕ). Scanned n w j e u s) done scanned in
+    let h = half n w (at .word) (at .room) in
+    let c = labels-are n 0 e u s w at in
+    let b = at .labels-left in
+    let z : e ≡ 0 = omega arith in
+    record {
+      labels =
+          ap (λ (a : ℕ). region a (n / 2) w) (sym (add-zero (9 * n))) ∙ ap (λ (c : ℕ). region (9 * n + 0) c w) (sym (sub-zero (n / 2)))
+          ∙ ap (λ (j : ℕ). region (9 * n + j) (n / 2 - j) w) (sym z)
+          ∙ ap (λ (x : Ends). x .labels) (at .ended) ∙ ap (λ (v : List Letter). ends v .labels) l;
+      letters = l;
+      kept = k;
+    }
+
+module _ (n i e u s : ℕ) (w : List ℕ) (h : i < n) (at : Scanned n w (i + 1) e u s) where
+  here : (l : Letter) → toLetter (getD w (3 * n + i) 0) ≡ l → drop i (lettersIn n w) ≡ l ∷ drop (i + 1) (lettersIn n w)
+  here l c = letters-at n w (at .room) i h ∙ ap (λ (k : Letter). k ∷ drop (i + 1) (lettersIn n w)) c
+
+  goes : (l : Letter) → toLetter (getD w (3 * n + i) 0) ≡ l → Goes (l ∷ drop (i + 1) (lettersIn n w))
+  goes l c = subst Goes (here l c) (suffix i (lettersIn n w)
+      (record { n = 1; here = 0; below = []; opens = []; well = valid-nested 2 (lettersIn n w) (at .word) }))
+
+  shrunk : (l : Letter) → toLetter (getD w (3 * n + i) 0) ≡ l → length (ends (l ∷ drop (i + 1) (lettersIn n w)) .labels) ≤ n / 2
+  shrunk l c = subst (λ (k : ℕ). length (ends (l ∷ drop (i + 1) (lettersIn n w)) .labels) ≤ k) (half n w (at .word) (at .room))
+      (subst (λ (v : List Letter). length (ends v .labels) ≤ length (ends (lettersIn n w) .labels)) (here l c) (labels-shrink i (lettersIn n w)))
+
+  pub down-room : getD w (3 * n + i) 0 ≡ 1 → (0 < e) × (0 < u)
+  unfolding ends endsOne
+  down-room c =
+      let a = shrunk down (code-down _ c) in
+      let b = labels-are n (i + 1) e u s w at in
+      let f = down-waits (drop (i + 1) (lettersIn n w)) (goes down (code-down _ c)) in
+      let g = ups-are n (i + 1) e u s w at in
+      let l = at .labels-left in
+      (omega arith, omega arith)
+
+  pub first-room : getD w (3 * n + i) 0 ≡ 3 → (0 < e) × (0 < s)
+  unfolding ends endsOne
+  first-room c =
+      let a = shrunk first (code-first _ c) in
+      let b = labels-are n (i + 1) e u s w at in
+      let f = first-waits (drop (i + 1) (lettersIn n w)) (goes first (code-first _ c)) in
+      let g = seconds-are n (i + 1) e u s w at in
+      let l = at .labels-left in
+      (omega arith, omega arith)
+
+  -- a store at p, beside the letters, does what the letter l asks
+  advance : (l : Letter) (p x e′ u′ s′ : ℕ) → toLetter (getD w (3 * n + i) 0) ≡ l → 4 * n ≤ p → e′ ≤ n / 2 → u′ + i ≤ n → s′ + i ≤ n
+      → held n (set w p x) e′ u′ s′ ≡ endsOne l (drop (i + 1) (lettersIn n w)) (held n w e u s) → Stepped n w (set w p x) i e′ u′ s′
+  unfolding ends
+  advance l p x e′ u′ s′ c b f g j k =
+      let same = letters-set n w p x b in
+      let size = length-set w p x in
+      let r = at .room in
+      record {
+        scanned = record {
+          word = ap (valid 2) same ∙ at .word;
+          room = omega arith;
+          small = at .small;
+          place = omega arith;
+          labels-left = f;
+          ups-fit = g;
+          seconds-fit = j;
+          ended = k ∙ ap (endsOne l (drop (i + 1) (lettersIn n w))) (at .ended)
+              ∙ ap ends (sym (here l c)) ∙ ap (λ (v : List Letter). ends (drop i v)) (sym same);
+        };
+        letters = same;
+        kept = size;
+      }
+
+module _ (n i e u s x : ℕ) (w : List ℕ) (h : i < n) where
+  pub up-step : Scanned n w (i + 1) e u s → getD w (3 * n + i) 0 ≡ 2 → x ≡ startsSecond (drop (i + 1) (lettersIn n w))
+      → Stepped n w (set w (5 * n + u) x) i e (u + 1) s
+  up-step at c d =
+      let b = at .ups-fit in
+      let g = at .seconds-fit in
+      let f = at .labels-left in
+      let word = drop (i + 1) (lettersIn n w) in
+      advance n i e u s w h at up (5 * n + u) x e (u + 1) s (code-up _ c) (omega arith) f (omega arith) (omega arith)
+      (ap (λ (k : ℕ). held n (set w (5 * n + u) x) e k s) (add-one u) ∙ held-up n e u s x w word (at .room) (omega arith) (omega arith) d)
+
+  pub second-step : Scanned n w (i + 1) e u s → getD w (3 * n + i) 0 ≢ 1 → getD w (3 * n + i) 0 ≢ 2 → getD w (3 * n + i) 0 ≢ 3
+      → x ≡ startsSecond (drop (i + 1) (lettersIn n w)) → Stepped n w (set w (6 * n + s) x) i e u (s + 1)
+  second-step at c₁ c₂ c₃ d =
+      let b = at .ups-fit in
+      let g = at .seconds-fit in
+      let f = at .labels-left in
+      let word = drop (i + 1) (lettersIn n w) in
+      advance n i e u s w h at second (6 * n + s) x e u (s + 1) (code-second _ c₁ c₂ c₃) (omega arith) f (omega arith) (omega arith)
+      (ap (λ (k : ℕ). held n (set w (6 * n + s) x) e u k) (add-one s) ∙ held-second n e u s x w word (at .room) (omega arith) (omega arith) d)
+
+  pub down-step : (e′ u′ : ℕ) → e′ ≡ suc e → u′ ≡ suc u → Scanned n w (i + 1) e′ u′ s → getD w (3 * n + i) 0 ≡ 1
+      → x ≡ cond (startsUp (drop (i + 1) (lettersIn n w))) 2 (getD w (5 * n + u) 0) → Stepped n w (set w (9 * n + e) x) i e u s
+  down-step e′ u′ p q at c d =
+      let b = at .ups-fit in
+      let g = at .seconds-fit in
+      let f = at .labels-left in
+      let word = drop (i + 1) (lettersIn n w) in
+      advance n i e′ u′ s w h at down (9 * n + e) x e u s (code-down _ c) (omega arith) (omega arith) (omega arith) (omega arith)
+      (rw (p, q) (held-down n e u s x w word (at .room) (omega arith) (omega arith) (omega arith) d))
+
+  pub first-step : (e′ s′ : ℕ) → e′ ≡ suc e → s′ ≡ suc s → Scanned n w (i + 1) e′ u s′ → getD w (3 * n + i) 0 ≡ 3
+      → x ≡ getD w (6 * n + s) 0 → Stepped n w (set w (9 * n + e) x) i e u s
+  first-step e′ s′ p q at c d =
+      let b = at .ups-fit in
+      let g = at .seconds-fit in
+      let f = at .labels-left in
+      let word = drop (i + 1) (lettersIn n w) in
+      advance n i e′ u s′ w h at first (9 * n + e) x e u s (code-first _ c) (omega arith) (omega arith) (omega arith) (omega arith)
+      (rw (p, q) (held-first n e u s x w word (at .room) (omega arith) (omega arith) (omega arith) d))

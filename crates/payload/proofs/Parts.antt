@@ -1,0 +1,146 @@
+-- The parts of a record, one after the other.
+--
+--   two-bytes          two stores put a number in two bytes
+--   head-placed        three numbers, one after the other
+--   one-run, bits-run, labels-run   which entries of the work area are tree bits and labels
+--   all-one-run, all-bits-run, all-labels-run   they are small
+--   plain-placed, starred-placed   the payload, by its groups
+--   length-one, length-two   the length of a record of kind 1, and of another kind
+--   short              a record's length fits in two bytes, and the head in its length
+--   kind-two, kind-bound   a kind but 1 is 2; the bound of the labels, by kind
+--   laid-out           head and payload are the record
+use Prim.Native.Nat.{ℕ, suc, _+_, _-_, _*_, _/_, _%_, _^_, _≤_, _<_}
+use native.Mathlib.Omega.{arith}
+use native.Mathlib.Numerals.{add-one}
+use mathlib.Core.Path.{_≡_, sym, ap, ap₂, _∙_, subst}
+use mathlib.Core.Logic.{_≢_}
+use mathlib.Core.Bool.{Bool, true, false, cond}
+use mathlib.Core.List.{List, [], _∷_, _++_}
+use lib.Dec.{eqb}
+use lib.ListN.{length, set, length-set}
+use borrow.Author.Tests.{eq-eqb, ne-eqb, eqb-true}
+use Rattle.model.specs.Numbers.{allBelow}
+use Rattle.model.specs.Map.{isKind}
+use Rattle.model.specs.Record.{pack, le16, bytesFor, recordLength, payload, layOut}
+use Rattle.areas.specs.Area.{region, placed}
+use Rattle.areas.proofs.Regions.{region-split, placed-none}
+use Rattle.decoding.proofs.Bounds.{all-cons, all-head, all-tail}
+use Rattle.payload.specs.Payload.{bitsIn, labelsIn, LaidOut}
+use Rattle.payload.proofs.Placing.{placed-cons, placed-next, front-placed}
+use Rattle.payload.proofs.Numerals.{length-pack}
+
+pub two-bytes : (at x : ℕ) (out : List ℕ) → at + 2 ≤ length out → set (set out at (x % 256)) (at + 1) (x / 256 % 256) ≡ placed at (le16 x) out
+unfolding le16
+two-bytes at x out h =
+    let a = x % 256 in
+    let b = x / 256 % 256 in
+    let l = length-set out at a in
+    sym (placed-cons at a (b ∷ []) out (omega arith) ∙ placed-cons (suc at) b [] (set out at a) (omega arith)
+    ∙ placed-none (suc (suc at)) (set (set out at a) (suc at) b) ∙ ap (λ (k : ℕ). set (set out at a) k b) (sym (add-one at)))
+
+pub head-placed : (l k m : ℕ) (out out₁ out₂ out₃ : List ℕ) → 6 ≤ length out
+    → out₁ ≡ placed 0 (le16 l) out → out₂ ≡ placed 2 (le16 k) out₁ → out₃ ≡ placed 4 (le16 m) out₂ → out₃ ≡ placed 0 (le16 l ++ (le16 k ++ le16 m)) out
+unfolding le16
+head-placed l k m out out₁ out₂ out₃ h p q r =
+    r ∙ ap (λ (s : List ℕ). placed 4 (le16 m) s) (q ∙ ap (λ (s : List ℕ). placed 2 (le16 k) s) p)
+    ∙ ap (λ (r : List ℕ). placed 4 (le16 m) r) (placed-next 0 (le16 l) (le16 k) out (omega arith))
+    ∙ placed-next 0 (le16 l ++ le16 k) (le16 m) out (omega arith)
+
+-- ---- tree bits and labels
+
+module _ (m : ℕ) (w : List ℕ) where
+  pub bits-run : region (8 * (2 * m)) (9 * (2 * m) - 8 * (2 * m)) w ≡ bitsIn (2 * m) w
+  unfolding bitsIn
+  bits-run = let e : 9 * (2 * m) - 8 * (2 * m) ≡ 2 * m = omega arith in ap (λ (k : ℕ). region (8 * (2 * m)) k w) e
+
+  pub labels-run : region (9 * (2 * m)) (9 * (2 * m) + m - 9 * (2 * m)) w ≡ labelsIn (2 * m) w
+  unfolding labelsIn
+  labels-run = let e : 9 * (2 * m) + m - 9 * (2 * m) ≡ 2 * m / 2 = omega arith in ap (λ (k : ℕ). region (9 * (2 * m)) k w) e
+
+  pub one-run : region (8 * (2 * m)) (9 * (2 * m) + m - 8 * (2 * m)) w ≡ bitsIn (2 * m) w ++ labelsIn (2 * m) w
+  unfolding bitsIn labelsIn
+  one-run =
+      let e : 9 * (2 * m) + m - 8 * (2 * m) ≡ 2 * m + 2 * m / 2 = omega arith in
+      let f : 8 * (2 * m) + 2 * m ≡ 9 * (2 * m) = omega arith in
+      ap (λ (k : ℕ). region (8 * (2 * m)) k w) e ∙ region-split (8 * (2 * m)) (2 * m) (2 * m / 2) w
+      ∙ ap (λ (a : ℕ). region (8 * (2 * m)) (2 * m) w ++ region a (2 * m / 2) w) f
+
+all-append : (b : ℕ) (xs ys : List ℕ) → allBelow b xs ≡ true → allBelow b ys ≡ true → allBelow b (xs ++ ys) ≡ true
+all-append b [] ys h k = k
+all-append b (x ∷ xs) ys h k = all-cons b x (xs ++ ys) (all-head b x xs h) (all-append b xs ys (all-tail b x xs h) k)
+
+pub all-one-run : (m : ℕ) (w : List ℕ) → allBelow 2 (bitsIn (2 * m) w) ≡ true → allBelow 2 (labelsIn (2 * m) w) ≡ true
+    → allBelow 2 (region (8 * (2 * m)) (9 * (2 * m) + m - 8 * (2 * m)) w) ≡ true
+all-one-run m w h k = rw (one-run m w) (all-append 2 (bitsIn (2 * m) w) (labelsIn (2 * m) w) h k)
+
+pub all-bits-run : (m : ℕ) (w : List ℕ) → allBelow 2 (bitsIn (2 * m) w) ≡ true
+    → allBelow 2 (region (8 * (2 * m)) (9 * (2 * m) - 8 * (2 * m)) w) ≡ true
+all-bits-run m w h = rw (bits-run m w) h
+
+pub all-labels-run : (b m : ℕ) (w : List ℕ) → allBelow b (labelsIn (2 * m) w) ≡ true
+    → allBelow b (region (9 * (2 * m)) (9 * (2 * m) + m - 9 * (2 * m)) w) ≡ true
+all-labels-run b m w h = rw (labels-run m w) h
+
+-- ---- payloads
+
+pub plain-placed : (m count : ℕ) (w out out′ : List ℕ) → count ≡ bytesFor (3 * m) 8
+    → out′ ≡ placed 6 (pack 2 8 count (region (8 * (2 * m)) (9 * (2 * m) + m - 8 * (2 * m)) w)) out
+    → out′ ≡ placed 6 (payload 1 m (bitsIn (2 * m) w) (labelsIn (2 * m) w)) out
+unfolding payload
+plain-placed m count w out out′ e p = p ∙ ap₂ (λ (k : ℕ) (r : List ℕ). placed 6 (pack 2 8 k r) out) e (one-run m w)
+
+pub starred-placed : (m bytes count : ℕ) (w out mid out′ : List ℕ) → bytes ≡ bytesFor (2 * m) 8 → count ≡ bytesFor m 5 → 6 + bytes + count ≤ length out
+    → mid ≡ placed 6 (pack 2 8 bytes (region (8 * (2 * m)) (9 * (2 * m) - 8 * (2 * m)) w)) out
+    → out′ ≡ placed (6 + bytes) (pack 3 5 count (region (9 * (2 * m)) (9 * (2 * m) + m - 9 * (2 * m)) w)) mid
+    → out′ ≡ placed 6 (payload 2 m (bitsIn (2 * m) w) (labelsIn (2 * m) w)) out
+unfolding payload
+starred-placed m bytes count w out mid out′ e f h p q =
+    let bits = pack 2 8 bytes (bitsIn (2 * m) w) in
+    let labels = pack 3 5 count (labelsIn (2 * m) w) in
+    let l = length-pack 2 8 bytes (bitsIn (2 * m) w) in
+    q ∙ ap₂ (λ (r s : List ℕ). placed (6 + bytes) (pack 3 5 count r) s) (labels-run m w) (p ∙ ap (λ (r : List ℕ). placed 6 (pack 2 8 bytes r) out) (bits-run m w))
+    ∙ ap (λ (k : ℕ). placed (6 + k) labels (placed 6 bits out)) (sym l)
+    ∙ placed-next 6 bits labels out (omega arith)
+    ∙ ap₂ (λ (j k : ℕ). placed 6 (pack 2 8 j (bitsIn (2 * m) w) ++ pack 3 5 k (labelsIn (2 * m) w)) out) e f
+
+-- ---- the whole record
+
+pub length-one : (k m : ℕ) → k ≡ 1 → 6 + bytesFor (3 * m) 8 ≡ recordLength k m
+unfolding recordLength
+length-one k m e = rw (eq-eqb k 1 e)
+
+pub length-two : (k m : ℕ) → k ≢ 1 → 6 + bytesFor (2 * m) 8 + bytesFor m 5 ≡ recordLength k m
+unfolding recordLength
+length-two k m e = rw (ne-eqb k 1 e)
+
+pub short : (k m : ℕ) → m ≤ 4096 → (recordLength k m < 2 ^ 16) × (6 ≤ recordLength k m)
+unfolding recordLength
+short k m h = go (eqb k 1)
+  where
+    go : (b : Bool) → let r = cond b (6 + bytesFor (3 * m) 8) (6 + bytesFor (2 * m) 8 + bytesFor m 5) in (r < 2 ^ 16) × (6 ≤ r)
+    go true = (omega arith, omega arith)
+    go false = (omega arith, omega arith)
+
+pub kind-two : (k : ℕ) → isKind k ≡ true → k ≢ 1 → k ≡ 2
+unfolding isKind
+kind-two k h e = eqb-true k 2 (rw (ne-eqb k 1 e) at h)
+
+pub kind-bound : (k j : ℕ) (xs : List ℕ) → k ≡ j → allBelow (1 + k) xs ≡ true → allBelow (1 + j) xs ≡ true
+kind-bound k j xs e h = subst (λ (b : ℕ). allBelow (1 + b) xs ≡ true) e h
+
+-- the payload is that of kind j, which is k
+pub laid-out : (k j m total : ℕ) (w out mid out′ : List ℕ) → k ≡ j → total ≡ recordLength k m → m ≤ 4096 → recordLength k m ≤ length out
+    → mid ≡ placed 0 (le16 total ++ (le16 k ++ le16 m)) out → out′ ≡ placed 6 (payload j m (bitsIn (2 * m) w) (labelsIn (2 * m) w)) mid
+    → LaidOut k m w out total out′
+unfolding layOut le16
+laid-out k j m total w out mid out′ e t h l p q =
+    let tail = payload k m (bitsIn (2 * m) w) (labelsIn (2 * m) w) in
+    let s = short k m h in
+    record {
+      answered = t;
+      filled =
+          q ∙ ap₂ (λ (i : ℕ) (r : List ℕ). placed 6 (payload i m (bitsIn (2 * m) w) (labelsIn (2 * m) w)) r) (sym e) p
+          ∙ ap (λ (x : ℕ). placed 6 tail (placed 0 (le16 x ++ (le16 k ++ le16 m)) out)) t
+          ∙ placed-next 0 (le16 (recordLength k m) ++ (le16 k ++ le16 m)) tail out (omega arith)
+          ∙ front-placed (layOut k m (bitsIn (2 * m) w) (labelsIn (2 * m) w)) out;
+    }

@@ -1,0 +1,85 @@
+use Prim.Native.Nat.{_-_, _≤_}
+use native.Mathlib.Omega.{arith}
+use mathlib.Core.Path.{_≡_, sym, _∙_}
+use lib.ListN.{drop}
+use Rattle.model.specs.Record.{digitsFrom}
+use Rattle.model.specs.Record.{digits as digitsOf}
+use Rattle.areas.specs.Area.{region}
+use Rattle.payload.proofs.Numerals.{Bound, bound-start, bound-end, in-byte, digit-below, digits-start, digits-again, digits-end}
+use borrow.Author.Needs.{needs}
+use Rattle.payload.proofs.digits.Statement.{statement}
+use Rattle.payload.proofs.digits.Tie as tie
+use Rattle.payload.proofs.digits.Reads as reads
+use Rattle.payload.proofs.digits.Lts as lts
+use Rattle.payload.proofs.digit.Reads as digit-reads
+
+abbrev Inv-loop : tie.InvT-loop
+Inv-loop w a e base width x₀ i₀ x i = (i ≤ width) × Bound base x (width - i)
+    × (digitsFrom base x (width - i) (drop i (region a (e - a) w)) ≡ digitsOf base width (region a (e - a) w))
+
+abbrev μ-loop : tie.MeasureT-loop
+μ-loop w a e base width x₀ i₀ x i = width - i
+
+-- src/lib.rt:32:5
+loop-holds : tie.Need-loop-holds Inv-loop μ-loop
+loop-holds c =
+    let pre = c .before .pre in
+    (search needs, bound-start _ _ (pre .3), digits-start _ _ _)
+
+-- src/lib.rt:33:13
+mul-x : tie.Need-mul-x Inv-loop μ-loop
+mul-x c =
+    let at = c .before .loop in
+    let st = c .before .before .before in
+    let b = in-byte _ (at .x) _ _ _ (omega arith) (omega arith) (digit-below _ _ (at .i) (omega arith) (st .pre .4)) (at .inv .1) in
+    omega arith
+
+-- src/lib.rt:33:24
+digit-requires : tie.Need-digit-requires Inv-loop μ-loop
+digit-requires c κs = search needs
+
+-- src/lib.rt:33:13
+add-x : tie.Need-add-x Inv-loop μ-loop
+add-x c =
+    let at = c .before .before .loop in
+    let d = c .digit .ensures in
+    let st = c .before .before .before .before in
+    let b = in-byte _ (at .x) _ _ _ (omega arith) (omega arith) (digit-below _ _ (at .i) (omega arith) (st .pre .4)) (at .inv .1) in
+    omega arith
+
+-- src/lib.rt:34:9
+add-i : tie.Need-add-i Inv-loop μ-loop
+add-i c = search needs
+
+-- src/lib.rt:32:5
+loop-less : tie.Need-loop-less Inv-loop μ-loop
+loop-less c = search needs
+
+-- src/lib.rt:32:5
+loop-again : tie.Need-loop-again Inv-loop μ-loop
+loop-again c =
+    let at = c .before .before .loop in
+    let st = c .before .before .before .before in
+    let next = digits-again _ _ _ (at .i) _ _ (omega arith) (omega arith) (st .pre .4) (c .digit .ensures) (at .inv .1) (at .inv .2) in
+    (search needs, next .0, next .1)
+
+-- src/lib.rt:25:1
+returns : tie.Need-returns Inv-loop μ-loop
+returns c =
+    let at = c .before .loop in
+    (sym (digits-end _ _ _ (at .i) _ (omega arith)) ∙ at .inv .2, bound-end _ _ _ (omega arith) (at .inv .1))
+
+pub digits-spec : {M : Type 1} → statement M
+digits-spec =
+    tie.close
+    (tie.spec
+    Inv-loop
+    μ-loop
+    loop-holds
+    mul-x
+    digit-requires
+    add-x
+    add-i
+    loop-less
+    loop-again
+    returns)

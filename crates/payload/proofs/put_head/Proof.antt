@@ -1,0 +1,34 @@
+use native.Mathlib.Omega.{arith}
+use Rattle.payload.proofs.Parts.{head-placed}
+use borrow.Author.Needs.{needs}
+use Rattle.payload.proofs.put_head.Statement.{statement}
+use Rattle.payload.proofs.put_head.Tie as tie
+use Rattle.payload.proofs.put_head.Reads as reads
+use Rattle.payload.proofs.put_head.Lts as lts
+use Rattle.payload.proofs.put16.Reads as put16-reads
+
+-- src/lib.rt:87:5
+put16-requires : tie.Need-put16-requires
+put16-requires c κs = search needs
+
+-- src/lib.rt:88:5
+put16-requires-2 : tie.Need-put16-requires-2
+put16-requires-2 c κs = search needs
+
+-- src/lib.rt:89:5
+put16-requires-3 : tie.Need-put16-requires-3
+put16-requires-3 c κs = search needs
+
+-- src/lib.rt:83:1
+same-length : tie.Need-same-length
+same-length c = search needs
+
+-- src/lib.rt:83:1
+returns : tie.Need-returns
+returns c =
+    let b = c .before .before .before .before .before .before in
+    head-placed _ _ _ _ _ _ _ (omega (arith, b .before .before .before .before .before .before .before .pre)) (b .before .before .before .before .put16 .ensures) (b .put162 .ensures) (c .before .before .put163 .ensures)
+
+pub put-head-spec : {M : Type 1} → statement M
+put-head-spec =
+    tie.close (tie.spec put16-requires put16-requires-2 put16-requires-3 same-length returns)

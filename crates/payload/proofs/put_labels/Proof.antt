@@ -1,0 +1,69 @@
+use native.Mathlib.Omega.{arith}
+use mathlib.Core.Path.{_≡_, refl, _∙_}
+use lib.ListN.{length}
+use Rattle.payload.specs.Payload.{lettersIn}
+use Rattle.payload.specs.Passes.{Scanned}
+use Rattle.payload.proofs.Labelling.{scan-start, scan-next, scan-end}
+use borrow.Author.Needs.{needs}
+use Rattle.payload.proofs.put_labels.Statement.{statement}
+use Rattle.payload.proofs.put_labels.Tie as tie
+use Rattle.payload.proofs.put_labels.Reads as reads
+use Rattle.payload.proofs.put_labels.Lts as lts
+use Rattle.payload.proofs.scan_one.Reads as scan-one-reads
+
+abbrev Inv-loop : tie.InvT-loop
+Inv-loop w₀ n s₀ i₀ w s i = Scanned n w i (s .labels) (s .ups) (s .seconds) × (lettersIn n w ≡ lettersIn n w₀) × (length w ≡ length w₀)
+
+abbrev μ-loop : tie.MeasureT-loop
+μ-loop w₀ n s₀ i₀ w s i = i
+
+-- src/lib.rt:100:5
+loop-holds : tie.Need-loop-holds Inv-loop μ-loop
+loop-holds c =
+    let pre = c .before .pre in
+    (scan-start _ _ (pre .0) (pre .1), refl, refl)
+
+-- src/lib.rt:101:9
+sub-i : tie.Need-sub-i Inv-loop μ-loop
+sub-i c = search needs
+
+-- src/lib.rt:102:9
+scan-one-requires : tie.Need-scan-one-requires Inv-loop μ-loop
+scan-one-requires c κs =
+    let at = c .before .before .loop in
+    scan-next _ (at .i) _ _ _ _ (c .before .loop-test .taken) (at .inv .0)
+
+-- src/lib.rt:100:5
+loop-less : tie.Need-loop-less Inv-loop μ-loop
+loop-less c = search needs
+
+-- src/lib.rt:100:5
+loop-again : tie.Need-loop-again Inv-loop μ-loop
+loop-again c =
+    let step = c .before .before .scan-one .ensures in
+    let inv = c .before .before .before .before .before .loop .inv in
+    (step .scanned, step .letters ∙ inv .1, step .kept ∙ inv .2)
+
+-- src/lib.rt:94:1
+same-length : tie.Need-same-length Inv-loop μ-loop
+same-length c = c .before .loop .inv .2
+
+-- src/lib.rt:94:1
+returns : tie.Need-returns Inv-loop μ-loop
+returns c =
+    let at = c .before .loop in
+    scan-end _ (at .i) _ _ _ _ _ (omega (arith, c .loop-test .left)) (at .inv .0) (at .inv .1) (at .inv .2)
+
+pub put-labels-spec : {M : Type 1} → statement M
+put-labels-spec =
+    tie.close
+    (tie.spec
+    Inv-loop
+    μ-loop
+    loop-holds
+    sub-i
+    scan-one-requires
+    loop-less
+    loop-again
+    same-length
+    returns)

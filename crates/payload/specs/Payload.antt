@@ -1,0 +1,44 @@
+-- What stands where in the work area while a record is made, with n darts: letters by position at 3n, tree bits at 8n, labels at 9n.
+--
+--   toLetter x           the letter with the code x
+--   lettersIn n w        the word in the work area
+--   bitsIn, labelsIn     the tree bits and the labels in the work area
+--   LabelsPut, BitsPut   what the two passes over the word leave
+--   LaidOut              the record in the output
+use Prim.Native.Nat.{ℕ, _*_, _/_}
+use mathlib.Core.Path.{_≡_}
+use mathlib.Core.Bool.{Bool, false, cond}
+use mathlib.Core.List.{List, map}
+use lib.Dec.{eqb}
+use lib.ListN.{length}
+use Rattle.model.specs.Traversal.{Letter, down, up, first, second}
+use Rattle.model.specs.Record.{recordLength, layOut}
+use Rattle.model.specs.Calls.{front}
+use Rattle.words.specs.Word.{wordLabels, wordBits}
+use Rattle.areas.specs.Area.{region}
+
+unfoldable pub toLetter : ℕ → Letter
+toLetter x = cond (eqb x 1) down (cond (eqb x 2) up (cond (eqb x 3) first second))
+
+unfoldable pub lettersIn : ℕ → List ℕ → List Letter
+lettersIn n w = map toLetter (region (3 * n) n w)
+
+unfoldable pub bitsIn : ℕ → List ℕ → List ℕ
+bitsIn n w = region (8 * n) n w
+
+unfoldable pub labelsIn : ℕ → List ℕ → List ℕ
+labelsIn n w = region (9 * n) (n / 2) w
+
+pub record LabelsPut (n : ℕ) (w w′ : List ℕ) : Type 0 where
+  pub labels : labelsIn n w′ ≡ wordLabels (lettersIn n w)
+  pub letters : lettersIn n w′ ≡ lettersIn n w
+  pub kept : length w′ ≡ length w
+
+pub record BitsPut (n : ℕ) (w w′ : List ℕ) : Type 0 where
+  pub bits : bitsIn n w′ ≡ wordBits false (lettersIn n w)
+  pub labels : labelsIn n w′ ≡ labelsIn n w
+  pub kept : length w′ ≡ length w
+
+pub record LaidOut (k m : ℕ) (w out : List ℕ) (answer : ℕ) (out′ : List ℕ) : Type 0 where
+  pub answered : answer ≡ recordLength k m
+  pub filled : out′ ≡ front (layOut k m (bitsIn (2 * m) w) (labelsIn (2 * m) w)) out
