@@ -4,21 +4,22 @@
 --   is-one, is-two           a kind is 1 or 2
 --   kind-one, kind-other     the length of a record of kind 1, and of another
 --   refuse-short, refuse-length, refuse-kind, refuse-none, refuse-many, refuse-size, refuse-nothing   the head refusal, check by check
+--   not-met                  a refusal that was not met, with the rest of the checks
 --   passes-length            a record that passes has its length field's length
 --   passes-long              a record that passes has 6 bytes or more
 --   passes-short             a record that passes has 65,535 bytes or fewer
 --   passes-head              passing is decided by the length and the first six bytes
-use mathlib.Core.Path.{_≡_, refl, sym, ap, _∙_}
-use mathlib.Core.Bool.{Bool, true, false, not, _||_, cond, false≢true, true≢false}
+use mathlib.Core.Path.{_≡_, refl, sym}
+use mathlib.Core.Bool.{Bool, true, false, not, _||_, cond}
 use mathlib.Core.List.{List}
-use Prim.Native.Nat.{ℕ, zero, suc, _+_, _*_, _/_, _≤_, _<_}
+use Prim.Native.Nat.{ℕ, _+_, _*_, _/_, _≤_, _<_}
 use native.Mathlib.Omega.{arith}
 use native.Mathlib.Numerals.{add-one}
 use lib.Dec.{eqb, ltb}
 use lib.ListN.{length, getD}
-use borrow.Author.Tests.{lt-ltb, le-ltb, eq-eqb, ne-eqb, ltb-true, ltb-false, eqb-true, eqb-false, not-false}
+use borrow.Author.Tests.{lt-ltb, le-ltb, eq-eqb, ne-eqb, ltb-false, eqb-true, not-false}
 use Rattle.model.proofs.Booleans.{or-none}
-use Rattle.model.specs.Numbers.{firstRefusal, refuse}
+use Rattle.model.specs.Numbers.{firstRefusal}
 use Rattle.model.specs.Map.{isKind}
 use Rattle.model.specs.Record.{recordLength}
 use Rattle.model.specs.Shelf.{word16, headRefusal, passes}
@@ -73,17 +74,19 @@ module _ (r : List ℕ) where
             pub refuse-size : (n ≡ length r → ⊥) → 5 ≡ headRefusal r
             unfolding headRefusal firstRefusal
             refuse-size d =
-                rw (le-ltb _ _ long, sym l-is, eq-eqb _ _ field, sym k-is, kind, sym m-is, ne-eqb _ _ some, le-ltb _ _ few, sym n-is, ne-eqb (length r) n (λ e. d (sym e)))
+                rw (le-ltb _ _ long, sym l-is, eq-eqb _ _ field, sym k-is, kind, sym m-is, ne-eqb _ _ some, le-ltb _ _ few, sym n-is)
+                (rw (ne-eqb (length r) n (λ e. d (sym e))))
 
             pub refuse-nothing : n ≡ length r → 0 ≡ headRefusal r
             unfolding headRefusal firstRefusal
             refuse-nothing e =
-                rw (le-ltb _ _ long, sym l-is, eq-eqb _ _ field, sym k-is, kind, sym m-is, ne-eqb _ _ some, le-ltb _ _ few, sym n-is, eq-eqb (length r) n (sym e))
+                rw (le-ltb _ _ long, sym l-is, eq-eqb _ _ field, sym k-is, kind, sym m-is, ne-eqb _ _ some, le-ltb _ _ few, sym n-is)
+                (rw (eq-eqb (length r) n (sym e)))
 
 -- ---- the two laws of a record that passes
 
 -- a refusal that was not met, with the rest of the checks
-not-met : (b : Bool) (k n : ℕ) → (k ≡ 0 → ⊥) → cond b k n ≡ 0 → (b ≡ false) × (n ≡ 0)
+pub not-met : (b : Bool) (k n : ℕ) → (k ≡ 0 → ⊥) → cond b k n ≡ 0 → (b ≡ false) × (n ≡ 0)
 not-met true k n d e = absurd (d e)
 not-met false k n d e = (refl, e)
 

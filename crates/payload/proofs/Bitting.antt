@@ -128,7 +128,8 @@ module _ (n i t : ℕ) (w : List ℕ) (h : i < n) (at : Bitted n w (i + 1) t) wh
       → bitsFrom i (lettersIn n w) ≡ cond (downBefore i (lettersIn n w)) (startsSecond (drop (i + 1) (lettersIn n w))) 0 ∷ region (8 * n + t) (n - t) w
   unfolding wordBits isDown
   up-more c = these up (code-up _ c)
-      ∙ ap (λ (r : List ℕ). cond (downBefore i (lettersIn n w)) (startsSecond (drop (i + 1) (lettersIn n w))) 0 ∷ r) (sym (at .put ∙ others up (code-up _ c)))
+      ∙ ap (λ (r : List ℕ). cond (downBefore i (lettersIn n w)) (startsSecond (drop (i + 1) (lettersIn n w))) 0 ∷ r)
+      (sym (at .put ∙ others up (code-up _ c)))
 
   first-more : getD w (3 * n + i) 0 ≡ 3 → bitsFrom i (lettersIn n w) ≡ 1 ∷ 0 ∷ region (8 * n + t) (n - t) w
   unfolding wordBits isDown
@@ -142,11 +143,14 @@ module _ (n i t : ℕ) (w : List ℕ) (h : i < n) (at : Bitted n w (i + 1) t) wh
   size : length (region (8 * n + t) (n - t) w) ≡ n - t
   size = let r = at .room in let b = at .bits-left in length-region (8 * n + t) (n - t) w (omega arith)
 
+  one-place : (x : ℕ) → bitsFrom i (lettersIn n w) ≡ x ∷ region (8 * n + t) (n - t) w → 0 < t
+  one-place x more = let a = shrunk in let b = ap length more in let s = size in let l = at .bits-left in omega arith
+
   pub down-place : getD w (3 * n + i) 0 ≡ 1 → 0 < t
-  down-place c = let a = shrunk in let b = ap length (down-more c) in let s = size in let l = at .bits-left in omega arith
+  down-place c = one-place 1 (down-more c)
 
   pub up-place : getD w (3 * n + i) 0 ≡ 2 → 0 < t
-  up-place c = let a = shrunk in let b = ap length (up-more c) in let s = size in let l = at .bits-left in omega arith
+  up-place c = one-place (cond (downBefore i (lettersIn n w)) (startsSecond (drop (i + 1) (lettersIn n w))) 0) (up-more c)
 
   pub first-place : getD w (3 * n + i) 0 ≡ 3 → 1 < t
   first-place c = let a = shrunk in let b = ap length (first-more c) in let s = size in let l = at .bits-left in omega arith

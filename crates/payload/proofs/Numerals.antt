@@ -1,16 +1,16 @@
 -- Digits and groups of digits, entry by entry.
 --
 --   entry, entry-past      the digits from a to e, filled up with 0
---   later                  the digits from a + j on are the others without the first j
 --   digit-below            a digit is below its base, filled up or not
---   digits-turn            one digit more
---   digits-start, digits-end   no digit is read; no digit is left
---   Bound, bound-start, bound-turn, bound-end, in-byte   the number stays below 256 where all the digits give at most 256 numbers
---   all-later              the later of small entries are small
+--   Bound, bound-start, bound-end, in-byte   the number stays below 256 where all the digits give at most 256 numbers
+--   digits-start, digits-again, digits-end   no digit is read; one digit more; none is left
+--   group-fits             a group lies within the groups
+--   all-group              the digits of a group are small where all are
 --   length-pack            as many bytes as groups
---   pack-start, pack-turn, pack-end   no group is written; one group more; none is left
+--   pack-start, pack-again, pack-end   no group is written; one group more; none is left
 use Prim.Native.Nat.{ℕ, zero, suc, _+_, _-_, _*_, _^_, _≤_, _<_}
-use native.Mathlib.Nat.{suc-mul, zero-mul, mul-assoc, mul-comm, mul-le-mul-left, mul-le-mul-right, one-le-pow, pow-suc, sub-zero, le-trans, lt-of-not-le, add-zero}
+use native.Mathlib.Nat.{suc-mul, zero-mul, mul-assoc, mul-comm, mul-le-mul-left, mul-le-mul-right, one-le-pow, pow-suc}
+use native.Mathlib.Nat.{sub-zero, add-zero, le-trans, lt-of-not-le}
 use native.Mathlib.Decide.{decLe}
 use native.Mathlib.Omega.{arith}
 use native.Mathlib.Numerals.{add-one}

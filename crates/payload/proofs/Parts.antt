@@ -98,7 +98,8 @@ starred-placed m bytes count w out mid out′ e f h p q =
     let bits = pack 2 8 bytes (bitsIn (2 * m) w) in
     let labels = pack 3 5 count (labelsIn (2 * m) w) in
     let l = length-pack 2 8 bytes (bitsIn (2 * m) w) in
-    q ∙ ap₂ (λ (r s : List ℕ). placed (6 + bytes) (pack 3 5 count r) s) (labels-run m w) (p ∙ ap (λ (r : List ℕ). placed 6 (pack 2 8 bytes r) out) (bits-run m w))
+    q ∙ ap₂ (λ (r s : List ℕ). placed (6 + bytes) (pack 3 5 count r) s)
+    (labels-run m w) (p ∙ ap (λ (r : List ℕ). placed 6 (pack 2 8 bytes r) out) (bits-run m w))
     ∙ ap (λ (k : ℕ). placed (6 + k) labels (placed 6 bits out)) (sym l)
     ∙ placed-next 6 bits labels out (omega arith)
     ∙ ap₂ (λ (j k : ℕ). placed 6 (pack 2 8 j (bitsIn (2 * m) w) ++ pack 3 5 k (labelsIn (2 * m) w)) out) e f

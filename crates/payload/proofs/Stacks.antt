@@ -49,19 +49,22 @@ module _ (n e u s x : ℕ) (w : List ℕ) (word : List Letter) (room : 16 * n �
       ap (λ (k : ℕ). region (9 * n + e) k (set w (9 * n + e) x)) z ∙ region-front (9 * n + e) (n / 2 - suc e) x w (omega arith)
       ∙ ap (λ (a : ℕ). x ∷ region a (n / 2 - suc e) w) (sym (add-suc (9 * n) e))
 
+  held-begin : suc e ≤ n / 2 → u ≤ n → s ≤ n
+      → held n (set w (9 * n + e) x) e u s
+      ≡ record { labels = x ∷ region (9 * n + suc e) (n / 2 - suc e) w; ups = tops (5 * n) u w; seconds = tops (6 * n) s w }
+  unfolding held
+  held-begin l b c =
+      three _ _ _ _ _ _ (label-put l) (tops-set (5 * n) u w (9 * n + e) x (λ h. omega arith)) (tops-set (6 * n) s w (9 * n + e) x (λ h. omega arith))
+
   pub held-down : suc e ≤ n / 2 → u ≤ n → s ≤ n → x ≡ cond (startsUp word) 2 (getD w (5 * n + u) 0)
       → held n (set w (9 * n + e) x) e u s ≡ endsOne down word (held n w (suc e) (suc u) s)
   unfolding held endsOne tops
-  held-down l b c d =
-      three _ _ _ _ _ _ (label-put l ∙ ap (λ (y : ℕ). y ∷ region (9 * n + suc e) (n / 2 - suc e) w) d)
-      (tops-set (5 * n) u w (9 * n + e) x (λ h. omega arith)) (tops-set (6 * n) s w (9 * n + e) x (λ h. omega arith))
+  held-down l b c d = held-begin l b c ∙ three _ _ _ _ _ _ (ap (λ (y : ℕ). y ∷ region (9 * n + suc e) (n / 2 - suc e) w) d) refl refl
 
   pub held-first : suc e ≤ n / 2 → u ≤ n → s ≤ n → x ≡ getD w (6 * n + s) 0
       → held n (set w (9 * n + e) x) e u s ≡ endsOne first word (held n w (suc e) u (suc s))
   unfolding held endsOne tops
-  held-first l b c d =
-      three _ _ _ _ _ _ (label-put l ∙ ap (λ (y : ℕ). y ∷ region (9 * n + suc e) (n / 2 - suc e) w) d)
-      (tops-set (5 * n) u w (9 * n + e) x (λ h. omega arith)) (tops-set (6 * n) s w (9 * n + e) x (λ h. omega arith))
+  held-first l b c d = held-begin l b c ∙ three _ _ _ _ _ _ (ap (λ (y : ℕ). y ∷ region (9 * n + suc e) (n / 2 - suc e) w) d) refl refl
 
   pub held-up : u < n → s ≤ n → x ≡ startsSecond word → held n (set w (5 * n + u) x) e (suc u) s ≡ endsOne up word (held n w e u s)
   unfolding held endsOne

@@ -33,7 +33,8 @@ mul-result c = omega (arith, c .shared-slice-known2 .given (c .before .before .a
 
 -- src/lib.rt:17:5
 add-result : tie.Need-add-result
-add-result c = omega (arith, c .shared-slice-known2 .given (c .before .before .args .i + 1), c .before .shared-slice-known .given (c .before .before .args .i))
+add-result c = let i = c .before .before .args .i in
+    omega (arith, c .shared-slice-known2 .given (i + 1), c .before .shared-slice-known .given i)
 
 -- src/lib.rt:10:1
 returns : tie.Need-returns

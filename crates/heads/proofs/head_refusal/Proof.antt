@@ -37,8 +37,9 @@ is-kind-requires c κs = search needs
 
 -- src/lib.rt:52:9
 returns-3 : tie.Need-returns-3
-returns-3 c = let k = c .before .is-kind in
-    refuse-kind _ (omega arith) _ (c .before .before .before .before .field .ensures) (omega arith) _ (c .before .before .field2 .ensures) (sym (k .ensures) ∙ not-true (k .result) (c .if3 .taken))
+returns-3 c = let kind = c .before .is-kind in
+    refuse-kind _ (omega arith) _ (c .before .before .before .before .field .ensures) (omega arith) _ (c .before .before .field2 .ensures)
+    (sym (kind .ensures) ∙ not-true (kind .result) (c .if3 .taken))
 
 -- src/lib.rt:54:9
 field-requires-3 : tie.Need-field-requires-3
@@ -46,13 +47,17 @@ field-requires-3 c κs = search needs
 
 -- src/lib.rt:56:9
 returns-4 : tie.Need-returns-4
-returns-4 c = let k = c .before .before .before .is-kind in
-    refuse-none _ (omega arith) _ (c .before .before .before .before .before .before .field .ensures) (omega arith) _ (c .before .before .before .before .field2 .ensures) (sym (k .ensures) ∙ not-false (k .result) (c .before .before .if3 .left)) _ (c .before .field3 .ensures) (c .if4 .taken)
+returns-4 c = let k = c .before .before in
+    let kind = k .before .is-kind in
+    refuse-none _ (omega arith) _ (k .before .before .before .before .field .ensures) (omega arith) _ (k .before .before .field2 .ensures)
+    (sym (kind .ensures) ∙ not-false (kind .result) (k .if3 .left)) _ (c .before .field3 .ensures) (c .if4 .taken)
 
 -- src/lib.rt:59:9
 returns-5 : tie.Need-returns-5
-returns-5 c = let k = c .before .before .before .before .is-kind in
-    refuse-many _ (omega arith) _ (c .before .before .before .before .before .before .before .field .ensures) (omega arith) _ (c .before .before .before .before .before .field2 .ensures) (sym (k .ensures) ∙ not-false (k .result) (c .before .before .before .if3 .left)) _ (c .before .before .field3 .ensures) (c .before .if4 .left) (omega arith)
+returns-5 c = let k = c .before .before .before in
+    let kind = k .before .is-kind in
+    refuse-many _ (omega arith) _ (k .before .before .before .before .field .ensures) (omega arith) _ (k .before .before .field2 .ensures)
+    (sym (kind .ensures) ∙ not-false (kind .result) (k .if3 .left)) _ (c .before .before .field3 .ensures) (c .before .if4 .left) (omega arith)
 
 -- src/lib.rt:61:8
 record-length-requires : tie.Need-record-length-requires
@@ -60,13 +65,19 @@ record-length-requires c κs = search needs
 
 -- src/lib.rt:62:9
 returns-6 : tie.Need-returns-6
-returns-6 c = let k = c .before .before .before .before .before .before .is-kind in
-    refuse-size _ (omega arith) _ (c .before .before .before .before .before .before .before .before .before .field .ensures) (omega arith) _ (c .before .before .before .before .before .before .before .field2 .ensures) (sym (k .ensures) ∙ not-false (k .result) (c .before .before .before .before .before .if3 .left)) _ (c .before .before .before .before .field3 .ensures) (c .before .before .before .if4 .left) (omega arith) _ (c .before .record-length .ensures) (c .if6 .taken)
+returns-6 c = let k = c .before .before .before .before .before in
+    let kind = k .before .is-kind in
+    refuse-size _ (omega arith) _ (k .before .before .before .before .field .ensures) (omega arith) _ (k .before .before .field2 .ensures)
+    (sym (kind .ensures) ∙ not-false (kind .result) (k .if3 .left)) _ (c .before .before .before .before .field3 .ensures) (c .before .before .before .if4 .left) (omega arith)
+    _ (c .before .record-length .ensures) (c .if6 .taken)
 
 -- src/lib.rt:41:1
 returns-7 : tie.Need-returns-7
-returns-7 c = let k = c .before .before .before .before .before .before .is-kind in
-    refuse-nothing _ (omega arith) _ (c .before .before .before .before .before .before .before .before .before .field .ensures) (omega arith) _ (c .before .before .before .before .before .before .before .field2 .ensures) (sym (k .ensures) ∙ not-false (k .result) (c .before .before .before .before .before .if3 .left)) _ (c .before .before .before .before .field3 .ensures) (c .before .before .before .if4 .left) (omega arith) _ (c .before .record-length .ensures) (omega arith)
+returns-7 c = let k = c .before .before .before .before .before in
+    let kind = k .before .is-kind in
+    refuse-nothing _ (omega arith) _ (k .before .before .before .before .field .ensures) (omega arith) _ (k .before .before .field2 .ensures)
+    (sym (kind .ensures) ∙ not-false (kind .result) (k .if3 .left)) _ (c .before .before .before .before .field3 .ensures) (c .before .before .before .if4 .left) (omega arith)
+    _ (c .before .record-length .ensures) (omega arith)
 
 pub head-refusal-spec : {M : Type 1} → statement M
 head-refusal-spec =

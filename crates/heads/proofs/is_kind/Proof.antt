@@ -1,6 +1,4 @@
-use native.Mathlib.Omega.{arith}
 use Rattle.heads.proofs.Head.{is-one, is-two}
-use borrow.Author.Needs.{needs}
 use Rattle.heads.proofs.is_kind.Statement.{statement}
 use Rattle.heads.proofs.is_kind.Tie as tie
 use Rattle.heads.proofs.is_kind.Reads as reads

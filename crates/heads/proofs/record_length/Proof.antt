@@ -1,4 +1,3 @@
-use native.Mathlib.Omega.{arith}
 use Rattle.heads.proofs.Head.{kind-one, kind-other}
 use borrow.Author.Needs.{needs}
 use Rattle.heads.proofs.record_length.Statement.{statement}

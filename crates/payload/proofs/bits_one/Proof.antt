@@ -10,19 +10,19 @@ use Rattle.payload.proofs.up_bit.Reads as up-bit-reads
 
 -- src/lib.rt:130:15
 mul-l : tie.Need-mul-l
-mul-l c = search needs
+mul-l c = omega arith
 
 -- src/lib.rt:130:15
 add-l : tie.Need-add-l
-add-l c = search needs
+add-l c = omega arith
 
 -- src/lib.rt:130:13
 mul-l-2 : tie.Need-mul-l-2
-mul-l-2 c = search needs
+mul-l-2 c = omega arith
 
 -- src/lib.rt:130:13
 slice-read-l : tie.Need-slice-read-l
-slice-read-l c = search needs
+slice-read-l c = omega arith
 
 -- src/lib.rt:132:17
 sub-k : tie.Need-sub-k
@@ -32,19 +32,19 @@ sub-k c =
 
 -- src/lib.rt:133:11
 mul-w : tie.Need-mul-w
-mul-w c = search needs
+mul-w c = omega arith
 
 -- src/lib.rt:133:11
 add-w : tie.Need-add-w
-add-w c = search needs
+add-w c = omega arith
 
 -- src/lib.rt:133:9
 mul-w-2 : tie.Need-mul-w-2
-mul-w-2 c = search needs
+mul-w-2 c = omega arith
 
 -- src/lib.rt:133:9
 slice-write-w : tie.Need-slice-write-w
-slice-write-w c = search needs
+slice-write-w c = omega arith
 
 -- src/lib.rt:134:9
 same-length : tie.Need-same-length
@@ -65,23 +65,23 @@ sub-k-2 c =
 
 -- src/lib.rt:138:13
 up-bit-requires : tie.Need-up-bit-requires
-up-bit-requires c κs = search needs
+up-bit-requires c κs = omega arith
 
 -- src/lib.rt:139:11
 mul-w-3 : tie.Need-mul-w-3
-mul-w-3 c = search needs
+mul-w-3 c = omega arith
 
 -- src/lib.rt:139:11
 add-w-2 : tie.Need-add-w-2
-add-w-2 c = search needs
+add-w-2 c = omega arith
 
 -- src/lib.rt:139:9
 mul-w-4 : tie.Need-mul-w-4
-mul-w-4 c = search needs
+mul-w-4 c = omega arith
 
 -- src/lib.rt:139:9
 slice-write-w-2 : tie.Need-slice-write-w-2
-slice-write-w-2 c = search needs
+slice-write-w-2 c = omega arith
 
 -- src/lib.rt:140:9
 same-length-2 : tie.Need-same-length-2
@@ -103,35 +103,35 @@ sub-from c =
 
 -- src/lib.rt:144:11
 mul-w-5 : tie.Need-mul-w-5
-mul-w-5 c = search needs
+mul-w-5 c = omega arith
 
 -- src/lib.rt:144:11
 add-w-3 : tie.Need-add-w-3
-add-w-3 c = search needs
+add-w-3 c = omega arith
 
 -- src/lib.rt:144:11
 add-w-4 : tie.Need-add-w-4
-add-w-4 c = search needs
+add-w-4 c = omega arith
 
 -- src/lib.rt:144:9
 mul-w-6 : tie.Need-mul-w-6
-mul-w-6 c = search needs
+mul-w-6 c = omega arith
 
 -- src/lib.rt:144:9
 slice-write-w-3 : tie.Need-slice-write-w-3
-slice-write-w-3 c = search needs
+slice-write-w-3 c = omega arith
 
 -- src/lib.rt:145:11
 mul-w-7 : tie.Need-mul-w-7
-mul-w-7 c = search needs
+mul-w-7 c = omega arith
 
 -- src/lib.rt:145:11
 add-w-5 : tie.Need-add-w-5
-add-w-5 c = search needs
+add-w-5 c = omega arith
 
 -- src/lib.rt:145:9
 mul-w-8 : tie.Need-mul-w-8
-mul-w-8 c = search needs
+mul-w-8 c = omega arith
 
 -- src/lib.rt:145:9
 slice-write-w-4 : tie.Need-slice-write-w-4

@@ -50,7 +50,8 @@ returns c =
     let b = c .before .before .before .before in
     let h = b .before .before .before in
     let st = h .before .before .before .before .before in
-    laid-out _ 1 (st .args .m) _ _ _ _ _ (b .if1 .taken) (h .before .before .record-length .ensures) (st .pre .2) (st .pre .4) (h .put-head .ensures) (c .before .before .put-plain .ensures)
+    laid-out _ 1 (st .args .m) _ _ _ _ _ (b .if1 .taken) (h .before .before .record-length .ensures) (st .pre .2) (st .pre .4)
+    (h .put-head .ensures) (c .before .before .put-plain .ensures)
 
 -- src/lib.rt:128:5
 put-starred-requires : tie.Need-put-starred-requires

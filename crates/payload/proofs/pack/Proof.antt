@@ -14,7 +14,8 @@ use Rattle.payload.proofs.digits.Reads as digits-reads
 
 abbrev Inv-loop : tie.InvT-loop
 Inv-loop w a e base width out₀ at count i₀ out i = (i ≤ count) × (length out ≡ length out₀)
-    × (placed (at + i) (packed base width (count - i) (drop (i * width) (region a (e - a) w))) out ≡ placed at (packed base width count (region a (e - a) w)) out₀)
+    × (placed (at + i) (packed base width (count - i) (drop (i * width) (region a (e - a) w))) out
+    ≡ placed at (packed base width count (region a (e - a) w)) out₀)
 
 abbrev μ-loop : tie.MeasureT-loop
 μ-loop w a e base width out₀ at count i₀ out i = count - i
@@ -70,7 +71,8 @@ loop-again c =
     let st = c .before .before .before .before .before in (
       search needs,
       simp length-set (at .inv .1),
-      pack-again _ (st .args .width) _ _ (at .i) _ _ _ _ (at .out) (st .pre .0) (omega arith) (omega (arith, at .inv)) (c .digits .ensures .0) ∙ at .inv .2,
+      pack-again _ (st .args .width) _ _ (at .i) _ _ _ _ (at .out) (st .pre .0) (omega arith) (omega (arith, at .inv))
+          (c .digits .ensures .0) ∙ at .inv .2,
     )
 
 -- src/lib.rt:40:1

@@ -27,7 +27,8 @@ same-length c = search needs
 returns : tie.Need-returns
 returns c =
     let b = c .before .before .before .before .before .before in
-    head-placed _ _ _ _ _ _ _ (omega (arith, b .before .before .before .before .before .before .before .pre)) (b .before .before .before .before .put16 .ensures) (b .put162 .ensures) (c .before .before .put163 .ensures)
+    head-placed _ _ _ _ _ _ _ (omega (arith, b .before .before .before .before .before .before .before .pre))
+    (b .before .before .before .before .put16 .ensures) (b .put162 .ensures) (c .before .before .put163 .ensures)
 
 pub put-head-spec : {M : Type 1} → statement M
 put-head-spec =

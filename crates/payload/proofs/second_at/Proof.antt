@@ -33,20 +33,23 @@ returns-2 : tie.Need-returns-2
 returns-2 c =
     let st = c .before .before .before in
     let e = c .if2 .taken in
-    second-here _ _ (st .pre .2) (st .args .i) (omega (arith, st .pre, c .before .before .if1 .left)) _ refl (λ z. omega arith) (λ z. omega arith) (λ z. omega arith)
+    second-here _ _ (st .pre .2) (st .args .i) (omega (arith, st .pre, c .before .before .if1 .left)) _ refl
+    (λ z. omega arith) (λ z. omega arith) (λ z. omega arith)
 
 -- src/lib.rt:30:9
 returns-3 : tie.Need-returns-3
 returns-3 c =
     let st = c .before .before .before .before in
-    no-second-here _ _ (st .pre .2) (st .args .i) (omega (arith, st .pre, c .before .before .before .if1 .left)) _ refl (omega (arith, c .before .if2 .left)) (c .if3 .taken)
+    no-second-here _ _ (st .pre .2) (st .args .i) (omega (arith, st .pre, c .before .before .before .if1 .left)) _ refl
+    (omega (arith, c .before .if2 .left)) (c .if3 .taken)
 
 -- src/lib.rt:18:1
 returns-4 : tie.Need-returns-4
 returns-4 c =
     let st = c .before .before .before .before in
     let e = c .if3 .left in
-    second-here _ _ (st .pre .2) (st .args .i) (omega (arith, st .pre, c .before .before .before .if1 .left)) _ refl (λ z. omega arith) (λ z. omega arith) (λ z. omega arith)
+    second-here _ _ (st .pre .2) (st .args .i) (omega (arith, st .pre, c .before .before .before .if1 .left)) _ refl
+    (λ z. omega arith) (λ z. omega arith) (λ z. omega arith)
 
 pub second-at-spec : {M : Type 1} → statement M
 second-at-spec =

@@ -45,7 +45,8 @@ second-at-requires c κs = search needs
 returns-2 : tie.Need-returns-2
 returns-2 c =
     let st = c .before .before .before .before .before in
-    c .second-at .ensures ∙ before-down _ _ (st .pre .2) _ (omega (arith, c .before .before .before .if1 .left)) (omega (arith, st .pre)) (c .before .if2 .taken)
+    c .second-at .ensures ∙ before-down _ _ (st .pre .2) _ (omega (arith, c .before .before .before .if1 .left)) (omega (arith, st .pre))
+    (c .before .if2 .taken)
 
 -- src/lib.rt:107:1
 returns-3 : tie.Need-returns-3

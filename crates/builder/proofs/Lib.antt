@@ -1,0 +1,4 @@
+pub mod Balance
+pub mod Stacks
+pub mod Steps
+pub mod Ends

@@ -1,0 +1,57 @@
+-- The test for equal bytes.
+--
+--   same-refl, same-eq            it is passed by equal lists alone
+--   same-unlike                   lists of two lengths fail
+--   same-turn, same-stops, same-ends    one turn of its loop
+--   part-unlike, part-same        a part of bytes beside a list
+use mathlib.Core.Path.{_≡_, refl, sym, ap, _∙_}
+use mathlib.Core.Bool.{true, false, false≢true}
+use mathlib.Core.List.{List, [], _∷_}
+use Prim.Native.Nat.{ℕ, _+_, _-_, _≤_, _<_}
+use native.Mathlib.Omega.{arith}
+use native.Mathlib.Numerals.{add-one}
+use lib.Dec.{eqb}
+use lib.ListN.{length, getD, take, drop, length-drop}
+use lib.Seq.{drop-cons, drop-length, length-take-le}
+use borrow.Author.Tests.{eq-eqb, ne-eqb, eqb-true}
+use Rattle.model.specs.Shelf.{same}
+use Rattle.model.proofs.Booleans.{and-left, and-right, not-intro}
+
+pub same-refl : (xs : List ℕ) → same xs xs ≡ true
+unfolding same
+same-refl [] = refl
+same-refl (x ∷ xs) = rw (eq-eqb x x refl, same-refl xs)
+
+pub same-eq : (xs ys : List ℕ) → same xs ys ≡ true → xs ≡ ys
+unfolding same
+same-eq [] [] e = refl
+same-eq [] (y ∷ ys) e = absurd (false≢true e)
+same-eq (x ∷ xs) [] e = absurd (false≢true e)
+same-eq (x ∷ xs) (y ∷ ys) e = rw (eqb-true x y (and-left _ (same xs ys) e), same-eq xs ys (and-right (eqb x y) _ e))
+
+pub same-unlike : (xs ys : List ℕ) → (length xs ≡ length ys → ⊥) → same xs ys ≡ false
+same-unlike xs ys d = not-intro _ (λ e. d (ap length (same-eq xs ys e)))
+
+module _ (xs ys : List ℕ) (i : ℕ) where
+  module _ (h : i < length xs) (k : i < length ys) where
+    pub same-turn : getD xs i 0 ≡ getD ys i 0 → same (drop i xs) (drop i ys) ≡ same (drop (i + 1) xs) (drop (i + 1) ys)
+    unfolding same
+    same-turn e = rw (add-one, drop-cons xs i 0 h, drop-cons ys i 0 k, eq-eqb _ _ e)
+
+    pub same-stops : (getD xs i 0 ≡ getD ys i 0 → ⊥) → same (drop i xs) (drop i ys) ≡ false
+    unfolding same
+    same-stops d = rw (drop-cons xs i 0 h, drop-cons ys i 0 k, ne-eqb _ _ d)
+
+  pub same-ends : i ≡ length xs → i ≡ length ys → same (drop i xs) (drop i ys) ≡ true
+  unfolding same
+  same-ends e f = rw (ap (λ (k : ℕ). drop k xs) e, ap (λ (k : ℕ). drop k ys) f, drop-length xs, drop-length ys)
+
+-- a part of the bytes, as the code lends it
+module _ (r bs : List ℕ) (at size : ℕ) where
+  pub part-unlike : (length r ≡ size → ⊥) → at + size ≤ length bs → false ≡ same r (take size (drop at bs))
+  part-unlike d h =
+      let l = length-drop at bs in
+      sym (same-unlike r (take size (drop at bs)) (λ e. d (e ∙ length-take-le size (drop at bs) (omega arith))))
+
+  pub part-same : same r (take (at + size - at) (drop at bs)) ≡ same r (take size (drop at bs))
+  part-same = let e : at + size - at ≡ size = omega arith in ap (λ (k : ℕ). same r (take k (drop at bs))) e

@@ -1,0 +1,4 @@
+pub mod Stands
+pub mod Cut
+pub mod Equality
+pub mod Turn

@@ -1,0 +1,72 @@
+use native.Mathlib.Omega.{arith}
+use Prim.Native.Nat.{_+_, _≤_}
+use lib.ListN.{length}
+use Rattle.cutting.proofs.Stands.{part-none, part-is}
+use Rattle.cutting.proofs.Turn.{step-fits}
+use borrow.Author.Needs.{needs}
+use Rattle.cutting.proofs.record_at.Statement.{statement}
+use Rattle.cutting.proofs.record_at.Tie as tie
+use Rattle.cutting.proofs.record_at.Reads as reads
+use Rattle.cutting.proofs.record_at.Lts as lts
+use Rattle.cutting.proofs.length_at.Reads as length-at-reads
+
+fits : (c : tie.Else1)
+    → let a = c .before .before .before .args in
+    let l = c .before .length-at .result in
+    (6 ≤ l) × (a .at + l ≤ length (a .bytes .now))
+fits c = step-fits _ _ 0 _ (c .before .length-at .ensures) (c .if1 .left)
+
+-- src/lib.rt:58:9
+length-at-requires : tie.Need-length-at-requires
+length-at-requires c κs = search needs
+
+-- src/lib.rt:60:16
+sub-result : tie.Need-sub-result
+sub-result c = search needs
+
+-- src/lib.rt:60:16
+part-result-start : tie.Need-part-result-start
+part-result-start c = search needs
+
+-- src/lib.rt:60:16
+part-result-end : tie.Need-part-result-end
+part-result-end c = search needs
+
+-- src/lib.rt:60:9
+returns : tie.Need-returns
+returns c = part-none _ _ _ (c .before .before .length-at .ensures) (c .before .if1 .taken)
+
+-- src/lib.rt:62:15
+add-end : tie.Need-add-end
+add-end c = let f = fits c in omega arith
+
+-- src/lib.rt:63:5
+sub-result-2 : tie.Need-sub-result-2
+sub-result-2 c = let f = fits c in omega arith
+
+-- src/lib.rt:63:5
+part-result-start-2 : tie.Need-part-result-start-2
+part-result-start-2 c = let f = fits c in omega arith
+
+-- src/lib.rt:63:5
+part-result-end-2 : tie.Need-part-result-end-2
+part-result-end-2 c = let f = fits c in omega arith
+
+-- src/lib.rt:55:1
+returns-2 : tie.Need-returns-2
+returns-2 c = part-is _ _ _ (c .before .before .length-at .ensures) (c .before .if1 .left)
+
+pub record-at-spec : {M : Type 1} → statement M
+record-at-spec =
+    tie.close
+    (tie.spec
+    length-at-requires
+    sub-result
+    part-result-start
+    part-result-end
+    returns
+    add-end
+    sub-result-2
+    part-result-start-2
+    part-result-end-2
+    returns-2)

@@ -1,0 +1,131 @@
+-- `turn`: one turn of the machine. Assumes nothing.
+use Prim.Native.Nat.{_≤_}
+use mathlib.Core.Path.{refl, sym, _∙_, subst}
+use native.Mathlib.Omega.{arith}
+use lib.ListN.{length}
+use Rattle.packing.specs.Unlay.{bitsIn, labelsIn}
+use Rattle.decoder.specs.declared.Cursor.{Cursor}
+use Rattle.decoder.specs.States.{Turned}
+use Rattle.decoder.proofs.Cursors.{BitRead, bit-read, bit-end}
+use Rattle.decoder.proofs.Moves.{open-left, label-left, finishing, at-root}
+use Rattle.decoder.proofs.Turning.{before-moved, ready, rise-turn}
+use Rattle.decoder.proofs.Payload.{sizes}
+use borrow.Author.Needs.{needs}
+use Rattle.decoder.proofs.turn.Statement.{statement}
+use Rattle.decoder.proofs.turn.Tie as tie
+
+one-read : (c : tie.After-known-told) →
+    let a = c .before .before .before .before .before .before .before .args in
+    let g = c .before .b .given in
+    BitRead (bitsIn (a .bytes .now)) (a .c) (g .0 .0) (g .0 .1 .0)
+one-read c = let b = c .before .before .before .bit in bit-read _ _ (b .result) _ _ (b .ensures) (c .before .b .given .1)
+
+none-left : (c : tie.After-enum-told) →
+    let a = c .before .before .before .before .before .before .args in
+    length (bitsIn (a .bytes .now)) ≤ a .c .bits
+none-left c = let b = c .before .before .bit in bit-end _ _ (b .result) (b .ensures) (c .enum-told .given .1)
+
+close-requires : tie.Need-close-requires
+close-requires c κs = search needs
+
+same-length : tie.Need-same-length
+same-length c = search needs
+
+returns : tie.Need-returns
+returns c = c .before .before .close .ensures _ _
+
+bit-requires : tie.Need-bit-requires
+bit-requires c κs = search needs
+
+enum-told : tie.Need-enum-told
+enum-told c = search needs
+
+add-if2 : tie.Need-add-if2
+add-if2 c = search needs
+
+returns-2 : tie.Need-returns-2
+unfolding Turned
+returns-2 c = (open-left _ _ _ _ _ _ (c .before .before .before .before .if1 .left) (none-left (c .before)) (omega arith), refl)
+
+returns-3 : tie.Need-returns-3
+unfolding Turned
+returns-3 c =
+    let z = sizes _ _ _ (c .before .before .before .before .before .before .before .before .pre .0) in
+    (label-left _ _ _ _ _ _ (c .before .before .before .before .before .if1 .left) (none-left (c .before .before)) (omega arith), refl)
+
+returns-4 : tie.Need-returns-4
+unfolding Turned
+returns-4 c =
+    let z = sizes _ _ _ (c .before .before .before .before .before .before .before .before .pre .0) in
+    let f = c .before .before .before .before .before .before .before .before .pre .1 in
+    let q = none-left (c .before .before) in
+    (finishing _ _ _ _ _ _ (c .before .before .before .before .before .if1 .left) q (omega arith) (omega arith) (omega arith), omega arith, refl)
+
+enum-known-b : tie.Need-enum-known-b
+enum-known-b c = search needs
+
+descend-requires : tie.Need-descend-requires
+descend-requires c κs =
+    let st = c .before .before .before .before .before .before .before .before .before in
+    let z = sizes _ _ _ (st .pre .0) in
+    let r = ready _ _ _ _ _ _ _ (z .bit-count) (st .pre .1) (one-read (c .before .before)) (c .before .if4 .taken) in
+    (st .pre .0, (r, c .before .before .before .before .before .before .if1 .left))
+
+same-length-2 : tie.Need-same-length-2
+same-length-2 c = search needs
+
+returns-5 : tie.Need-returns-5
+returns-5 c =
+    let a = c .before .before .before .before .before .before .before .before .before .before .before .before .args in
+    let d = c .before .before .descend in
+    subst (λ (x : Cursor). Turned (a .m) (bitsIn (a .bytes .now)) (labelsIn (a .bytes .now)) (a .w .now) (a .s) x (d .result) (d .last .1 .1 .1 .0))
+    (before-moved _ _ (one-read (c .before .before .before .before .before) .2)) (d .ensures)
+
+returns-6 : tie.Need-returns-6
+unfolding Turned
+returns-6 c =
+    let r = one-read (c .before .before) in
+    let t = c .before .before .before .before .before .before .if1 .left in
+    (at-root _ _ _ _ _ _ t (r .0) (sym (r .1) ∙ c .before .if4 .left) (c .if5 .taken), refl)
+
+rise-requires : tie.Need-rise-requires
+rise-requires c κs =
+    let z = sizes _ _ _ (c .before .before .before .before .before .before .before .before .before .before .pre .0) in
+    let f = c .before .before .before .before .before .before .before .before .before .before .pre .1 in
+    let r = one-read (c .before .before .before) in
+    (f .few-edges, f .room, omega arith, omega arith, omega arith)
+
+same-length-3 : tie.Need-same-length-3
+same-length-3 c = search needs
+
+returns-7 : tie.Need-returns-7
+unfolding Turned
+returns-7 c =
+    let st = c .before .before .before .before .before .before .before .before .before .before .before .before .before in
+    let z = sizes _ _ _ (st .pre .0) in
+    let t = c .before .before .before .before .before .before .before .before .before .before .if1 .left in
+    let r = one-read (c .before .before .before .before .before .before) in
+    rise-turn _ _ _ _ _ _ t (z .bit-count) (st .pre .1) _ _ r (c .before .before .before .before .before .if4 .left) (c .before .before .before .before .if5 .left) _ _
+    (c .before .before .rise .ensures)
+
+pub turn-spec : {M : Type 1} → statement M
+turn-spec =
+    tie.close
+    (tie.spec
+    close-requires
+    same-length
+    returns
+    bit-requires
+    enum-told
+    add-if2
+    returns-2
+    returns-3
+    returns-4
+    enum-known-b
+    descend-requires
+    same-length-2
+    returns-5
+    returns-6
+    rise-requires
+    same-length-3
+    returns-7)

@@ -1,0 +1,16 @@
+-- The contour word in the work area: with n darts, the letters' codes stand by position at 3n.
+--
+--   toLetter x           the letter with the code x
+--   lettersIn n w        the word in the work area
+use Prim.Native.Nat.{ℕ, _*_}
+use mathlib.Core.Bool.{cond}
+use mathlib.Core.List.{List, map}
+use lib.Dec.{eqb}
+use Rattle.model.specs.Traversal.{Letter, down, up, first, second}
+use Rattle.areas.specs.Area.{region}
+
+unfoldable pub toLetter : ℕ → Letter
+toLetter x = cond (eqb x 1) down (cond (eqb x 2) up (cond (eqb x 3) first second))
+
+unfoldable pub lettersIn : ℕ → List ℕ → List Letter
+lettersIn n w = map toLetter (region (3 * n) n w)

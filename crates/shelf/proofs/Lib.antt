@@ -1,0 +1,3 @@
+mod Refusals
+pub mod Walking
+mod Storing

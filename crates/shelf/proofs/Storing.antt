@@ -1,0 +1,154 @@
+-- Shelving at plain values: r is the record, s the shelf, u its used length.
+--
+--   spot-refused, spot-broken, spot-there, spot-full, spot-new    the spot of a record, way by way
+--   spot-requires         what the search needs
+--   stored-refused, stored-there, stored-new    what shelving promises, by the spot
+--   new-fits              a new record has room
+--   put-turn, put-ends    the loop that puts a record into the shelf
+use mathlib.Core.Path.{_≡_, refl, sym, ap, _∙_}
+use mathlib.Core.Bool.{Bool, true, false, not, _&&_, cond, false≢true}
+use mathlib.Core.List.{List, _++_, append-assoc}
+use Prim.Native.Nat.{ℕ, _+_, _-_, _≤_, _<_}
+use native.Mathlib.Omega.{arith}
+use native.Mathlib.Numerals.{add-one}
+use lib.Dec.{eqb, ltb}
+use lib.ListN.{length, getD, set, take, drop}
+use lib.Seq.{paste, paste-suc, take-length, drop-drop}
+use borrow.Author.Tests.{lt-ltb, le-ltb, eq-eqb, ne-eqb, ltb-false, eqb-true}
+use Rattle.cutting.specs.declared.Counted.the-variants.{Records, Broken}
+use Rattle.model.specs.declared.Shelved.the-variants as shelved
+use Rattle.shelf.specs.declared.Spot.{Spot}
+use Rattle.shelf.specs.declared.Spot.the-variants.{There, New, Refused}
+use Rattle.model.specs.Numbers.{firstRefusal}
+use Rattle.model.specs.Shelf.{headRefusal, recordsIn, endToEnd, firstEqual, shelfRefused}
+use Rattle.model.specs.Calls.{front, shelveRefusal, shelveAnswer, shelvedBytes, Stored}
+use Rattle.heads.proofs.Head.{not-met}
+use Rattle.shelf.specs.Walk.{shelfCount}
+use Rattle.shelf.specs.Spot.{spotOf}
+use Rattle.shelf.proofs.Refusals.{used-part, count-broken, count-records}
+use Rattle.shelf.proofs.Walking.{used-fine}
+
+-- the rest of the checks, where the first is not met
+cond-zero : (b : Bool) (k n : ℕ) → (k ≡ 0 → b ≡ false) → cond b k n ≡ 0 → n ≡ 0
+cond-zero true k n f e = absurd (false≢true (sym (f e)))
+cond-zero false k n f e = e
+
+and-false : (a b : Bool) → a ≡ true → (a && b) ≡ false → b ≡ false
+and-false true b t e = e
+and-false false b t e = absurd (false≢true t)
+
+module _ (r s : List ℕ) (u : ℕ) where
+  abbrev rs : List (List ℕ)
+  rs = recordsIn (take u s)
+
+  module _ (x : ℕ) (x-is : x ≡ headRefusal r) where
+    pub spot-refused : (x ≡ 0 → ⊥) → Refused x ≡ spotOf r s u
+    unfolding spotOf shelveRefusal firstRefusal
+    spot-refused d = rw (sym x-is, ne-eqb x 0 d, ne-eqb x 0 d)
+
+    module _ (fine : x ≡ 0) where
+      zero-head : headRefusal r ≡ 0
+      zero-head = sym x-is ∙ fine
+
+      pub spot-broken : Broken ≡ shelfCount s u → Refused 14 ≡ spotOf r s u
+      unfolding spotOf shelveRefusal firstRefusal
+      spot-broken e = rw (zero-head, count-broken s u e)
+
+      module _ (k : ℕ) (k-is : Records k ≡ shelfCount s u) (n : ℕ) (n-is : n ≡ firstEqual r (recordsIn (take (u - 0) (drop 0 s)))) where
+        first : n ≡ firstEqual r rs
+        first = n-is ∙ ap (λ (bs : List ℕ). firstEqual r (recordsIn bs)) (used-part s u)
+
+        pub spot-there : (n ≡ k → ⊥) → There n ≡ spotOf r s u
+        unfolding spotOf shelveRefusal firstRefusal
+        spot-there d =
+            let c = count-records s u k k-is in
+            let z = ne-eqb n (length rs) (λ e. d (e ∙ sym (c .1))) in
+            rw (zero-head, c .0, sym first, z)
+
+        pub spot-full : n ≡ k → length s - u < length r → Refused 16 ≡ spotOf r s u
+        unfolding spotOf shelveRefusal firstRefusal
+        spot-full e h =
+            let c = count-records s u k k-is in
+            let z = eq-eqb n (length rs) (e ∙ c .1) in
+            rw (zero-head, c .0, sym first, z, lt-ltb _ _ h)
+
+        pub spot-new : n ≡ k → length r ≤ length s - u → New n ≡ spotOf r s u
+        unfolding spotOf shelveRefusal firstRefusal
+        spot-new e h =
+            let c = count-records s u k k-is in
+            let z = eq-eqb n (length rs) (e ∙ c .1) in
+            rw (zero-head, c .0, sym first, z, le-ltb (length s - u) (length r) h)
+
+pub spot-requires : (s : List ℕ) (u k : ℕ) → Records k ≡ shelfCount s u → (u ≤ length s) × (endToEnd (take (u - 0) (drop 0 s)) ≡ true)
+spot-requires s u k e = let f = used-fine s u (count-records s u k e .0) in (f .0, rw (used-part s u) (f .1))
+
+-- ---- shelving, by the spot
+
+-- what a spot tells of the two tests that it is made by
+module _ (n x : ℕ) where
+  abbrev made : Bool → Bool → Spot
+  made a b = cond a (cond b (New n) (There n)) (Refused x)
+
+  there-tells : (a b : Bool) (k : ℕ) → There k ≡ made a b → (a ≡ true) × (b ≡ false) × (k ≡ n)
+  there-tells true true k e = (cc e, cc e, cc e)
+  there-tells true false k e = (refl, refl, cc e)
+  there-tells false b k e = (cc e, cc e, cc e)
+
+  new-tells : (a b : Bool) (k : ℕ) → New k ≡ made a b → (a ≡ true) × (b ≡ true) × (k ≡ n)
+  new-tells true true k e = (refl, refl, cc e)
+  new-tells true false k e = (cc e, cc e, cc e)
+  new-tells false b k e = (cc e, cc e, cc e)
+
+  refused-tells : (a b : Bool) (y : ℕ) → Refused y ≡ made a b → (a ≡ false) × (y ≡ x)
+  refused-tells true true y e = (cc e, cc e)
+  refused-tells true false y e = (cc e, cc e)
+  refused-tells false b y e = (refl, cc e)
+
+module _ (r s : List ℕ) (u : ℕ) where
+  abbrev number : ℕ
+  number = firstEqual r (recordsIn (take u s))
+
+  pub stored-refused : (x : ℕ) → Refused x ≡ spotOf r s u → Stored r s u (shelved.Refused x) s
+  unfolding spotOf shelveAnswer shelvedBytes
+  stored-refused x e =
+      let t = refused-tells number (shelveRefusal r s u) (eqb (shelveRefusal r s u) 0) (eqb number (length (recordsIn (take u s)))) _ e in
+      record { answered = rw (t .0, t .1); bytes = rw (t .0) }
+
+  pub stored-there : (n : ℕ) → There n ≡ spotOf r s u → Stored r s u (shelved.At n u) s
+  unfolding spotOf shelveAnswer shelvedBytes
+  stored-there n e =
+      let t = there-tells number (shelveRefusal r s u) (eqb (shelveRefusal r s u) 0) (eqb number (length (recordsIn (take u s)))) _ e in
+      record { answered = rw (t .0, t .1, t .2); bytes = rw (t .0, t .1) }
+
+  module _ (n : ℕ) (e : New n ≡ spotOf r s u) where
+    is-new : (eqb (shelveRefusal r s u) 0 ≡ true) × (eqb number (length (recordsIn (take u s))) ≡ true) × (n ≡ number)
+    unfolding spotOf
+    is-new =
+        new-tells number (shelveRefusal r s u) (eqb (shelveRefusal r s u) 0) (eqb number (length (recordsIn (take u s)))) _ e
+
+    pub stored-new : (s′ : List ℕ) → s′ ≡ take u s ++ front r (drop u s) → Stored r s u (shelved.At n (u + length r)) s′
+    unfolding shelveAnswer shelvedBytes
+    stored-new s′ p = let t = is-new in record { answered = rw (t .0, t .1, t .2); bytes = p ∙ rw (t .0, t .1) }
+
+    pub new-fits : u + length r ≤ length s
+    unfolding shelveRefusal firstRefusal
+    new-fits =
+        let t = is-new in
+        let a = cond-zero (not (eqb (headRefusal r) 0)) (headRefusal r) _ (λ z. rw (eq-eqb _ _ z)) (eqb-true _ 0 (t .0)) in
+        let b = not-met (shelfRefused s u) 14 _ (λ z. omega arith) a in
+        let c = not-met (eqb number (length (recordsIn (take u s))) && ltb (length s - u) (length r)) 16 0 (λ z. omega arith) (b .1) in
+        let f = used-fine s u (b .0) in
+        let l = ltb-false (length s - u) (length r) (and-false _ _ (t .1) (c .0)) in
+        omega arith
+
+-- ---- putting
+
+module _ (d : List ℕ) (at : ℕ) (r : List ℕ) where
+  pub put-turn : (s : List ℕ) (i : ℕ) → s ≡ paste d at r i → at + i < length d → i < length r → set s (at + i) (getD r i 0) ≡ paste d at r (i + 1)
+  put-turn s i e h k = ap (λ (l : List ℕ). set l (at + i) (getD r i 0)) e ∙ (paste-suc d at r i 0 h k ∙ rw (sym (add-one i)))
+
+  pub put-ends : (s : List ℕ) (i : ℕ) → i ≡ length r → s ≡ paste d at r i → s ≡ take at d ++ front r (drop at d)
+  unfolding front
+  put-ends s i e p =
+      p ∙ (ap (paste d at r) e ∙ (ap (λ (x : List ℕ). take at d ++ x ++ drop (at + length r) d) (take-length r)
+      ∙ (append-assoc (take at d) r (drop (at + length r) d) ∙ ap (λ (x : List ℕ). take at d ++ (r ++ x)) (sym (drop-drop (length r) at d)))))

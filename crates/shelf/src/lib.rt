@@ -1,0 +1,148 @@
+// The shelf: a lent byte slice with a used length, whose used bytes are records end to end. Shelving, fetching and walking look at heads and lengths
+// only. The public calls are `shelve`, `fetch`, `walk_begin`, `walk_length` and `walk_step`; they have no `requires`.
+ghost use mathlib.Core.Path.{_≡_};
+ghost use mathlib.Core.List.{_++_};
+ghost use Prim.Native.Nat.{ℕ, _+_, _≤_};
+ghost use lib.ListN.{length, take, drop};
+ghost use Rattle.model.specs.Calls.{front, fetchRefusal, Stored, Fetched};
+ghost use Rattle.cutting.specs.Cutting.{recordAt};
+ghost use Rattle.shelf.specs.Walk.{shelfCount, nextPlace, Begun};
+ghost use Rattle.shelf.specs.Spot.{spotOf};
+
+// Where a record belongs: it is there under a number, it is new and gets a number, or it is refused.
+pub enum Spot {
+    There(usize),
+    New(usize),
+    Refused(u16),
+}
+
+// How many records are on the shelf, if 14 does not concern it.
+pub fn count(shelf: &[u8], used: usize) -> cutting::Counted
+    ensures { λ r. ⌜ r ≡ shelfCount (now (shelf .entry)) used ⌝ }
+{
+    if used > shelf.len() {
+        return cutting::Counted::Broken;
+    }
+    cutting::count(&shelf[0..used])
+}
+
+// The first of 14, 15 that concerns fetching record n; 0 if none does.
+pub fn fetch_refusal(shelf: &[u8], used: usize, n: usize) -> u16
+    ensures { λ r. ⌜ r ≡ fetchRefusal (now (shelf .entry)) used n ⌝ }
+{
+    match count(shelf, used) {
+        cutting::Counted::Broken => 14,
+        cutting::Counted::Records(records) => {
+            if n < records {
+                return 0;
+            }
+            15
+        }
+    }
+}
+
+// The used bytes; the whole shelf if the used length exceeds it.
+pub fn used_part<'a>(shelf: &'a [u8], used: usize) -> &'a [u8]
+    ensures { λ r. ⌜ now r ≡ take used (now (shelf .entry)) ⌝ }
+{
+    if used > shelf.len() {
+        return shelf;
+    }
+    &shelf[0..used]
+}
+
+// ---- walking, for callers with plain parameters: a walk is the place that it has come to
+
+// The place of record n, with which a walk begins. Refused as fetching is, it gives the used length, where no record is left.
+pub fn walk_begin(shelf: &[u8], used: usize, n: usize, refusal: &mut u16) -> usize
+    ensures { λ r. ⌜ Begun (now (shelf .entry)) used n r (now (refusal .exit)) ⌝ }
+{
+    let number = fetch_refusal(shelf, used, n);
+    if number != 0 {
+        *refusal = number;
+        return used;
+    }
+    *refusal = 0;
+    cutting::place(&shelf[0..used], n)
+}
+
+// The length of the record that stands at this place of the used bytes; 0 if none is left there, or none that passes 1, 2, 3 and 5.
+pub fn walk_length(shelf: &[u8], used: usize, at: usize) -> usize
+    ensures { λ r. ⌜ r ≡ length (recordAt (take used (now (shelf .entry))) at) ⌝ }
+{
+    cutting::length_at(used_part(shelf, used), at)
+}
+
+// The place past that record; the place itself if none stands there.
+pub fn walk_step(shelf: &[u8], used: usize, at: usize) -> usize
+    ensures { λ r. ⌜ r ≡ nextPlace (take used (now (shelf .entry))) at ⌝ }
+{
+    next_place(used_part(shelf, used), at)
+}
+
+pub fn next_place(bytes: &[u8], at: usize) -> usize
+    ensures { λ r. ⌜ r ≡ nextPlace (now (bytes .entry)) at ⌝ }
+{
+    let length = cutting::length_at(bytes, at);
+    at + length
+}
+
+// ---- fetching: the first step of a walk
+
+pub fn fetch<'a>(shelf: &'a [u8], used: usize, n: usize, refusal: &mut u16) -> &'a [u8]
+    ensures { λ r. ⌜ Fetched (now (shelf .entry)) used n (now r) (now (refusal .exit)) ⌝ }
+{
+    let at = walk_begin(shelf, used, n, refusal);
+    cutting::record_at(used_part(shelf, used), at)
+}
+
+// ---- shelving
+
+pub fn spot_of(record: &[u8], shelf: &[u8], used: usize) -> Spot
+    ensures { λ r. ⌜ r ≡ spotOf (now («record» .entry)) (now (shelf .entry)) used ⌝ }
+{
+    let number = heads::head_refusal(record);
+    if number != 0 {
+        return Spot::Refused(number);
+    }
+    match count(shelf, used) {
+        cutting::Counted::Broken => Spot::Refused(14),
+        cutting::Counted::Records(records) => {
+            let n = cutting::first_equal(record, &shelf[0..used]);
+            if n != records {
+                return Spot::There(n);
+            }
+            if shelf.len() - used < record.len() {
+                return Spot::Refused(16);
+            }
+            Spot::New(n)
+        }
+    }
+}
+
+// The record is put into the shelf from this place on.
+pub fn put(shelf: &mut [u8], at: usize, record: &[u8])
+    requires { ⌜ at + length (now «record») ≤ length (now shelf) ⌝ }
+    ensures { λ _. ⌜ now (shelf .exit) ≡ take at (now (shelf .entry)) ++ front (now («record» .entry)) (drop at (now (shelf .entry))) ⌝ }
+{
+    let mut i = 0;
+    while i < record.len() {
+        let j = at + i;
+        shelf[j] = record[i];
+        i += 1;
+    }
+}
+
+pub fn shelve(record: &[u8], shelf: &mut [u8], used: usize) -> model::Shelved
+    ensures { λ r. ⌜ Stored (now («record» .entry)) (now (shelf .entry)) used r (now (shelf .exit)) ⌝ }
+{
+    match spot_of(record, shelf, used) {
+        Spot::Refused(number) => model::Shelved::Refused(number),
+        Spot::There(n) => model::Shelved::At(n, used),
+        Spot::New(n) => {
+            put(shelf, used, record);
+            let end = used + record.len();
+            model::Shelved::At(n, end)
+        }
+    }
+}

@@ -1,0 +1,4 @@
+pub mod Laid
+pub mod Number
+pub mod Shelved
+pub mod Walked

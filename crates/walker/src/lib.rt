@@ -1,0 +1,43 @@
+// A walker over a shelf: it holds the used bytes and the place that it has come to. Each function over it is thin, leaves the work to a covered
+// function of `shelf` or `cutting` with plain parameters, and is proved by a walk of its MIR.
+ghost use mathlib.Core.Path.{_≡_};
+ghost use lib.ListN.{take};
+ghost use Rattle.model.specs.Calls.{Fetched};
+ghost use Rattle.cutting.specs.Cutting.{recordAt};
+ghost use Rattle.shelf.specs.Walk.{nextPlace, Begun};
+
+pub struct Walker<'a> {
+    pub src: &'a [u8],
+    pub at: usize,
+}
+
+// The record at the walker's place, as a part of the bytes; empty if none is left, or none that passes 1, 2, 3 and 5 stands there.
+pub fn here<'a>(w: Walker<'a>) -> &'a [u8]
+    ensures { λ r. ⌜ now r ≡ recordAt (now (w .entry .src)) (w .entry .at) ⌝ }
+{
+    cutting::record_at(w.src, w.at)
+}
+
+// The walker moved on past that record.
+pub fn onward<'a>(w: Walker<'a>) -> Walker<'a>
+    ensures { λ r. ⌜ (r .src ≡ w .entry .src) × (r .at ≡ nextPlace (now (w .entry .src)) (w .entry .at)) ⌝ }
+{
+    let at = shelf::next_place(w.src, w.at);
+    Walker { src: w.src, at }
+}
+
+// A walk from record n on. Refused as fetching is, the walker stands where no record is left.
+pub fn begin<'a>(bytes: &'a [u8], used: usize, n: usize, refusal: &mut u16) -> Walker<'a>
+    ensures { λ r. ⌜ (now (r .src) ≡ take used (now (bytes .entry))) × Begun (now (bytes .entry)) used n (r .at) (now (refusal .exit)) ⌝ }
+{
+    let at = shelf::walk_begin(bytes, used, n, refusal);
+    let src = shelf::used_part(bytes, used);
+    Walker { src, at }
+}
+
+// The record that a walk from record n yields first: for callers with plain parameters, who need no walk by hand.
+pub fn first<'a>(bytes: &'a [u8], used: usize, n: usize, refusal: &mut u16) -> &'a [u8]
+    ensures { λ r. ⌜ Fetched (now (bytes .entry)) used n (now r) (now (refusal .exit)) ⌝ }
+{
+    here(begin(bytes, used, n, refusal))
+}

@@ -1,0 +1,106 @@
+-- The record of a plan that fits, from the word in the work area.
+--
+--   letters-back         codes become the letters they stand for
+--   valid-two            a word that is valid for a kind is valid for kind 2
+--   labels-asked, bits-asked, bytes-asked   what the three passes of the payload ask
+--   laid                 what they leave
+use Prim.Native.Nat.{ℕ, _+_, _*_, _/_, _%_, _≤_, _<_}
+use native.Mathlib.Omega.{arith}
+use mathlib.Core.Path.{_≡_, refl, sym, ap, subst, _∙_}
+use mathlib.Core.Bool.{Bool, true, false, not, _&&_, _||_, cond}
+use mathlib.Core.List.{List, [], _∷_, map}
+use lib.Dec.{eqb}
+use lib.ListN.{length, length-map}
+use Rattle.model.specs.Numbers.{allBelow}
+use Rattle.model.specs.Map.{isKind, dartCountFits}
+use Rattle.model.specs.Traversal.{Letter, down, up, first, second, code}
+use Rattle.model.specs.Record.{recordLength, labelBase, layOut}
+use Rattle.model.specs.Calls.{front}
+use Rattle.model.proofs.Booleans.{and-left, and-right}
+use Rattle.model.proofs.Fitness.{count-parts}
+use Rattle.words.specs.Word.{nested, bareLeaf, rootDegree, valid, wordBits, wordLabels}
+use Rattle.decoding.proofs.Sizes.{labels-bound}
+use Rattle.decoding.proofs.Bounds.{bits-below}
+use Rattle.areas.specs.Area.{region}
+use Rattle.areas.proofs.Regions.{length-region}
+use Rattle.payload.specs.Payload.{toLetter, lettersIn, bitsIn, labelsIn, LabelsPut, BitsPut, LaidOut}
+use Rattle.packing.proofs.Head.{kind-cases}
+use Rattle.writing.specs.Early.{Ready, Laid}
+
+letter-back : (l : Letter) → toLetter (code l) ≡ l
+unfolding toLetter
+letter-back down = refl
+letter-back up = refl
+letter-back first = refl
+letter-back second = refl
+
+all-back : (v : List Letter) → map toLetter (map code v) ≡ v
+all-back [] = refl
+all-back (l ∷ v) = rw (letter-back l, all-back v)
+
+pub letters-back : (n : ℕ) (w : List ℕ) (v : List Letter) → region (3 * n) n w ≡ map code v → lettersIn n w ≡ v
+unfolding lettersIn
+letters-back n w v e = rw e (all-back v)
+
+pub valid-two : (k : ℕ) (v : List Letter) → valid k v ≡ true → valid 2 v ≡ true
+unfolding valid isKind
+valid-two k v e =
+    let r = and-right (isKind k) (dartCountFits (length v) && (nested 1 0 [] [] v && not (eqb k 1 && (bareLeaf v || eqb (rootDegree 0 v) 1)))) e in
+    let s = and-right (dartCountFits (length v)) (nested 1 0 [] [] v && not (eqb k 1 && (bareLeaf v || eqb (rootDegree 0 v) 1))) r in
+    rw (and-left (dartCountFits (length v)) (nested 1 0 [] [] v && not (eqb k 1 && (bareLeaf v || eqb (rootDegree 0 v) 1))) r,
+    and-left (nested 1 0 [] [] v) (not (eqb k 1 && (bareLeaf v || eqb (rootDegree 0 v) 1))) s)
+
+base : (k : ℕ) → isKind k ≡ true → labelBase k ≡ 1 + k
+unfolding labelBase
+base = kind-cases (λ (k : ℕ). labelBase k ≡ 1 + k) refl refl
+
+module _ (n k : ℕ) (w out : List ℕ) (r : Ready n k w out) where
+  size : length (lettersIn n w) ≡ n
+  unfolding lettersIn
+  size = length-map (region (3 * n) n w) toLetter ∙ length-region (3 * n) n w (let z = r .room in omega arith)
+
+  abbrev v : List Letter
+  v = lettersIn n w
+
+  counts : (0 < n) × (n % 2 ≡ 0) × (n ≤ 8192)
+  unfolding valid
+  counts =
+      let e = and-right (isKind k) (dartCountFits (length v) && (nested 1 0 [] [] v && not (eqb k 1 && (bareLeaf v || eqb (rootDegree 0 v) 1)))) (r .proper) in
+      let c = count-parts (length v) (and-left (dartCountFits (length v)) (nested 1 0 [] [] v && not (eqb k 1 && (bareLeaf v || eqb (rootDegree 0 v) 1))) e) in
+      let s = size in
+      (omega arith, subst (λ (m : ℕ). m % 2 ≡ 0) s (c .1), omega arith)
+
+  half : 2 * (n / 2) ≡ n
+  half = let c = counts in omega arith
+
+  pub labels-asked : (valid 2 (lettersIn n w) ≡ true) × (16 * n ≤ length w)
+  labels-asked = (valid-two k (lettersIn n w) (r .proper), r .room)
+
+  module _ (w₁ : List ℕ) (s : LabelsPut n w w₁) where
+    pub bits-asked : (valid 2 (lettersIn n w₁) ≡ true) × (16 * n ≤ length w₁)
+    bits-asked = (ap (valid 2) (s .letters) ∙ labels-asked .0, let z = r .room in let e = s .kept in omega arith)
+
+    module _ (w₂ : List ℕ) (t : BitsPut n w₁ w₂) where
+      bits-now : bitsIn n w₂ ≡ wordBits false (lettersIn n w)
+      bits-now = t .bits ∙ ap (wordBits false) (s .letters)
+
+      labels-now : labelsIn n w₂ ≡ wordLabels (lettersIn n w)
+      labels-now = t .labels ∙ s .labels
+
+      pub bytes-asked : (isKind k ≡ true) × (1 ≤ n / 2) × (n / 2 ≤ 4096) × (32 * (n / 2) ≤ length w₂) × (recordLength k (n / 2) ≤ length out)
+          × (allBelow 2 (bitsIn (2 * (n / 2)) w₂) ≡ true) × (allBelow (1 + k) (labelsIn (2 * (n / 2)) w₂) ≡ true)
+      bytes-asked =
+          let c = counts in
+          let h = half in
+          (r .kind, omega arith, omega arith, (let z = r .room in let e = s .kept in let f = t .kept in omega arith), r .space,
+          ap (λ (m : ℕ). allBelow 2 (bitsIn m w₂)) h ∙ ap (allBelow 2) bits-now ∙ bits-below false (lettersIn n w),
+          ap (λ (m : ℕ). allBelow (1 + k) (labelsIn m w₂)) h ∙ ap (allBelow (1 + k)) labels-now
+          ∙ subst (λ (b : ℕ). allBelow b (wordLabels (lettersIn n w)) ≡ true) (base k (r .kind)) (labels-bound k (lettersIn n w) (r .proper)))
+
+      pub laid : (answer : ℕ) (out′ : List ℕ) → LaidOut k (n / 2) w₂ out answer out′ → Laid n k w out answer w₂ out′
+      laid answer out′ u = record {
+        answered = u .answered;
+        filled = u .filled ∙ ap (λ (m : ℕ). front (layOut k (n / 2) (bitsIn m w₂) (labelsIn m w₂)) out) half
+            ∙ rw (bits-now, labels-now);
+        kept = t .kept ∙ s .kept;
+      }

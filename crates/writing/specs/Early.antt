@@ -1,0 +1,49 @@
+-- Writing's refusals that need no work area, and what the call leaves before the work area is cleared.
+--
+--   earlyRefusal         the first of 2, 3, 4, 6, 7, 8 that concerns the call; 0 if none does
+--   Ready                room for the record, and the contour word of a plan that fits at 3n
+--   Laid                 the record of that word in the output
+--   Made                 the answer and the output of writing, and the work area's length
+use Prim.Native.Nat.{ℕ, _*_, _/_, _≤_}
+use mathlib.Core.Path.{_≡_}
+use mathlib.Core.Bool.{true, false, not}
+use mathlib.Core.List.{List, [], _∷_}
+use lib.Dec.{ltb}
+use lib.ListN.{length}
+use Rattle.model.specs.declared.Written.{Written}
+use Rattle.model.specs.Numbers.{Refusal, firstRefusal, refuse, isPermutation}
+use Rattle.model.specs.Map.{Plan, darts, edges, isKind, dartCountFits}
+use Rattle.model.specs.Record.{recordLength, layOut}
+use Rattle.model.specs.Calls.{front, writeAnswer, writtenOutput}
+use Rattle.words.specs.Word.{valid, wordBits, wordLabels}
+use Rattle.payload.specs.Payload.{lettersIn}
+
+unfoldable pub earlyRefusals : ℕ → Plan → ℕ → ℕ → List Refusal
+earlyRefusals k p workLength outLength =
+    refuse 2 (not (isKind k))
+    ∷ refuse 3 (not (dartCountFits (darts p)))
+    ∷ refuse 4 (not (ltb (p .root) (darts p)))
+    ∷ refuse 6 (not (isPermutation (p .rotation)))
+    ∷ refuse 7 (ltb workLength (32 * edges (p .rotation)))
+    ∷ refuse 8 (ltb outLength (recordLength k (edges (p .rotation))))
+    ∷ []
+
+unfoldable pub earlyRefusal : ℕ → Plan → ℕ → ℕ → ℕ
+earlyRefusal k p workLength outLength = firstRefusal (earlyRefusals k p workLength outLength)
+
+pub record Made (k : ℕ) (p : Plan) (work out : List ℕ) (answer : Written) (work′ out′ : List ℕ) : Type 0 where
+  pub answered : answer ≡ writeAnswer k p (length work) (length out)
+  pub filled : out′ ≡ writtenOutput k p (length work) out
+  pub kept : length work′ ≡ length work
+
+-- room and a valid word for the record
+pub record Ready (n k : ℕ) (w out : List ℕ) : Type 0 where
+  pub kind : isKind k ≡ true
+  pub proper : valid k (lettersIn n w) ≡ true
+  pub room : 16 * n ≤ length w
+  pub space : recordLength k (n / 2) ≤ length out
+
+pub record Laid (n k : ℕ) (w out : List ℕ) (answer : ℕ) (w′ out′ : List ℕ) : Type 0 where
+  pub answered : answer ≡ recordLength k (n / 2)
+  pub filled : out′ ≡ front (layOut k (n / 2) (wordBits false (lettersIn n w)) (wordLabels (lettersIn n w))) out
+  pub kept : length w′ ≡ length w
