@@ -16,7 +16,7 @@ use Rattle.model.specs.Map.{dartCountFits}
 use Rattle.model.specs.Numbers.{allBelow}
 use Rattle.model.specs.Traversal.{Letter, down, up, first, second}
 use Rattle.words.specs.Word.{head, valid, wordDarts, rotationOf}
-use Rattle.decoding.proofs.Validity.{valid-nested, valid-fits}
+use Rattle.words.proofs.Validity.{valid-nested, valid-fits}
 use Rattle.areas.specs.Area.{region, placed}
 use Rattle.areas.proofs.Regions.{length-placed, region-placed, region-placed-other}
 use Rattle.letters.specs.Letters.{toLetter, lettersIn}

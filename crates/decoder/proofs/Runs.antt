@@ -25,7 +25,8 @@ use Rattle.decoder.specs.declared.Cursor.{Cursor}
 use Rattle.decoder.specs.declared.State.{State}
 use Rattle.decoder.specs.declared.Outcome.{Outcome}
 use Rattle.decoder.specs.declared.Outcome.the-variants.{Goes, Done, Stuck}
-use Rattle.decoder.specs.Decoded.{Head, decodeRecord, Answered}
+use Rattle.coding.specs.Decode.{decodeRecord}
+use Rattle.decoder.specs.Decoded.{Head, Answered}
 use Rattle.decoder.specs.States.{tops, machineOf, Fits, Moved, Turned}
 
 abbrev pub first-state : State

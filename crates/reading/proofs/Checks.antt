@@ -1,0 +1,80 @@
+-- The checks before the payload, at plain values: for a record r, a work area of length w and an output of length o.
+--
+--   early-head, early-work, early-output, early-none   the first refusal, check by check
+--   Early, early-facts, facts-early   no refusal: the head passes, the work area and the output have room
+--   head-long            a head that passes is whole
+--   core-none            no refusal with an output: none without
+--   core-room            an output of 8,192 entries is as good as none
+use Prim.Native.Nat.{ℕ, _*_, _≤_, _<_}
+use native.Mathlib.Omega.{arith}
+use mathlib.Core.Path.{_≡_, refl, sym, _∙_}
+use mathlib.Core.Logic.{_≢_}
+use mathlib.Core.Bool.{Bool, true, false, not, cond}
+use mathlib.Core.List.{List}
+use lib.Dec.{eqb, ltb}
+use lib.ListN.{length}
+use borrow.Author.Tests.{lt-ltb, le-ltb, eq-eqb, ne-eqb, eqb-true, eqb-false, ltb-false}
+use Rattle.model.specs.Numbers.{firstRefusal}
+use Rattle.model.specs.Shelf.{edgesOf, headRefusal, passes}
+use Rattle.model.specs.Calls.{readRefusal}
+use Rattle.packing.proofs.Head.{passes-facts}
+use Rattle.reading.specs.ReadCall.{coreRefusal}
+
+pub record Early (r : List ℕ) (w o : ℕ) : Type 0 where
+  pub passed : passes r ≡ true
+  pub work-room : 32 * edgesOf r ≤ w
+  pub out-room : 2 * edgesOf r ≤ o
+
+pub head-long : (r : List ℕ) → headRefusal r ≡ 0 → 6 ≤ length r
+unfolding passes
+head-long r e = passes-facts r (eq-eqb _ 0 e) .whole-head
+
+module _ (r : List ℕ) (w o : ℕ) where
+  pub early-head : (h : ℕ) → h ≡ headRefusal r → h ≢ 0 → h ≡ readRefusal r w o
+  unfolding readRefusal firstRefusal
+  early-head h e d = rw (sym e, ne-eqb h 0 d)
+
+  module _ (m : ℕ) (passed : headRefusal r ≡ 0) (m-is : m ≡ edgesOf r) where
+    pub early-work : w < 32 * m → 7 ≡ readRefusal r w o
+    unfolding readRefusal firstRefusal
+    early-work h = rw (passed, sym m-is, lt-ltb w (32 * m) h)
+
+    pub early-output : 32 * m ≤ w → o < 2 * m → 8 ≡ readRefusal r w o
+    unfolding readRefusal firstRefusal
+    early-output h l = rw (passed, sym m-is, le-ltb w (32 * m) h, lt-ltb o (2 * m) l)
+
+    pub early-none : 32 * m ≤ w → 2 * m ≤ o → 0 ≡ readRefusal r w o
+    unfolding readRefusal firstRefusal
+    early-none h l = rw (passed, sym m-is, le-ltb w (32 * m) h, le-ltb o (2 * m) l)
+
+  pub facts-early : Early r w o → readRefusal r w o ≡ 0
+  unfolding passes
+  facts-early f = sym (early-none (edgesOf r) (eqb-true _ 0 (f .passed)) refl (f .work-room) (f .out-room))
+
+  pub early-facts : readRefusal r w o ≡ 0 → Early r w o
+  unfolding readRefusal firstRefusal passes
+  early-facts e = head (eqb (headRefusal r) 0) (ltb w (32 * edgesOf r)) (ltb o (2 * edgesOf r)) refl refl refl e
+    where
+      head : (a b c : Bool) → eqb (headRefusal r) 0 ≡ a → ltb w (32 * edgesOf r) ≡ b → ltb o (2 * edgesOf r) ≡ c
+          → cond (not a) (headRefusal r) (cond b 7 (cond c 8 0)) ≡ 0 → Early r w o
+      head false b c p q s t = absurd (eqb-false _ 0 p t)
+      head true true c p q s t = let z : ⊥ = omega arith in absurd z
+      head true false true p q s t = let z : ⊥ = omega arith in absurd z
+      head true false false p q s t = record { passed = p; work-room = ltb-false w _ q; out-room = ltb-false o _ s }
+
+-- ---- without an output
+
+pub core-none : (r : List ℕ) (w o : ℕ) → readRefusal r w o ≡ 0 → coreRefusal r w ≡ 0
+core-none r w o e =
+    let f = early-facts r w o e in
+    facts-early r w _ (record { passed = f .passed; work-room = f .work-room; out-room = omega arith })
+
+pub core-room : (r : List ℕ) (w : ℕ) → readRefusal r w 8192 ≡ coreRefusal r w
+unfolding passes readRefusal firstRefusal
+core-room r w = go (eqb (headRefusal r) 0) refl
+  where
+    go : (b : Bool) → eqb (headRefusal r) 0 ≡ b → readRefusal r w 8192 ≡ coreRefusal r w
+    go false p = let d = eqb-false _ 0 p in sym (early-head r w 8192 _ refl d) ∙ early-head r w (2 * edgesOf r) _ refl d
+    go true p =
+        let few = passes-facts r p .few-edges in
+        rw (le-ltb 8192 (2 * edgesOf r) (omega arith), le-ltb (2 * edgesOf r) (2 * edgesOf r) (omega arith))

@@ -1,0 +1,5 @@
+pub mod Answers
+pub mod Checks
+pub mod Outcomes
+pub mod FitRecords
+pub mod RoundTrip

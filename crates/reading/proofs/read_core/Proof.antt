@@ -1,0 +1,94 @@
+-- `read_core`: the checks, the word of the record, and the plan that it builds.
+use mathlib.Core.Path.{_≡_, sym, _∙_}
+use mathlib.Core.Bool.{true}
+use native.Mathlib.Omega.{arith}
+use lib.ListN.{length}
+use Rattle.model.specs.Numbers.{allBelow}
+use Rattle.model.specs.Calls.{readRefusal}
+use Rattle.packing.proofs.Below.{at-below}
+use Rattle.packing.proofs.Head.{passes-facts}
+use Rattle.reading.proofs.Checks.{Early, early-facts}
+use Rattle.reading.proofs.Outcomes.{core-refused, core-unreadable, buildable, core-read}
+use borrow.Author.Needs.{needs}
+use Rattle.reading.proofs.read_core.Statement.{statement}
+use Rattle.reading.proofs.read_core.Tie as tie
+
+clear : (c : tie.Else1) → let a = c .before .before .before .before .args in readRefusal (a .«record» .now) (length (a .w .now)) 8192 ≡ 0
+clear c = sym (c .before .early .ensures) ∙ omega arith
+
+checked : (c : tie.Else1) → let a = c .before .before .before .before .args in Early (a .«record» .now) (length (a .w .now)) 8192
+checked c = early-facts _ _ _ (clear c)
+
+bytes : (c : tie.Else1) → allBelow 256 (c .before .before .before .before .args .«record» .now) ≡ true
+bytes c = at-below 256 _ (λ i h. omega (arith, c .before .before .before .shared-slice-known .given i))
+
+early-requires : tie.Need-early-requires
+early-requires c κs = search needs
+
+returns : tie.Need-returns
+returns c = core-refused _ _ _ (c .before .early .ensures) (c .if1 .taken)
+
+field-requires : tie.Need-field-requires
+field-requires c κs = let l = passes-facts _ (checked c .passed) .whole-head in omega arith
+
+field-requires-2 : tie.Need-field-requires-2
+field-requires-2 c κs = let l = passes-facts _ (checked (c .before) .passed) .whole-head in omega arith
+
+cast-decode : tie.Need-cast-decode
+cast-decode c = search needs
+
+decode-requires : tie.Need-decode-requires
+decode-requires c κs =
+    let at = c .before .before .before in
+    let e = checked at in
+    ((e .passed, c .before .before .field .ensures, c .before .field2 .ensures), omega arith)
+
+cast-build : tie.Need-cast-build
+cast-build c = search needs
+
+mul-build : tie.Need-mul-build
+mul-build c = search needs
+
+build-requires : tie.Need-build-requires
+build-requires c κs =
+    let d = c .before .before .before .before in
+    let at = d .before .before .before .before in
+    let e = checked at in
+    (buildable _ _ (clear at) _ _ (d .decode .ensures) (bytes at) _ (d .before .before .field2 .ensures) (c .before .if2 .taken), omega arith)
+
+same-length : tie.Need-same-length
+same-length c = search needs
+
+returns-2 : tie.Need-returns-2
+returns-2 c =
+    let taken = c .before .before .before .before in
+    let d = taken .before .before .before in
+    let at = d .before .before .before .before in
+    core-read _ _ (clear at) _ _ (d .decode .ensures) (bytes at) _ (d .before .before .field2 .ensures) (taken .if2 .taken) _
+    (c .before .before .build .ensures)
+
+same-length-2 : tie.Need-same-length-2
+same-length-2 c = search needs
+
+returns-3 : tie.Need-returns-3
+returns-3 c =
+    let d = c .before .before .before in
+    core-unreadable _ _ (clear (d .before .before .before .before)) _ _ (d .decode .ensures) (c .if2 .left)
+
+pub read-core-spec : {M : Type 1} → statement M
+read-core-spec =
+    tie.close
+    (tie.spec
+    early-requires
+    returns
+    field-requires
+    field-requires-2
+    cast-decode
+    decode-requires
+    cast-build
+    mul-build
+    build-requires
+    same-length
+    returns-2
+    same-length-2
+    returns-3)

@@ -1,0 +1,74 @@
+// Reading, the call: any bytes come back as the plan in its standard numbering, or as one refusal. It puts the head checks, the decoder and the builder in
+// order and clears the work area; how a payload is decoded and a plan built is not known here.
+ghost use mathlib.Core.Path.{_≡_};
+ghost use Rattle.model.specs.Calls.{readRefusal, Reads};
+ghost use lib.ListN.{length};
+ghost use Rattle.reading.specs.ReadCall.{ReadCall, Core};
+use model::ReadBack;
+
+// An output of this length has room for every plan.
+const ROOM: usize = 8192;
+
+// The first of 1, 2, 3, 5, 7, 8 that concerns the record, with a work area and an output of these lengths; 0 if none does.
+fn early(record: &[u8], work: usize, out: usize) -> u16
+    ensures { λ r. ⌜ r ≡ readRefusal (now («record» .entry)) work out ⌝ }
+{
+    let h = heads::head_refusal(record);
+    if h != 0 {
+        return h;
+    }
+    let m = heads::field(record, 4) as usize;
+    if work < 32 * m {
+        return 7;
+    }
+    if out < 2 * m {
+        return 8;
+    }
+    0
+}
+
+// Reading without an output: the standard plan stays in the first 2m entries of the work area.
+pub fn read_core(record: &[u8], w: &mut [u16]) -> ReadBack
+    ensures { λ r. ⌜ Core (now («record» .entry)) (now (w .entry)) r (now (w .exit)) ⌝ }
+{
+    let e = early(record, w.len(), ROOM);
+    if e != 0 {
+        return ReadBack::Refused(e);
+    }
+    let kind = heads::field(record, 2);
+    let m = heads::field(record, 4);
+    let found = decoder::decode(record, kind, m as usize, w);
+    if found {
+        builder::build(w, 2 * (m as usize));
+        return ReadBack::Edges(m);
+    }
+    ReadBack::Refused(13)
+}
+
+// The checks but 13, then the core, then the plan to the output.
+fn read_out(record: &[u8], work: &mut [u16], out: &mut [u16]) -> ReadBack
+    ensures { λ r. ⌜ Reads (now («record» .entry)) (length (now (work .entry))) (now (out .entry)) r (now (out .exit)) ⌝ }
+{
+    let e = early(record, work.len(), out.len());
+    if e != 0 {
+        return ReadBack::Refused(e);
+    }
+    match read_core(record, work) {
+        ReadBack::Edges(m) => {
+            builder::copy_front(work, 2 * (m as usize), out);
+            return ReadBack::Edges(m);
+        }
+        ReadBack::Refused(r) => {
+            return ReadBack::Refused(r);
+        }
+    }
+}
+
+// "Reading returns m, with the standard plan in the first 2m entries"; the work area is zeros on every return.
+pub fn read(record: &[u8], work: &mut [u16], out: &mut [u16]) -> ReadBack
+    ensures { λ r. ⌜ ReadCall (now («record» .entry)) (now (work .entry)) (now (out .entry)) r (now (work .exit)) (now (out .exit)) ⌝ }
+{
+    let r = read_out(record, work, out);
+    areas::clear(work);
+    r
+}
