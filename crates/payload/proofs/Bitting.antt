@@ -19,7 +19,8 @@ use Rattle.words.specs.Word.{valid, startsSecond, wordBits}
 use Rattle.areas.specs.Area.{region}
 use Rattle.areas.proofs.Regions.{length-region, region-set-other}
 use Rattle.decoding.proofs.Sizes.{bits-length}
-use Rattle.payload.specs.Payload.{toLetter, lettersIn, bitsIn, labelsIn, BitsPut}
+use Rattle.letters.specs.Letters.{toLetter, lettersIn}
+use Rattle.payload.specs.Payload.{bitsIn, labelsIn, BitsPut}
 use Rattle.payload.specs.Passes.{isDown, downBefore, bitsFrom, Bitted, BitStepped}
 use Rattle.payload.proofs.Suffixes.{bits-shrink}
 use Rattle.payload.proofs.Letters.{length-letters, letters-at, letters-end, letters-set, small-word, region-front}

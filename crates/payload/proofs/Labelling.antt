@@ -18,7 +18,8 @@ use Rattle.areas.specs.Area.{region}
 use Rattle.areas.proofs.Regions.{length-region}
 use Rattle.decoding.proofs.Validity.{valid-nested}
 use Rattle.decoding.proofs.Sizes.{letters-length}
-use Rattle.payload.specs.Payload.{toLetter, lettersIn, labelsIn, LabelsPut}
+use Rattle.letters.specs.Letters.{toLetter, lettersIn}
+use Rattle.payload.specs.Payload.{labelsIn, LabelsPut}
 use Rattle.payload.specs.Passes.{tops, held, Scanned, Stepped}
 use Rattle.payload.proofs.Suffixes.{Goes, suffix, down-waits, first-waits, labels-shrink}
 use Rattle.payload.proofs.Letters.{length-letters, letters-at, letters-end, letters-set, small-word, code-down, code-up, code-first, code-second}

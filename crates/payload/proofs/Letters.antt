@@ -26,7 +26,7 @@ use Rattle.areas.specs.Area.{region}
 use Rattle.areas.proofs.Regions.{length-region, getD-region, region-set-other}
 use Rattle.orbits.proofs.Order.{eq-split}
 use Rattle.decoding.proofs.Validity.{valid-fits}
-use Rattle.payload.specs.Payload.{toLetter, lettersIn}
+use Rattle.letters.specs.Letters.{toLetter, lettersIn}
 use Rattle.payload.specs.Passes.{isDown}
 
 count-bound : (k : ℕ) → dartCountFits k ≡ true → k ≤ 8192

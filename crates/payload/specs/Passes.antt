@@ -14,7 +14,8 @@ use lib.ListN.{length, getD, drop}
 use Rattle.model.specs.Traversal.{Letter, down, up, first, second}
 use Rattle.words.specs.Word.{valid, Ends, ends, wordBits}
 use Rattle.areas.specs.Area.{region}
-use Rattle.payload.specs.Payload.{lettersIn, labelsIn}
+use Rattle.letters.specs.Letters.{lettersIn}
+use Rattle.payload.specs.Payload.{labelsIn}
 
 -- ---- labels
 

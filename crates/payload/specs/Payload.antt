@@ -1,27 +1,18 @@
 -- What stands where in the work area while a record is made, with n darts: letters by position at 3n, tree bits at 8n, labels at 9n.
 --
---   toLetter x           the letter with the code x
---   lettersIn n w        the word in the work area
 --   bitsIn, labelsIn     the tree bits and the labels in the work area
 --   LabelsPut, BitsPut   what the two passes over the word leave
 --   LaidOut              the record in the output
 use Prim.Native.Nat.{ℕ, _*_, _/_}
 use mathlib.Core.Path.{_≡_}
 use mathlib.Core.Bool.{false, cond}
-use mathlib.Core.List.{List, map}
-use lib.Dec.{eqb}
+use mathlib.Core.List.{List}
 use lib.ListN.{length}
-use Rattle.model.specs.Traversal.{Letter, down, up, first, second}
 use Rattle.model.specs.Record.{recordLength, layOut}
 use Rattle.model.specs.Calls.{front}
 use Rattle.words.specs.Word.{wordLabels, wordBits}
 use Rattle.areas.specs.Area.{region}
-
-unfoldable pub toLetter : ℕ → Letter
-toLetter x = cond (eqb x 1) down (cond (eqb x 2) up (cond (eqb x 3) first second))
-
-unfoldable pub lettersIn : ℕ → List ℕ → List Letter
-lettersIn n w = map toLetter (region (3 * n) n w)
+use Rattle.letters.specs.Letters.{lettersIn}
 
 unfoldable pub bitsIn : ℕ → List ℕ → List ℕ
 bitsIn n w = region (8 * n) n w

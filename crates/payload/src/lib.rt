@@ -11,7 +11,8 @@ ghost use Rattle.model.specs.Record.{digits, pack, le16, payload, recordLength,
 ghost use Rattle.model.specs.LabelledTree.{star};
 ghost use Rattle.words.specs.Word.{valid, startsUp, startsSecond};
 ghost use Rattle.areas.specs.Area.{region, placed};
-ghost use Rattle.payload.specs.Payload.{lettersIn, bitsIn, labelsIn, LabelsPut, BitsPut, LaidOut};
+ghost use Rattle.letters.specs.Letters.{lettersIn};
+ghost use Rattle.payload.specs.Payload.{bitsIn, labelsIn, LabelsPut, BitsPut, LaidOut};
 ghost use Rattle.payload.specs.Passes.{Scanned, Stepped, downBefore, Bitted, BitStepped};
 
 // 1 where second stands at position i of the word, 0 elsewhere and past its end.

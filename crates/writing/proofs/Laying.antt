@@ -1,6 +1,5 @@
 -- The record of a plan that fits, from the word in the work area.
 --
---   letters-back         codes become the letters they stand for
 --   valid-two            a word that is valid for a kind is valid for kind 2
 --   labels-asked, bits-asked, bytes-asked   what the three passes of the payload ask
 --   laid                 what they leave
@@ -8,12 +7,12 @@ use Prim.Native.Nat.{ℕ, _+_, _*_, _/_, _%_, _≤_, _<_}
 use native.Mathlib.Omega.{arith}
 use mathlib.Core.Path.{_≡_, refl, sym, ap, subst, _∙_}
 use mathlib.Core.Bool.{Bool, true, false, not, _&&_, _||_, cond}
-use mathlib.Core.List.{List, [], _∷_, map}
+use mathlib.Core.List.{List, []}
 use lib.Dec.{eqb}
-use lib.ListN.{length, length-map}
+use lib.ListN.{length}
 use Rattle.model.specs.Numbers.{allBelow}
 use Rattle.model.specs.Map.{isKind, dartCountFits}
-use Rattle.model.specs.Traversal.{Letter, down, up, first, second, code}
+use Rattle.model.specs.Traversal.{Letter}
 use Rattle.model.specs.Record.{recordLength, labelBase, layOut}
 use Rattle.model.specs.Calls.{front}
 use Rattle.model.proofs.Booleans.{and-left, and-right}
@@ -21,26 +20,11 @@ use Rattle.model.proofs.Fitness.{count-parts}
 use Rattle.words.specs.Word.{nested, bareLeaf, rootDegree, valid, wordBits, wordLabels}
 use Rattle.decoding.proofs.Sizes.{labels-bound}
 use Rattle.decoding.proofs.Bounds.{bits-below}
-use Rattle.areas.specs.Area.{region}
-use Rattle.areas.proofs.Regions.{length-region}
-use Rattle.payload.specs.Payload.{toLetter, lettersIn, bitsIn, labelsIn, LabelsPut, BitsPut, LaidOut}
+use Rattle.letters.proofs.Word.{length-letters}
+use Rattle.letters.specs.Letters.{lettersIn}
+use Rattle.payload.specs.Payload.{bitsIn, labelsIn, LabelsPut, BitsPut, LaidOut}
 use Rattle.packing.proofs.Head.{kind-cases}
 use Rattle.writing.specs.Early.{Ready, Laid}
-
-letter-back : (l : Letter) → toLetter (code l) ≡ l
-unfolding toLetter
-letter-back down = refl
-letter-back up = refl
-letter-back first = refl
-letter-back second = refl
-
-all-back : (v : List Letter) → map toLetter (map code v) ≡ v
-all-back [] = refl
-all-back (l ∷ v) = rw (letter-back l, all-back v)
-
-pub letters-back : (n : ℕ) (w : List ℕ) (v : List Letter) → region (3 * n) n w ≡ map code v → lettersIn n w ≡ v
-unfolding lettersIn
-letters-back n w v e = rw e (all-back v)
 
 pub valid-two : (k : ℕ) (v : List Letter) → valid k v ≡ true → valid 2 v ≡ true
 unfolding valid isKind
@@ -56,8 +40,7 @@ base = kind-cases (λ (k : ℕ). labelBase k ≡ 1 + k) refl refl
 
 module _ (n k : ℕ) (w out : List ℕ) (r : Ready n k w out) where
   size : length (lettersIn n w) ≡ n
-  unfolding lettersIn
-  size = length-map (region (3 * n) n w) toLetter ∙ length-region (3 * n) n w (let z = r .room in omega arith)
+  size = length-letters n w (let z = r .room in omega arith)
 
   abbrev v : List Letter
   v = lettersIn n w

@@ -27,10 +27,10 @@ use Rattle.lists.proofs.Calls.{not-refused}
 use Rattle.fitting.specs.declared.Verdict.{Verdict}
 use Rattle.fitting.specs.declared.Verdict.the-variants as verdict
 use Rattle.fitting.specs.Judged.{lateRefusal, verdictOf, Judged}
-use Rattle.payload.specs.Payload.{lettersIn}
+use Rattle.letters.specs.Letters.{lettersIn}
 use Rattle.writing.specs.Early.{earlyRefusals, earlyRefusal, Ready, Laid, Made}
 use Rattle.writing.proofs.Refusing.{refusal-split}
-use Rattle.writing.proofs.Laying.{letters-back}
+use Rattle.letters.proofs.Word.{letters-code}
 
 -- ---- an early refusal is not 10
 
@@ -120,7 +120,7 @@ module _ (k : ℕ) (p : Plan) (w out : List ℕ) where
         fits = not-refused k p (length w) (length out) unrefused .is-fit
 
         letters : lettersIn (darts p) w₁ ≡ word p
-        letters = letters-back (darts p) w₁ (word p) (j .letters late)
+        letters = letters-code (darts p) w₁ (word p) (j .letters late)
 
         pub to-lay : 16 * darts p ≤ length w → recordLength k (edges (p .rotation)) ≤ length out → Ready (darts p) k w₁ out
         unfolding edges

@@ -16,7 +16,7 @@ use Rattle.model.specs.Map.{Plan, darts, edges, isKind, dartCountFits}
 use Rattle.model.specs.Record.{recordLength, layOut}
 use Rattle.model.specs.Calls.{front, writeAnswer, writtenOutput}
 use Rattle.words.specs.Word.{valid, wordBits, wordLabels}
-use Rattle.payload.specs.Payload.{lettersIn}
+use Rattle.letters.specs.Letters.{lettersIn}
 
 unfoldable pub earlyRefusals : ℕ → Plan → ℕ → ℕ → List Refusal
 earlyRefusals k p workLength outLength =

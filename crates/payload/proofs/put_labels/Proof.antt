@@ -1,7 +1,7 @@
 use native.Mathlib.Omega.{arith}
 use mathlib.Core.Path.{_≡_, refl, _∙_}
 use lib.ListN.{length}
-use Rattle.payload.specs.Payload.{lettersIn}
+use Rattle.letters.specs.Letters.{lettersIn}
 use Rattle.payload.specs.Passes.{Scanned}
 use Rattle.payload.proofs.Labelling.{scan-start, scan-next, scan-end}
 use borrow.Author.Needs.{needs}
