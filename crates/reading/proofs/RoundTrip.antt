@@ -4,7 +4,7 @@
 --   wrote-fit, wrote-bytes   a call that wrote was handed a fit plan, and the bytes are its record
 --   read-written         reading what writing wrote answers m and gives the standard plan
 --   write-fit            writing a fit plan with room gives its record
---   planIn m out         the plan in the first 2m entries, root 0
+--   rooted rot, planIn m out   the plan with this rotation, or with the first 2m entries, and root 0
 --   given-plan           what reading gave is fit for the record's kind, and the record is its record
 --   written-read         writing what reading gave, in the record's kind, gives the same bytes
 use Prim.Native.Nat.{ℕ, _*_, _≤_}

@@ -1,0 +1,79 @@
+//! The plans that are timed.
+
+use second_coder::grow::{grow, Growth, Rng, Shape};
+use second_coder::plan::has_degree_one;
+
+/// Makes a plan of about so many trails, never more.
+pub type Maker = fn(usize, &mut Rng) -> Growth;
+
+/// What a plan looks like: its name in the table and its maker.
+pub const SHAPES: [(&str, Maker); 6] = [
+    ("tree, few more", tree),
+    ("triangles", triangles),
+    ("parallel", parallel),
+    ("long path", path),
+    ("mixed", |m, rng| grow(Shape::Mixed, m, rng)),
+    ("two-connected", |m, rng| grow(Shape::TwoConnected, m, rng)),
+];
+
+/// A plan: its turning order, renumbered at random, and the kinds that take it.
+pub struct Plan {
+    pub order: Vec<u16>,
+    pub start: u16,
+    pub kinds: &'static [u16],
+}
+
+/// A plan of this shape with m trails, 16 or more.
+pub fn plan(shape: Maker, m: usize, rng: &mut Rng) -> Plan {
+    let mut growth = shape(m, rng);
+    while growth.trails() < m {
+        growth.divide(rng.below(growth.trails()));
+    }
+    let kinds: &[u16] = if has_degree_one(growth.order()) {
+        &[2]
+    } else {
+        &[1, 2]
+    };
+    Plan {
+        order: growth.renumbered(rng),
+        start: rng.below(2 * m) as u16,
+        kinds,
+    }
+}
+
+/// A tree, and one trail in sixteen within an area of it.
+fn tree(m: usize, rng: &mut Rng) -> Growth {
+    let mut growth = Growth::stick();
+    while growth.trails() < m - m / 16 {
+        growth.hang(rng.below(growth.darts()));
+    }
+    while growth.trails() < m {
+        let reach = 1 + rng.below(20);
+        growth.join_on(rng.below(growth.darts()), reach);
+    }
+    growth
+}
+
+/// Triangles within triangles.
+fn triangles(m: usize, rng: &mut Rng) -> Growth {
+    grow(Shape::Triangles, m, rng)
+}
+
+/// A short round, every trail of it many times.
+fn parallel(m: usize, rng: &mut Rng) -> Growth {
+    let mut growth = Growth::round(4);
+    while growth.trails() < m {
+        growth.join_on(rng.below(growth.darts()), 1);
+    }
+    growth
+}
+
+/// One path from end to end.
+fn path(m: usize, _: &mut Rng) -> Growth {
+    let mut growth = Growth::stick();
+    let mut end = 1;
+    while growth.trails() < m {
+        end = growth.hang(end);
+    }
+    growth
+}

@@ -1,0 +1,67 @@
+/* Writes three plans, reads one back, shelves them, fetches one and walks the shelf.
+   Memory: three lent buffers, sized by the header's macros for plans of at most 8 trails. */
+#include "jurnadel.h"
+#include <stdio.h>
+
+#define MOST 8
+
+static uint16_t work[JURNADEL_WORK_LEN(MOST)];
+static uint16_t order[2 * MOST];
+static uint8_t record[JURNADEL_RECORD_LEN(2, MOST)];
+static uint8_t shelf[64];
+
+static void show(const uint8_t *bytes, size_t length) {
+    for (size_t i = 0; i < length; i++)
+        printf(" %02X", bytes[i]);
+    printf("\n");
+}
+
+int main(void) {
+    static const struct { const char *name; uint16_t kind; size_t darts; uint16_t order[6]; } plans[] = {
+        {"triangle", 1, 6, {5, 2, 1, 4, 3, 0}},
+        {"three parallel trails", 1, 6, {5, 2, 4, 0, 1, 3}},
+        {"dead end inside a pair", 2, 6, {4, 2, 1, 0, 3, 5}},
+        {"triangle, numbered otherwise", 1, 6, {3, 4, 5, 0, 1, 2}},
+        {"trails that cross", 2, 6, {3, 2, 4, 5, 1, 0}},
+    };
+    size_t used = 0, number, at, length;
+    uint16_t record_length, trails;
+    int32_t characteristic;
+
+    for (size_t i = 0; i < sizeof plans / sizeof plans[0]; i++) {
+        uint16_t refusal = jurnadel_write(plans[i].order, plans[i].darts, 0, plans[i].kind, work, sizeof work / sizeof work[0],
+                                          record, sizeof record, &record_length, &characteristic);
+        if (refusal != 0) {
+            printf("%s: refusal %d, characteristic %d\n", plans[i].name, (int)refusal, (int)characteristic);
+            continue;
+        }
+        size_t before = used;
+        refusal = jurnadel_shelve(record, record_length, shelf, sizeof shelf, used, &number, &used);
+        if (refusal != 0) {
+            printf("%s: refusal %d\n", plans[i].name, (int)refusal);
+            return 1;
+        }
+        printf("%s: record %d, %s:", plans[i].name, (int)number, used > before ? "new" : "already there");
+        show(record, record_length);
+    }
+
+    if (jurnadel_fetch(shelf, sizeof shelf, used, 1, &at, &length) != 0)
+        return 1;
+    printf("fetched 1:");
+    show(shelf + at, length);
+    if (jurnadel_read(shelf + at, length, work, sizeof work / sizeof work[0], order, sizeof order / sizeof order[0], &trails) != 0)
+        return 1;
+    printf("read 1: %d trails, order", (int)trails);
+    for (size_t d = 0; d < 2 * (size_t)trails; d++)
+        printf(" %d", (int)order[d]);
+    printf("\n");
+
+    if (jurnadel_walk_begin(shelf, sizeof shelf, used, 1, &at) != 0)
+        return 1;
+    for (number = 1; (length = jurnadel_walk_step(shelf, sizeof shelf, used, at)) != 0; at += length, number++) {
+        printf("walked to %d:", (int)number);
+        show(shelf + at, length);
+    }
+    printf("none left; %d bytes used\n", (int)used);
+    return 0;
+}

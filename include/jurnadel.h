@@ -1,0 +1,175 @@
+/*
+ * jurnadel.h: trail plans, their records and shelves, for C and C++.
+ *
+ * Link with libjurnadel.a (x86-64). The library has no state and no heap, and calls
+ * nothing but memset, memcpy, memmove and memcmp, which the compiler makes of loops:
+ * it is re-entrant and can be linked into firmware that supplies these four.
+ *
+ * Words. A trail is an edge, a trail end a dart, a junction a vertex, an area a face.
+ * A plan has m trails and 2m darts; darts 2e and 2e+1 are the two ends of trail e. The
+ * turning order is a list of 2m numbers: entry d is the next dart counterclockwise
+ * around d's junction. The start is one dart. docs/FORMAT.md has the record to the bit.
+ *
+ * Lent buffers. A list or a run of bytes is handed over as a pointer and a number of
+ * entries. A caller must see to this, since nothing checks it:
+ *   - each pointer is valid for as many entries as its number says, and aligned; where
+ *     the number is 0 it need not point at anything, but must not be null;
+ *   - each out-number's pointer is valid;
+ *   - no buffer or out-number that a call writes overlaps another one of that call.
+ * The content of buffers is free: every call is total, on any content and any lengths.
+ *
+ * Answers. Each call but the sizes and jurnadel_walk_step returns 0 (done) or the number
+ * of one refusal: the first of its list whose condition holds. A refused call leaves
+ * its output and its shelf untouched and sets its out-numbers as said there. Only the
+ * entries that a call says it fills are changed; the work area is zeros on every return,
+ * refused or not.
+ *
+ * What is proved. For each exported function, machine-checked: it ends, stays within what
+ * is lent, and its returned number, out-numbers, output, shelf and work area are those of
+ * the definitions in crates/model/specs, for every input. docs/PROOF.md lists the theorems.
+ * What is not proved: the compiler's back end (LLVM) and the assembler, that these C
+ * declarations agree with the Rattle functions (tests/ runs all of them), and the
+ * caller's side of "Lent buffers" above.
+ */
+#ifndef JURNADEL_H
+#define JURNADEL_H
+
+#include <stddef.h>
+#include <stdint.h>
+
+#ifdef __cplusplus
+extern "C" {
+#endif
+
+/* ---- Sizes ------------------------------------------------------------------------ */
+
+/* The most trails that a plan has, and the most darts. */
+#define JURNADEL_MOST_TRAILS 4096
+#define JURNADEL_MOST_DARTS (2 * JURNADEL_MOST_TRAILS)
+
+/* The work area, in 16-bit numbers, for a plan or record of m trails. */
+#define JURNADEL_WORK_LEN(m) ((size_t)32 * (m))
+
+/* The length of a record, in bytes, of this kind (1 or 2) and m trails (1 to 4,096). */
+#define JURNADEL_RECORD_LEN(kind, m) \
+    ((size_t)6 + ((kind) == 1 ? (3 * (size_t)(m) + 7) / 8 : (2 * (size_t)(m) + 7) / 8 + ((size_t)(m) + 4) / 5))
+
+/* Buffers that serve every plan and every record: 262,144, 1,850 and 16,384 bytes. */
+#define JURNADEL_MOST_WORK_LEN JURNADEL_WORK_LEN(JURNADEL_MOST_TRAILS)
+#define JURNADEL_MOST_RECORD_LEN JURNADEL_RECORD_LEN(2, JURNADEL_MOST_TRAILS)
+
+/* The same as functions, for callers that know kind and m only when they run. */
+
+/* 32 * trails. */
+size_t jurnadel_work_length(uint16_t trails);
+
+/* The record's length, or 0 where there is none: the kind is not 1 or 2, or trails is 0 or above 4,096. */
+uint16_t jurnadel_record_length(uint16_t kind, uint16_t trails);
+
+/* ---- Refusals, in checking order -------------------------------------------------- */
+
+enum {
+    JURNADEL_DONE = 0,           /* not refused */
+    JURNADEL_RECORD_CUT = 1,     /* The record has fewer than 6 bytes, or its length field isn't the number of bytes lent. */
+    JURNADEL_KIND = 2,           /* The kind is not 1 or 2. */
+    JURNADEL_COUNT = 3,          /* The dart count is 0, odd or above 8,192; in a record, m is 0 or above 4,096. */
+    JURNADEL_START = 4,          /* The start is not below the dart count. */
+    JURNADEL_LENGTH = 5,         /* The length is not the one for this kind and m. */
+    JURNADEL_ENTRY = 6,          /* An entry of the turning order is not below the dart count, or two entries are equal. */
+    JURNADEL_WORK_AREA = 7,      /* The work area (16-bit numbers) is shorter than 32 x m. */
+    JURNADEL_OUTPUT = 8,         /* The output is shorter than the record, or than 2m entries. */
+    JURNADEL_NOT_CONNECTED = 9,  /* The plan is not connected. */
+    JURNADEL_NOT_PLANAR = 10,    /* It is not planar; this answer also gives the characteristic, as a signed number. */
+    JURNADEL_LOOP = 11,          /* It has a loop. */
+    JURNADEL_DEGREE_ONE = 12,    /* Kind 1, and a junction has degree one. */
+    JURNADEL_NO_FIT_PLAN = 13,   /* No fit plan of this kind has this record. */
+    JURNADEL_SHELF_BROKEN = 14,  /* The used length exceeds the shelf, or the used bytes are not records end to end that each pass 1, 2, 3 and 5. */
+    JURNADEL_NO_SUCH_RECORD = 15,/* The shelf holds no record with this number, counting from 0. */
+    JURNADEL_SHELF_FULL = 16     /* The record isn't on the shelf and exceeds the bytes past the used length. */
+};
+
+/* ---- Plans and records ------------------------------------------------------------ */
+
+/*
+ * Writes the record of a plan.
+ *
+ *   order, darts         the turning order, darts = 2m entries
+ *   start                the start dart
+ *   kind                 1: no loop, no junction of degree one; 2: no loop
+ *   work, work_len       JURNADEL_WORK_LEN(m) numbers or more, any content; zeros on return
+ *   output, output_len   JURNADEL_RECORD_LEN(kind, m) bytes or more; the first *length are filled
+ *   length               the record's length; 0 if refused
+ *   characteristic       of refusal 10: junctions minus trails plus areas; else 0
+ *
+ * Refusals: 2, 3, 4, 6, 7, 8, 9, 10, 11, 12. Two plans get equal bytes in one kind exactly
+ * when one is the other with its darts renumbered, start to start.
+ */
+uint16_t jurnadel_write(const uint16_t *order, size_t darts, uint16_t start, uint16_t kind,
+                        uint16_t *work, size_t work_len, uint8_t *output, size_t output_len,
+                        uint16_t *length, int32_t *characteristic);
+
+/*
+ * Reads the plan of a record, in standard numbering: its start is 0.
+ *
+ *   record, record_len   the record, all of it and no more
+ *   work, work_len       JURNADEL_WORK_LEN(m) numbers or more, any content; zeros on return
+ *   order, order_len     2m entries or more; the first 2m are filled with the turning order
+ *   trails               m; 0 if refused
+ *
+ * Refusals: 1, 2, 3, 5, 7, 8, 13. Writing the plan in the record's kind gives the record.
+ */
+uint16_t jurnadel_read(const uint8_t *record, size_t record_len,
+                       uint16_t *work, size_t work_len, uint16_t *order, size_t order_len,
+                       uint16_t *trails);
+
+/* ---- Shelves ---------------------------------------------------------------------- */
+
+/*
+ * A shelf is a lent run of bytes with a used length; the used bytes are records end to
+ * end, and records are numbered from 0. These calls look at heads and lengths only: they
+ * take a record that cannot be read like any other.
+ */
+
+/*
+ * Shelves a record. If equal bytes are on the shelf, *number is the first such record's
+ * and nothing is stored; else the record is put just past the used bytes.
+ *
+ *   record, record_len   the record
+ *   shelf, shelf_len     the whole shelf
+ *   used                 its used length
+ *   number               the record's number; 0 if refused
+ *   new_used             the used length now; used if refused or already there
+ *
+ * Refusals: 1, 2, 3, 5, 14, 16.
+ */
+uint16_t jurnadel_shelve(const uint8_t *record, size_t record_len, uint8_t *shelf, size_t shelf_len,
+                         size_t used, size_t *number, size_t *new_used);
+
+/*
+ * Finds a record: it is shelf[*at] .. shelf[*at + *length - 1]. If refused, both are 0.
+ * Refusals: 14, 15.
+ */
+uint16_t jurnadel_fetch(const uint8_t *shelf, size_t shelf_len, size_t used, size_t number,
+                        size_t *at, size_t *length);
+
+/*
+ * Begins a walk at a record: *at is its place. If refused, *at is used, where no record
+ * stands. Refusals: 14, 15.
+ */
+uint16_t jurnadel_walk_begin(const uint8_t *shelf, size_t shelf_len, size_t used, size_t number,
+                             size_t *at);
+
+/*
+ * A step of a walk: the length of the record that stands at place at, or 0 if none is
+ * left, or none that passes 1, 2, 3 and 5 stands there. The next place is at plus this.
+ *
+ *     for (; (length = jurnadel_walk_step(shelf, shelf_len, used, at)) != 0; at += length)
+ *         ...                        the record is shelf + at, length bytes
+ */
+size_t jurnadel_walk_step(const uint8_t *shelf, size_t shelf_len, size_t used, size_t at);
+
+#ifdef __cplusplus
+}
+#endif
+
+#endif

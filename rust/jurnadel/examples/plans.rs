@@ -1,0 +1,46 @@
+//! Writes three plans, reads one back, shelves them, fetches one and walks the shelf; prints what `examples/c/plans.c` does.
+
+use jurnadel::{fetch, plan_of, record_of, shelve, walk, Refusal};
+
+fn hex(bytes: &[u8]) -> String {
+    bytes.iter().map(|byte| format!(" {byte:02X}")).collect()
+}
+
+fn main() -> Result<(), Refusal> {
+    let plans: [(&str, u16, [u16; 6]); 5] = [
+        ("triangle", 1, [5, 2, 1, 4, 3, 0]),
+        ("three parallel trails", 1, [5, 2, 4, 0, 1, 3]),
+        ("dead end inside a pair", 2, [4, 2, 1, 0, 3, 5]),
+        ("triangle, numbered otherwise", 1, [3, 4, 5, 0, 1, 2]),
+        ("trails that cross", 2, [3, 2, 4, 5, 1, 0]),
+    ];
+    let mut shelf = [0; 64];
+    let mut used = 0;
+
+    for (name, kind, order) in plans {
+        let record = match record_of(&order, 0, kind) {
+            Ok(record) => record,
+            Err(refusal) => {
+                let characteristic = refusal.characteristic().unwrap_or(0);
+                println!("{name}: refusal {}, characteristic {characteristic}", refusal.number());
+                continue;
+            }
+        };
+        let shelved = shelve(&record, &mut shelf, used)?;
+        let news = if shelved.used > used { "new" } else { "already there" };
+        println!("{name}: record {}, {news}:{}", shelved.number, hex(&record));
+        used = shelved.used;
+    }
+
+    let record = fetch(&shelf, used, 1)?;
+    println!("fetched 1:{}", hex(record));
+    let order = plan_of(record)?;
+    let entries: String = order.iter().map(|entry| format!(" {entry}")).collect();
+    println!("read 1: {} trails, order{entries}", order.len() / 2);
+
+    for (number, record) in (1..).zip(walk(&shelf, used, 1)?) {
+        println!("walked to {number}:{}", hex(record));
+    }
+    println!("none left; {used} bytes used");
+    Ok(())
+}

@@ -1,0 +1,286 @@
+//! Trail plans, their records and shelves: safe functions over the proved library `libjurnadel.a`.
+//!
+//! A plan of m trails (edges) has 2m darts (trail ends); darts 2e and 2e+1 are the two ends of trail e. Its *turning
+//! order* is a list of 2m numbers: entry d is the next dart counterclockwise around d's junction (vertex). Its *start* is
+//! one dart. A record is the plan in about 3 bits a trail (kind 1) or 3.6 (kind 2); a shelf is records end to end.
+//!
+//! [`write()`], [`read()`], [`shelve()`], [`fetch()`] and [`walk()`] are the library's calls on lent buffers, one for one:
+//! no allocation, no state. [`record_of()`] and [`plan_of()`] allocate what they need.
+//!
+//! ```
+//! // Three parallel trails.
+//! let record = jurnadel::record_of(&[5, 2, 4, 0, 1, 3], 0, 1)?;
+//! assert_eq!(record, [0x08, 0, 0x01, 0, 0x03, 0, 0xD2, 0x80]);
+//!
+//! // The same plan, numbered in the order of the contour walk from start 0.
+//! let order = jurnadel::plan_of(&record)?;
+//! assert_eq!(jurnadel::record_of(&order, 0, 1)?, record);
+//! # Ok::<(), jurnadel::Refusal>(())
+//! ```
+//!
+//! The library's functions are proved for every input. Not proved: the compiler's back end, this crate and its C
+//! declarations ([`sys`]). The proved calls need lent buffers that don't overlap; Rust's borrows see to that.
+
+#![warn(missing_docs)]
+
+mod refusal;
+pub mod sys;
+
+pub use refusal::Refusal;
+
+/// The most trails that a plan has.
+pub const MOST_TRAILS: u16 = 4096;
+
+/// The most bytes that a record has.
+pub const MOST_RECORD_LENGTH: usize = 1850;
+
+/// Done, or the refusal with this number.
+fn settle<T>(refusal: u16, characteristic: i32, value: T) -> Result<T, Refusal> {
+    match refusal {
+        0 => Ok(value),
+        number => Err(Refusal::new(number, characteristic)),
+    }
+}
+
+/// The work area, in 16-bit numbers, for a plan or record of this many trails.
+///
+/// ```
+/// assert_eq!(jurnadel::work_length(3), 96);
+/// ```
+pub fn work_length(trails: u16) -> usize {
+    unsafe { sys::jurnadel_work_length(trails) }
+}
+
+/// The length of a record of this kind with this many trails. Nothing where there is none: another kind than 1 or 2, no
+/// trail, or more than [`MOST_TRAILS`].
+///
+/// ```
+/// assert_eq!(jurnadel::record_length(1, 4096), Some(1542));
+/// assert_eq!(jurnadel::record_length(2, 4096), Some(1850));
+/// assert_eq!(jurnadel::record_length(3, 1), None);
+/// ```
+pub fn record_length(kind: u16, trails: u16) -> Option<usize> {
+    match unsafe { sys::jurnadel_record_length(kind, trails) } {
+        0 => None,
+        length => Some(usize::from(length)),
+    }
+}
+
+/// Writes the record of a plan into the first bytes of `output`, and returns its length.
+///
+/// `work` has [`work_length`] numbers or more, of any content; it is zeros on return. Meets refusals 2, 3, 4, 6 to 12; a
+/// refused call leaves `output` untouched.
+///
+/// ```
+/// let mut work = [0; 64];
+/// let mut output = [0; 7];
+/// assert_eq!(jurnadel::write(&[3, 2, 1, 0], 0, 1, &mut work, &mut output), Ok(7));
+/// assert_eq!(output, [0x07, 0, 0x01, 0, 0x02, 0, 0xC8]);
+/// ```
+pub fn write(order: &[u16], start: u16, kind: u16, work: &mut [u16], output: &mut [u8]) -> Result<usize, Refusal> {
+    let (mut length, mut characteristic) = (0, 0);
+    let refusal = unsafe {
+        sys::jurnadel_write(
+            order.as_ptr(),
+            order.len(),
+            start,
+            kind,
+            work.as_mut_ptr(),
+            work.len(),
+            output.as_mut_ptr(),
+            output.len(),
+            &mut length,
+            &mut characteristic,
+        )
+    };
+    settle(refusal, characteristic, usize::from(length))
+}
+
+/// Reads a record's plan into the first 2m entries of `order`, in standard numbering with start 0, and returns m.
+///
+/// `work` has [`work_length`] numbers or more, of any content; it is zeros on return. Meets refusals 1, 2, 3, 5, 7, 8, 13;
+/// a refused call leaves `order` untouched.
+///
+/// ```
+/// let mut work = [0; 64];
+/// let mut order = [0; 4];
+/// assert_eq!(jurnadel::read(&[0x07, 0, 0x01, 0, 0x02, 0, 0xC8], &mut work, &mut order), Ok(2));
+/// assert_eq!(order, [3, 2, 1, 0]);
+/// ```
+pub fn read(record: &[u8], work: &mut [u16], order: &mut [u16]) -> Result<usize, Refusal> {
+    let mut trails = 0;
+    let refusal = unsafe {
+        sys::jurnadel_read(
+            record.as_ptr(),
+            record.len(),
+            work.as_mut_ptr(),
+            work.len(),
+            order.as_mut_ptr(),
+            order.len(),
+            &mut trails,
+        )
+    };
+    settle(refusal, 0, usize::from(trails))
+}
+
+/// The answer of [`shelve()`].
+#[derive(Debug, Clone, Copy, PartialEq, Eq)]
+pub struct Shelved {
+    /// The record's number on the shelf, counting from 0.
+    pub number: usize,
+    /// The used length now: as before if equal bytes were already there.
+    pub used: usize,
+}
+
+/// Shelves a record on the shelf whose first `used` bytes are used: finds the first equal one, or puts it just past the
+/// used bytes.
+///
+/// Meets refusals 1, 2, 3, 5, 14, 16; a refused call leaves the shelf untouched.
+///
+/// ```
+/// let record = jurnadel::record_of(&[0, 1], 0, 2)?;
+/// let mut shelf = [0; 20];
+/// let first = jurnadel::shelve(&record, &mut shelf, 0)?;
+/// assert_eq!(first, jurnadel::Shelved { number: 0, used: 8 });
+/// assert_eq!(jurnadel::shelve(&record, &mut shelf, first.used)?, first);
+/// # Ok::<(), jurnadel::Refusal>(())
+/// ```
+pub fn shelve(record: &[u8], shelf: &mut [u8], used: usize) -> Result<Shelved, Refusal> {
+    let mut shelved = Shelved { number: 0, used };
+    let refusal = unsafe {
+        sys::jurnadel_shelve(
+            record.as_ptr(),
+            record.len(),
+            shelf.as_mut_ptr(),
+            shelf.len(),
+            used,
+            &mut shelved.number,
+            &mut shelved.used,
+        )
+    };
+    settle(refusal, 0, shelved)
+}
+
+/// Fetches a record: the part of the lent shelf that it is.
+///
+/// Meets refusals 14, 15.
+///
+/// ```
+/// let record = jurnadel::record_of(&[0, 1], 0, 2)?;
+/// assert_eq!(jurnadel::fetch(&record, record.len(), 0)?, record);
+/// assert_eq!(jurnadel::fetch(&record, record.len(), 1).unwrap_err().number(), 15);
+/// # Ok::<(), jurnadel::Refusal>(())
+/// ```
+pub fn fetch(shelf: &[u8], used: usize, number: usize) -> Result<&[u8], Refusal> {
+    let (mut at, mut length) = (0, 0);
+    let refusal = unsafe { sys::jurnadel_fetch(shelf.as_ptr(), shelf.len(), used, number, &mut at, &mut length) };
+    settle(refusal, 0, ())?;
+    Ok(&shelf[at..at + length])
+}
+
+/// A walk along a shelf, made by [`walk()`]; it yields the records, each a part of the lent shelf.
+#[derive(Debug, Clone)]
+pub struct Walk<'a> {
+    shelf: &'a [u8],
+    used: usize,
+    at: usize,
+}
+
+impl Walk<'_> {
+    /// The place of the next record on the shelf, in bytes.
+    pub fn place(&self) -> usize {
+        self.at
+    }
+}
+
+impl<'a> Iterator for Walk<'a> {
+    type Item = &'a [u8];
+
+    fn next(&mut self) -> Option<&'a [u8]> {
+        let Walk { shelf, used, at } = *self;
+        let length = unsafe { sys::jurnadel_walk_step(shelf.as_ptr(), shelf.len(), used, at) };
+        if length == 0 {
+            return None;
+        }
+        self.at = at + length;
+        Some(&shelf[at..at + length])
+    }
+}
+
+impl std::iter::FusedIterator for Walk<'_> {}
+
+/// Begins a walk at a record of this number.
+///
+/// Meets refusals 14, 15; so a walk from the number just past the last record is 15.
+///
+/// ```
+/// let pair = jurnadel::record_of(&[3, 2, 1, 0], 0, 1)?;
+/// let trail = jurnadel::record_of(&[0, 1], 0, 2)?;
+/// let shelf = [&pair[..], &trail[..]].concat();
+/// let records: Vec<&[u8]> = jurnadel::walk(&shelf, shelf.len(), 0)?.collect();
+/// assert_eq!(records, [pair, trail]);
+/// # Ok::<(), jurnadel::Refusal>(())
+/// ```
+pub fn walk(shelf: &[u8], used: usize, number: usize) -> Result<Walk<'_>, Refusal> {
+    let mut at = 0;
+    let refusal = unsafe { sys::jurnadel_walk_begin(shelf.as_ptr(), shelf.len(), used, number, &mut at) };
+    settle(refusal, 0, Walk { shelf, used, at })
+}
+
+/// A walk of whatever records stand one after another from this place of the shelf, whether or not the whole shelf is
+/// sound. It ends at the first place where none stands.
+///
+/// ```
+/// let mut shelf = jurnadel::record_of(&[0, 1], 0, 2)?;
+/// shelf.push(99);
+/// assert_eq!(jurnadel::walk(&shelf, shelf.len(), 0).unwrap_err().number(), 14);
+/// let mut walk = jurnadel::walk_from(&shelf, shelf.len(), 0);
+/// assert!(walk.next().is_some() && walk.next().is_none());
+/// assert_eq!(walk.place(), 8);
+/// # Ok::<(), jurnadel::Refusal>(())
+/// ```
+pub fn walk_from(shelf: &[u8], used: usize, at: usize) -> Walk<'_> {
+    Walk { shelf, used, at }
+}
+
+/// The number of trails of a plan with this turning order, as far as the library asks: at most one more than the most.
+fn trails_of(order: &[u16]) -> u16 {
+    (order.len() / 2).min(usize::from(MOST_TRAILS) + 1) as u16
+}
+
+/// The record of a plan, by [`write()`] with buffers of its own.
+///
+/// ```
+/// assert_eq!(jurnadel::record_of(&[0, 1], 0, 2)?, [0x08, 0, 0x02, 0, 0x01, 0, 0x80, 0xA2]);
+/// assert_eq!(jurnadel::record_of(&[0, 1], 0, 1).unwrap_err().number(), 12);
+/// assert_eq!(jurnadel::record_of(&[1, 0], 0, 2).unwrap_err().number(), 11);
+/// # Ok::<(), jurnadel::Refusal>(())
+/// ```
+pub fn record_of(order: &[u16], start: u16, kind: u16) -> Result<Vec<u8>, Refusal> {
+    let trails = trails_of(order);
+    let mut work = vec![0; work_length(trails)];
+    let mut output = vec![0; record_length(kind, trails).unwrap_or(0)];
+    let length = write(order, start, kind, &mut work, &mut output)?;
+    output.truncate(length);
+    Ok(output)
+}
+
+/// The turning order of a record's plan, in standard numbering with start 0, by [`read()`] with buffers of its own.
+///
+/// ```
+/// let order = jurnadel::plan_of(&[0x08, 0, 0x01, 0, 0x03, 0, 0xE2, 0x00])?;
+/// assert_eq!(order, [5, 2, 1, 4, 3, 0]);
+/// assert_eq!(jurnadel::plan_of(&[0x07, 0, 0x01, 0, 0x02, 0, 0xCC]).unwrap_err().number(), 13);
+/// # Ok::<(), jurnadel::Refusal>(())
+/// ```
+pub fn plan_of(record: &[u8]) -> Result<Vec<u16>, Refusal> {
+    let trails = match record.get(4..6) {
+        Some(field) => u16::from_le_bytes([field[0], field[1]]).min(MOST_TRAILS),
+        None => 0,
+    };
+    let mut work = vec![0; work_length(trails)];
+    let mut order = vec![0; 2 * usize::from(trails)];
+    let trails = read(record, &mut work, &mut order)?;
+    order.truncate(2 * trails);
+    Ok(order)
+}

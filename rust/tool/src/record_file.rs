@@ -1,0 +1,66 @@
+//! Record files: a record as hexadecimal text or, raw, as its bytes.
+//!
+//! In text a record is one line of byte pairs, with spaces as one likes; `#` begins a comment, blank lines are skipped.
+
+use crate::plan_file::bytes_of;
+use crate::report::Problem;
+
+/// The record of a file, `-` for standard input, and the line that it stands in: none where the file is raw.
+pub fn load(path: &str, raw: bool) -> Result<(Vec<u8>, Option<usize>), Problem> {
+    let bytes = bytes_of(path)?;
+    if raw {
+        return Ok((bytes, None));
+    }
+    let text = String::from_utf8(bytes).map_err(|_| Problem::file(path, "not a record in hexadecimal; --raw takes bytes"))?;
+    let (record, line) = parse(&text).map_err(|(line, what)| Problem::file(format!("{path}:{line}"), what))?;
+    Ok((record, Some(line)))
+}
+
+/// The record of a text and its line, or a line and what is wrong there.
+fn parse(text: &str) -> Result<(Vec<u8>, usize), (usize, String)> {
+    let mut record = None;
+    for (number, line) in (1..).zip(text.lines()) {
+        let digits: String = line.split('#').next().unwrap_or("").split_whitespace().collect();
+        if digits.is_empty() {
+            continue;
+        }
+        if record.is_some() {
+            return Err((number, String::from("a second record")));
+        }
+        let bytes = from_hex(&digits).ok_or((number, String::from("not pairs of hexadecimal digits; --raw takes bytes")))?;
+        record = Some((bytes, number));
+    }
+    record.ok_or((1, String::from("no record")))
+}
+
+fn from_hex(digits: &str) -> Option<Vec<u8>> {
+    let digit = |byte: u8| char::from(byte).to_digit(16);
+    let pairs = digits.as_bytes().chunks(2);
+    pairs.map(|pair| Some((16 * digit(pair[0])? + digit(*pair.get(1)?)?) as u8)).collect()
+}
+
+/// A record as text: byte pairs with spaces between.
+pub fn to_hex(record: &[u8]) -> String {
+    let pairs: Vec<String> = record.iter().map(|byte| format!("{byte:02X}")).collect();
+    pairs.join(" ")
+}
+
+#[cfg(test)]
+mod tests {
+    use super::*;
+
+    #[test]
+    fn a_record_file() {
+        let record = vec![0x07, 0, 1, 0, 2, 0, 0xC8];
+        assert_eq!(parse("# a pair\n07 00 0100 0200 c8 # here\n"), Ok((record.clone(), 2)));
+        assert_eq!(parse(&to_hex(&record)), Ok((record, 1)));
+    }
+
+    #[test]
+    fn what_is_no_record_file() {
+        assert_eq!(parse("\n#\n").unwrap_err(), (1, String::from("no record")));
+        assert_eq!(parse("07\n07\n").unwrap_err(), (2, String::from("a second record")));
+        assert_eq!(parse("070\n").unwrap_err().0, 1);
+        assert_eq!(parse("0G\n").unwrap_err().0, 1);
+    }
+}

@@ -1,0 +1,100 @@
+//! Messages, and the exit status that they lead to.
+
+use jurnadel::Refusal;
+use std::fmt::Display;
+use std::io::{self, Write};
+use std::process::ExitCode;
+
+/// Exit status: something was refused or, by `verify`, found wrong.
+pub const REFUSED: u8 = 1;
+/// Exit status: the command line is wrong.
+pub const USAGE: u8 = 2;
+/// Exit status: a file cannot be read or written, or is not of its format.
+pub const FILE: u8 = 3;
+
+/// Why a command, or its part for one file, is not done.
+#[derive(Debug)]
+pub enum Problem {
+    /// The library's refusal, or what `verify` found, with the place.
+    Refused(String),
+    /// The command line is wrong.
+    Usage(String),
+    /// A file cannot be read or written, or is not of its format.
+    File(String),
+}
+
+impl Problem {
+    /// A refusal at a place: a file, and a line or record in it.
+    pub fn refused(place: impl Display, refusal: Refusal) -> Problem {
+        Problem::Refused(format!("{place}: {refusal}"))
+    }
+
+    /// A file, or a place in one, and what is wrong with it.
+    pub fn file(place: impl Display, what: impl Display) -> Problem {
+        Problem::File(format!("{place}: {what}"))
+    }
+}
+
+/// Standard output and the worst status so far.
+pub struct Report {
+    output: io::BufWriter<io::Stdout>,
+    closed: bool,
+    status: u8,
+}
+
+impl Report {
+    pub fn new() -> Report {
+        Report { output: io::BufWriter::new(io::stdout()), closed: false, status: 0 }
+    }
+
+    /// Prints bytes. Once the reader of standard output has gone, nothing more is printed and the work goes on.
+    pub fn bytes(&mut self, bytes: &[u8]) {
+        if !self.closed {
+            let done = self.output.write_all(bytes);
+            self.note(done);
+        }
+    }
+
+    pub fn line(&mut self, line: impl Display) {
+        self.bytes(format!("{line}\n").as_bytes());
+    }
+
+    /// Prints a problem to standard error, after what is already on its way to standard output.
+    pub fn problem(&mut self, problem: &Problem) {
+        self.flush();
+        let (text, status) = match problem {
+            Problem::Refused(text) => (text, REFUSED),
+            Problem::Usage(text) => (text, USAGE),
+            Problem::File(text) => (text, FILE),
+        };
+        eprintln!("{text}");
+        self.status = self.status.max(status);
+    }
+
+    /// Whether there was a problem.
+    pub fn failed(&self) -> bool {
+        self.status != 0
+    }
+
+    pub fn flush(&mut self) {
+        if !self.closed {
+            let done = self.output.flush();
+            self.note(done);
+        }
+    }
+
+    fn note(&mut self, done: io::Result<()>) {
+        if let Err(error) = done {
+            self.closed = true;
+            if error.kind() != io::ErrorKind::BrokenPipe {
+                eprintln!("standard output: {error}");
+                self.status = self.status.max(FILE);
+            }
+        }
+    }
+
+    pub fn end(mut self) -> ExitCode {
+        self.flush();
+        ExitCode::from(self.status)
+    }
+}

@@ -1,0 +1,184 @@
+/* Every exported call, through the header as a C compiler sees it: the starred table of document 01, one case of each
+   refusal, the out-numbers that are set and the entries that are not. Prints each check that fails. */
+#include "jurnadel.h"
+#include <stdio.h>
+#include <string.h>
+
+static int failed, passed;
+
+#define CHECK(holds) \
+    do { \
+        if (holds) passed++; \
+        else { failed++; printf("interface.c:%d: %s\n", __LINE__, #holds); } \
+    } while (0)
+
+/* Dirty, as a maker's memory is; sized by the macros. */
+static uint16_t work[JURNADEL_MOST_WORK_LEN], order[JURNADEL_MOST_DARTS];
+static uint8_t output[JURNADEL_MOST_RECORD_LEN];
+static uint16_t length, trails;
+static int32_t characteristic;
+
+static void dirty(void) {
+    memset(work, 0x5a, sizeof work);
+    memset(order, 0x5a, sizeof order);
+    memset(output, 0xa5, sizeof output);
+    length = trails = 0x5a5a;
+    characteristic = 0x5a5a;
+}
+
+/* Whether a work area of n numbers was cleared, and nothing past it. */
+static int cleared(size_t n) {
+    size_t i;
+    for (i = 0; i < n; i++)
+        if (work[i] != 0) return 0;
+    return n == JURNADEL_MOST_WORK_LEN || work[n] == 0x5a5a;
+}
+
+static int untouched_from(size_t n) {
+    size_t i;
+    for (i = n; i < sizeof output; i++)
+        if (output[i] != 0xa5) return 0;
+    return 1;
+}
+
+static uint16_t refusal_of(const uint16_t *rotation, size_t darts, uint16_t start, uint16_t kind, size_t work_len, size_t output_len) {
+    uint16_t refusal;
+    dirty();
+    refusal = jurnadel_write(rotation, darts, start, kind, work, work_len, output, output_len, &length, &characteristic);
+    CHECK(cleared(work_len));
+    CHECK(untouched_from(length));
+    CHECK(refusal == 0 || length == 0);
+    CHECK(refusal == JURNADEL_NOT_PLANAR || characteristic == 0);
+    return refusal;
+}
+
+static void starred(void) {
+    static const struct { uint16_t kind, m, order[6], length; uint8_t record[8]; } table[] = {
+        {1, 2, {3, 2, 1, 0}, 7, {0x07, 0, 1, 0, 2, 0, 0xC8}},
+        {1, 3, {5, 2, 1, 4, 3, 0}, 8, {0x08, 0, 1, 0, 3, 0, 0xE2, 0x00}},
+        {1, 3, {5, 2, 4, 0, 1, 3}, 8, {0x08, 0, 1, 0, 3, 0, 0xD2, 0x80}},
+        {2, 1, {0, 1}, 8, {0x08, 0, 2, 0, 1, 0, 0x80, 0xA2}},
+        {2, 2, {0, 2, 1, 3}, 8, {0x08, 0, 2, 0, 2, 0, 0xC0, 0x36}},
+        {2, 2, {2, 1, 0, 3}, 8, {0x08, 0, 2, 0, 2, 0, 0xA0, 0xD8}},
+        {2, 2, {3, 2, 1, 0}, 8, {0x08, 0, 2, 0, 2, 0, 0xC0, 0x51}},
+        {2, 3, {4, 2, 1, 0, 3, 5}, 8, {0x08, 0, 2, 0, 3, 0, 0xCC, 0x12}},
+    };
+    static uint8_t again[8];
+    size_t i;
+    for (i = 0; i < sizeof table / sizeof table[0]; i++) {
+        size_t m = table[i].m;
+        CHECK(JURNADEL_RECORD_LEN(table[i].kind, m) == table[i].length);
+        CHECK(refusal_of(table[i].order, 2 * m, 0, table[i].kind, JURNADEL_WORK_LEN(m), table[i].length) == JURNADEL_DONE);
+        CHECK(length == table[i].length && memcmp(output, table[i].record, length) == 0);
+        dirty();
+        CHECK(jurnadel_read(table[i].record, table[i].length, work, JURNADEL_WORK_LEN(m), order, 2 * m, &trails) == JURNADEL_DONE);
+        CHECK(trails == m && cleared(JURNADEL_WORK_LEN(m)) && order[2 * m] == 0x5a5a);
+        CHECK(jurnadel_write(order, 2 * m, 0, table[i].kind, work, JURNADEL_WORK_LEN(m), again, sizeof again, &length, &characteristic) == 0);
+        CHECK(length == table[i].length && memcmp(again, table[i].record, length) == 0);
+    }
+}
+
+static void writing(void) {
+    static const uint16_t pair[] = {3, 2, 1, 0}, apart[] = {0, 1, 2, 3}, crossing[] = {3, 2, 4, 5, 1, 0}, ring[] = {1, 0}, stick[] = {0, 1},
+                          twice[] = {3, 3, 1, 0};
+    CHECK(refusal_of(pair, 4, 0, 3, 64, 8) == JURNADEL_KIND);
+    CHECK(refusal_of(pair, 3, 0, 1, 64, 8) == JURNADEL_COUNT);
+    CHECK(refusal_of(pair, 0, 0, 1, 64, 8) == JURNADEL_COUNT);
+    CHECK(refusal_of(pair, 4, 4, 1, 64, 8) == JURNADEL_START);
+    CHECK(refusal_of(twice, 4, 0, 1, 64, 8) == JURNADEL_ENTRY);
+    CHECK(refusal_of(pair, 4, 0, 1, 63, 8) == JURNADEL_WORK_AREA);
+    CHECK(refusal_of(pair, 4, 0, 1, 64, 6) == JURNADEL_OUTPUT);
+    CHECK(refusal_of(apart, 4, 0, 2, 64, 8) == JURNADEL_NOT_CONNECTED);
+    CHECK(refusal_of(crossing, 6, 0, 2, 96, 8) == JURNADEL_NOT_PLANAR && characteristic == 0);
+    CHECK(refusal_of(ring, 2, 0, 2, 32, 8) == JURNADEL_LOOP);
+    CHECK(refusal_of(stick, 2, 0, 1, 32, 8) == JURNADEL_DEGREE_ONE);
+}
+
+/* A round of 4,096 trails, the longest plan: dart 2e+1 and dart 2e+2 share a junction. */
+static void longest(void) {
+    static uint16_t round[JURNADEL_MOST_DARTS];
+    size_t d, last = JURNADEL_MOST_DARTS - 1;
+    for (d = 0; d <= last; d++) round[d] = (uint16_t)(d == 0 ? last : d == last ? 0 : d % 2 ? d + 1 : d - 1);
+    CHECK(refusal_of(round, JURNADEL_MOST_DARTS, 4095, 1, JURNADEL_MOST_WORK_LEN, sizeof output) == JURNADEL_DONE);
+    CHECK(length == 1542);
+    CHECK(refusal_of(round, JURNADEL_MOST_DARTS, 4095, 2, JURNADEL_MOST_WORK_LEN, sizeof output) == JURNADEL_DONE);
+    CHECK(length == 1850);
+    CHECK(jurnadel_read(output, length, work, JURNADEL_MOST_WORK_LEN, order, JURNADEL_MOST_DARTS, &trails) == JURNADEL_DONE);
+    CHECK(trails == JURNADEL_MOST_TRAILS && cleared(JURNADEL_MOST_WORK_LEN));
+}
+
+static uint16_t reads(const uint8_t *record, size_t record_len, size_t work_len, size_t order_len) {
+    uint16_t refusal;
+    dirty();
+    refusal = jurnadel_read(record, record_len, work, work_len, order, order_len, &trails);
+    CHECK(cleared(work_len) && order[2 * trails] == 0x5a5a && (refusal == 0 || trails == 0));
+    return refusal;
+}
+
+static void reading(void) {
+    uint8_t record[] = {7, 0, 1, 0, 2, 0, 0xC8, 0};
+    CHECK(reads(record, 7, 64, 4) == JURNADEL_DONE && trails == 2);
+    CHECK(reads(record, 6, 64, 4) == JURNADEL_RECORD_CUT);
+    CHECK(reads(record, 0, 64, 4) == JURNADEL_RECORD_CUT);
+    record[2] = 4;
+    CHECK(reads(record, 7, 64, 4) == JURNADEL_KIND);
+    record[2] = 1, record[4] = 0;
+    CHECK(reads(record, 7, 64, 4) == JURNADEL_COUNT);
+    record[4] = 3;
+    CHECK(reads(record, 7, 96, 6) == JURNADEL_LENGTH);
+    record[4] = 2;
+    CHECK(reads(record, 7, 63, 4) == JURNADEL_WORK_AREA);
+    CHECK(reads(record, 7, 64, 3) == JURNADEL_OUTPUT);
+    record[6] = 0xC9;
+    CHECK(reads(record, 7, 64, 4) == JURNADEL_NO_FIT_PLAN);
+}
+
+static void shelves(void) {
+    static const uint8_t pair[] = {7, 0, 1, 0, 2, 0, 0xC8}, stick[] = {8, 0, 2, 0, 1, 0, 0x80, 0xA2}, odd[] = {7, 0, 1, 0, 2, 0, 0xC9};
+    uint8_t shelf[16];
+    size_t number = 99, used = 0, at = 99, part = 99;
+    memset(shelf, 0xEE, sizeof shelf);
+    CHECK(jurnadel_walk_begin(shelf, sizeof shelf, 0, 0, &at) == JURNADEL_NO_SUCH_RECORD && at == 0);
+    CHECK(jurnadel_shelve(pair, sizeof pair, shelf, sizeof shelf, 0, &number, &used) == 0 && number == 0 && used == 7);
+    CHECK(jurnadel_shelve(stick, sizeof stick, shelf, sizeof shelf, used, &number, &used) == 0 && number == 1 && used == 15);
+    CHECK(jurnadel_shelve(pair, sizeof pair, shelf, sizeof shelf, used, &number, &used) == 0 && number == 0 && used == 15);
+    CHECK(memcmp(shelf, pair, 7) == 0 && memcmp(shelf + 7, stick, 8) == 0 && shelf[15] == 0xEE);
+    CHECK(jurnadel_shelve(odd, sizeof odd, shelf, sizeof shelf, used, &number, &used) == JURNADEL_SHELF_FULL && number == 0 && used == 15);
+    CHECK(jurnadel_shelve(odd, 6, shelf, sizeof shelf, used, &number, &used) == JURNADEL_RECORD_CUT && used == 15);
+    CHECK(jurnadel_shelve(odd, sizeof odd, shelf, 14, used, &number, &used) == JURNADEL_SHELF_BROKEN && used == 15);
+    CHECK(shelf[15] == 0xEE);
+    CHECK(jurnadel_fetch(shelf, sizeof shelf, used, 1, &at, &part) == 0 && at == 7 && part == 8);
+    CHECK(jurnadel_fetch(shelf, sizeof shelf, used, 2, &at, &part) == JURNADEL_NO_SUCH_RECORD && at == 0 && part == 0);
+    CHECK(jurnadel_fetch(shelf, sizeof shelf, 16, 0, &at, &part) == JURNADEL_SHELF_BROKEN && at == 0 && part == 0);
+    CHECK(jurnadel_walk_begin(shelf, sizeof shelf, used, 0, &at) == 0 && at == 0);
+    CHECK(jurnadel_walk_step(shelf, sizeof shelf, used, 0) == 7);
+    CHECK(jurnadel_walk_step(shelf, sizeof shelf, used, 7) == 8);
+    CHECK(jurnadel_walk_step(shelf, sizeof shelf, used, 15) == 0);
+    CHECK(jurnadel_walk_step(shelf, sizeof shelf, used, 3) == 0);
+    CHECK(jurnadel_walk_step(shelf, sizeof shelf, used, (size_t)-1) == 0);
+    CHECK(jurnadel_walk_begin(shelf, sizeof shelf, used, 2, &at) == JURNADEL_NO_SUCH_RECORD && at == 15);
+}
+
+static void sizes(void) {
+    uint16_t kind, m;
+    for (kind = 1; kind <= 2; kind++)
+        for (m = 1; m <= JURNADEL_MOST_TRAILS; m++)
+            if (jurnadel_record_length(kind, m) != JURNADEL_RECORD_LEN(kind, m) || jurnadel_work_length(m) != JURNADEL_WORK_LEN(m)) {
+                CHECK(!"the macros are the functions");
+                return;
+            }
+    CHECK(jurnadel_record_length(1, 0) == 0 && jurnadel_record_length(2, 4097) == 0 && jurnadel_record_length(0, 1) == 0);
+    CHECK(jurnadel_record_length(3, 1) == 0 && jurnadel_record_length(65535, 65535) == 0);
+    CHECK(JURNADEL_MOST_RECORD_LEN == 1850 && JURNADEL_MOST_WORK_LEN == 131072);
+}
+
+int main(void) {
+    starred();
+    writing();
+    longest();
+    reading();
+    shelves();
+    sizes();
+    printf("tests/c/interface.c: %d passed, %d failed\n", passed, failed);
+    return failed != 0;
+}

@@ -1,0 +1,275 @@
+//! The line protocol of `tests/second_coder` (see the top of its `src/main.rs`), answered by the proved library.
+//!
+//! Each call gets lent buffers between guards, with work area and out-numbers of a value that the call must replace. An
+//! answer that begins `broken` tells that a call touched what it must leave alone, left its work area not all zeros, or set
+//! an out-number to something else than the header says.
+
+mod lent;
+
+use jurnadel::sys;
+use lent::Lent;
+use std::fmt::Write as _;
+use std::io::{self, BufRead, BufReader, BufWriter, Write as _};
+
+/// No outcome depends on a lent length past this one; longer ones are cut.
+const LONGEST: usize = 1 << 24;
+
+/// What stands in work areas and outputs before a call.
+const NUMBER: u16 = 0x5A5A;
+const BYTE: u8 = 0xA5;
+
+fn main() -> io::Result<()> {
+    let mut input = BufReader::with_capacity(1 << 16, io::stdin());
+    let mut output = BufWriter::with_capacity(1 << 16, io::stdout());
+    let mut line = Vec::new();
+    loop {
+        line.clear();
+        if input.read_until(b'\n', &mut line)? == 0 {
+            break;
+        }
+        let answer = std::str::from_utf8(&line)
+            .ok()
+            .and_then(answer_to)
+            .unwrap_or_else(|| String::from("malformed"));
+        writeln!(output, "{answer}")?;
+        if input.buffer().is_empty() {
+            output.flush()?;
+        }
+    }
+    output.flush()
+}
+
+/// The answer to a request, or nothing if the line is none.
+fn answer_to(line: &str) -> Option<String> {
+    let mut words = line.split_ascii_whitespace();
+    let answer = match words.next()? {
+        "write" => {
+            let kind = words.next()?.parse().ok()?;
+            let start = words.next()?.parse().ok()?;
+            let work = length(words.next()?)?;
+            let output = length(words.next()?)?;
+            let order = words
+                .by_ref()
+                .map(|word| word.parse().ok())
+                .collect::<Option<Vec<u16>>>()?;
+            write(kind, start, work, output, &order)
+        }
+        "read" => {
+            let work = length(words.next()?)?;
+            let output = length(words.next()?)?;
+            read(work, output, &from_hex(words.next()?)?)
+        }
+        "shelve" => {
+            let used = words.next()?.parse().ok()?;
+            let shelf_length = length(words.next()?)?;
+            let mut shelf = from_hex(words.next()?)?;
+            shelf.resize(shelf_length, 0);
+            shelve(used, &shelf, &from_hex(words.next()?)?)
+        }
+        word @ ("fetch" | "walk") => {
+            let used = words.next()?.parse().ok()?;
+            let number = words.next()?.parse().ok()?;
+            let shelf = from_hex(words.next()?)?;
+            if word == "fetch" {
+                fetch(used, number, &shelf)
+            } else {
+                walk(used, number, &shelf)
+            }
+        }
+        _ => return None,
+    };
+    match words.next() {
+        None => Some(answer.unwrap_or_else(|what| format!("broken {what}"))),
+        Some(_) => None,
+    }
+}
+
+/// An answer, or what the call broke.
+type Answer = Result<String, &'static str>;
+
+/// Says what is broken, if it is.
+fn hold(holds: bool, what: &'static str) -> Result<(), &'static str> {
+    holds.then_some(()).ok_or(what)
+}
+
+fn write(kind: u16, start: u16, work: usize, output: usize, order: &[u16]) -> Answer {
+    let order = Lent::of(order, NUMBER);
+    let mut work = Lent::filled(work, NUMBER);
+    let mut output = Lent::filled(output, BYTE);
+    let (mut length, mut characteristic) = (NUMBER, 0x5A5A_5A5A);
+    let refusal = unsafe {
+        sys::jurnadel_write(
+            order.lend(),
+            order.len(),
+            start,
+            kind,
+            work.lend_mut(),
+            work.len(),
+            output.lend_mut(),
+            output.len(),
+            &mut length,
+            &mut characteristic,
+        )
+    };
+    hold(order.untouched(), "order")?;
+    hold(work.all(0), "work area")?;
+    hold(output.untouched_but(0, usize::from(length)), "output")?;
+    hold((refusal == 0) == (length != 0), "length")?;
+    hold(refusal == 10 || characteristic == 0, "characteristic")?;
+    let m = (order.len() / 2).min(1 << 15) as u16;
+    if refusal == 0 {
+        hold(
+            length == unsafe { sys::jurnadel_record_length(kind, m) },
+            "record length",
+        )?;
+    }
+    Ok(match refusal {
+        0 => format!("ok {}", to_hex(&output.now()[..usize::from(length)])),
+        10 => format!("refused 10 {characteristic}"),
+        number => format!("refused {number}"),
+    })
+}
+
+fn read(work: usize, output: usize, record: &[u8]) -> Answer {
+    let record = Lent::of(record, BYTE);
+    let mut work = Lent::filled(work, NUMBER);
+    let mut order = Lent::filled(output, NUMBER);
+    let mut trails = NUMBER;
+    let refusal = unsafe {
+        sys::jurnadel_read(
+            record.lend(),
+            record.len(),
+            work.lend_mut(),
+            work.len(),
+            order.lend_mut(),
+            order.len(),
+            &mut trails,
+        )
+    };
+    let filled = 2 * usize::from(trails);
+    hold(record.untouched(), "record")?;
+    hold(work.all(0), "work area")?;
+    hold(order.untouched_but(0, filled), "output")?;
+    hold((refusal == 0) == (trails != 0), "trails")?;
+    if refusal != 0 {
+        return Ok(format!("refused {refusal}"));
+    }
+    let mut text = format!("ok {trails}");
+    for entry in &order.now()[..filled] {
+        let _ = write!(text, " {entry}");
+    }
+    Ok(text)
+}
+
+fn shelve(used: usize, shelf: &[u8], record: &[u8]) -> Answer {
+    let record = Lent::of(record, BYTE);
+    let mut shelf = Lent::of(shelf, BYTE);
+    let (mut number, mut new_used) = (usize::MAX, usize::MAX);
+    let refusal = unsafe {
+        sys::jurnadel_shelve(
+            record.lend(),
+            record.len(),
+            shelf.lend_mut(),
+            shelf.len(),
+            used,
+            &mut number,
+            &mut new_used,
+        )
+    };
+    hold(record.untouched(), "record")?;
+    if refusal != 0 {
+        hold(shelf.untouched(), "shelf")?;
+        hold(number == 0, "number")?;
+        hold(new_used == used, "used length")?;
+        return Ok(format!("refused {refusal}"));
+    }
+    hold(
+        new_used == used || new_used == used + record.len(),
+        "used length",
+    )?;
+    hold(shelf.untouched_but(used, new_used - used), "shelf")?;
+    Ok(format!("ok {number} {new_used} {}", to_hex(shelf.now())))
+}
+
+fn fetch(used: usize, number: usize, shelf: &[u8]) -> Answer {
+    let shelf = Lent::of(shelf, BYTE);
+    let (mut at, mut length) = (usize::MAX, usize::MAX);
+    let refusal = unsafe {
+        sys::jurnadel_fetch(
+            shelf.lend(),
+            shelf.len(),
+            used,
+            number,
+            &mut at,
+            &mut length,
+        )
+    };
+    hold(shelf.untouched(), "shelf")?;
+    if refusal != 0 {
+        hold(at == 0 && length == 0, "part")?;
+        return Ok(format!("refused {refusal}"));
+    }
+    let part = at
+        .checked_add(length)
+        .and_then(|end| shelf.now().get(at..end))
+        .ok_or("part")?;
+    Ok(format!("ok {}", to_hex(part)))
+}
+
+fn walk(used: usize, number: usize, shelf: &[u8]) -> Answer {
+    let shelf = Lent::of(shelf, BYTE);
+    let mut at = usize::MAX;
+    let refusal =
+        unsafe { sys::jurnadel_walk_begin(shelf.lend(), shelf.len(), used, number, &mut at) };
+    hold(shelf.untouched(), "shelf")?;
+    if refusal != 0 {
+        hold(at == used, "place")?;
+        return Ok(format!("refused {refusal}"));
+    }
+    let mut text = String::from("ok");
+    loop {
+        let length = unsafe { sys::jurnadel_walk_step(shelf.lend(), shelf.len(), used, at) };
+        hold(shelf.untouched(), "shelf")?;
+        if length == 0 {
+            return Ok(text);
+        }
+        let part = at
+            .checked_add(length)
+            .and_then(|end| shelf.now().get(at..end))
+            .ok_or("part")?;
+        text.push(' ');
+        text.push_str(&to_hex(part));
+        at += length;
+    }
+}
+
+fn length(word: &str) -> Option<usize> {
+    let length: usize = word.parse().ok()?;
+    Some(length.min(LONGEST))
+}
+
+fn from_hex(word: &str) -> Option<Vec<u8>> {
+    if word == "-" {
+        return Some(Vec::new());
+    }
+    let digits = word.as_bytes();
+    if digits.len() % 2 == 1 {
+        return None;
+    }
+    let digit = |byte: u8| char::from(byte).to_digit(16);
+    digits
+        .chunks(2)
+        .map(|pair| Some((16 * digit(pair[0])? + digit(pair[1])?) as u8))
+        .collect()
+}
+
+fn to_hex(bytes: &[u8]) -> String {
+    if bytes.is_empty() {
+        return String::from("-");
+    }
+    let mut text = String::with_capacity(2 * bytes.len());
+    for byte in bytes {
+        let _ = write!(text, "{byte:02X}");
+    }
+    text
+}
