@@ -1,0 +1,3 @@
+pub mod Outcomes
+pub mod Parts
+pub mod Sizes

@@ -1,0 +1,49 @@
+-- Answers taken apart into numbers: each way out of a call, from the answer's case.
+--
+--   write-out             what writing answered, as numbers
+--   read-out              what reading answered, as numbers
+--   shelve-out            what shelving answered, as numbers
+use mathlib.Core.Path.{_≡_, sym, ap, _∙_}
+use mathlib.Core.List.{List}
+use Prim.Native.Nat.{ℕ}
+use Rattle.model.specs.declared.Written.{Written}
+use Rattle.model.specs.declared.ReadBack.{ReadBack}
+use Rattle.model.specs.declared.Shelved.{Shelved}
+use Rattle.model.specs.Map.{Plan}
+use Rattle.model.specs.Calls.{Wrote, Stored, numberOfWritten, lengthOfWritten, characteristicOfWritten, numberOfRead, numberOfShelved}
+use Rattle.reading.specs.ReadCall.{ReadCall}
+use Rattle.jurnadel.specs.Exports.{WriteExport, ReadExport, ShelveExport, edgesIn, numberIn, usedIn}
+
+pub write-out : (k : ℕ) (p : Plan) (work out : List ℕ) (a b : Written) (work′ out′ : List ℕ) → Wrote k p work out a work′ out′ → a ≡ b
+    → WriteExport k p work out (numberOfWritten b) (lengthOfWritten b) (characteristicOfWritten b) work′ out′
+write-out k p work out a b work′ out′ w e =
+    let z = sym e ∙ w .answered in
+    record {
+      number-is = ap numberOfWritten z;
+      length-is = ap lengthOfWritten z;
+      characteristic-is = ap characteristicOfWritten z;
+      filled = w .filled;
+      cleared = w .cleared;
+    }
+
+pub read-out : (bytes work out : List ℕ) (a b : ReadBack) (work′ out′ : List ℕ) → ReadCall bytes work out a work′ out′ → a ≡ b
+    → ReadExport bytes work out (numberOfRead b) (edgesIn b) work′ out′
+read-out bytes work out a b work′ out′ c e =
+    record {
+      answer = a;
+      outcome = c .outcome;
+      number-is = ap numberOfRead (sym e);
+      edges-are = ap edgesIn (sym e);
+      cleared = c .cleared;
+    }
+
+pub shelve-out : (bytes shelf : List ℕ) (used : ℕ) (a b : Shelved) (shelf′ : List ℕ) → Stored bytes shelf used a shelf′ → a ≡ b
+    → ShelveExport bytes shelf used (numberOfShelved b) (numberIn b) (usedIn used b) shelf′
+shelve-out bytes shelf used a b shelf′ s e =
+    let z = sym e ∙ s .answered in
+    record {
+      refusal-is = ap numberOfShelved z;
+      number-is = ap numberIn z;
+      used-is = ap (usedIn used) z;
+      bytes-are = s .bytes;
+    }

@@ -1,0 +1,41 @@
+-- The length of a record of a kind, where there is one: k is the kind, m the number of edges.
+--
+--   no-kind, no-edges, too-many   no record has these
+--   length-there          one does
+--   length-fits           and its length is a 16-bit number
+use mathlib.Core.Path.{_≡_, refl, sym, ap, _∙_}
+use mathlib.Core.Bool.{Bool, true, false, cond}
+use Prim.Native.Nat.{ℕ, _+_, _*_, _/_, _≤_, _<_}
+use native.Mathlib.Omega.{arith}
+use lib.Dec.{eqb}
+use borrow.Author.Tests.{lt-ltb, le-ltb, eq-eqb, ne-eqb}
+use Rattle.model.specs.Map.{isKind}
+use Rattle.model.specs.Record.{recordLength}
+use Rattle.jurnadel.specs.Exports.{lengthFor}
+
+module _ (k m : ℕ) where
+  pub no-kind : isKind k ≡ false → 0 ≡ lengthFor k m
+  unfolding lengthFor
+  no-kind e = rw e
+
+  pub length-fits : m ≤ 4096 → recordLength k m < 65536
+  unfolding recordLength
+  length-fits h = go (eqb k 1)
+    where
+      go : (b : Bool) → cond b (6 + (3 * m + 7) / 8) (6 + (2 * m + 7) / 8 + (m + 4) / 5) < 65536
+      go true = omega arith
+      go false = omega arith
+
+  module _ (kind : isKind k ≡ true) where
+    pub no-edges : m ≡ 0 → 0 ≡ lengthFor k m
+    unfolding lengthFor
+    no-edges e = rw (kind, eq-eqb _ _ e)
+
+    module _ (some : m ≡ 0 → ⊥) where
+      pub too-many : 4096 < m → 0 ≡ lengthFor k m
+      unfolding lengthFor
+      too-many h = rw (kind, ne-eqb _ _ some, lt-ltb _ _ h)
+
+      pub length-there : m ≤ 4096 → recordLength k m ≡ lengthFor k m
+      unfolding lengthFor
+      length-there h = rw (kind, ne-eqb _ _ some, le-ltb _ _ h)

@@ -1,0 +1,149 @@
+// The calls as exported C functions. Numbers and slices go over as they are, a slice as pointer and length; an answer's values go out through references
+// to numbers. Each function is total: any content and any length of what is lent. Nothing is worked out here: each call is that of a crate below.
+use model::ReadBack;
+use model::Shelved;
+use model::Written;
+
+ghost use mathlib.Core.Path.{_≡_};
+ghost use Prim.Native.Nat.{ℕ, _*_};
+ghost use lib.ListN.{length, take};
+ghost use Rattle.cutting.specs.Cutting.{recordAt};
+ghost use Rattle.shelf.specs.Walk.{Begun};
+ghost use Rattle.jurnadel.specs.Exports.{WriteExport, ReadExport, ShelveExport, FetchExport, lengthFor};
+
+// ---- sizes
+
+// The length of a record of this kind with so many trails; 0 if there is none.
+#[no_mangle]
+pub extern "C" fn jurnadel_record_length(kind: u16, trails: u16) -> u16
+    ensures { λ r. ⌜ r ≡ lengthFor kind trails ⌝ }
+{
+    if !heads::is_kind(kind) {
+        return 0;
+    }
+    if trails == 0 {
+        return 0;
+    }
+    if trails > 4096 {
+        return 0;
+    }
+    heads::record_length(kind, trails) as u16
+}
+
+// The work area, in 16-bit numbers, for so many trails.
+#[no_mangle]
+pub extern "C" fn jurnadel_work_length(trails: u16) -> usize
+    ensures { λ r. ⌜ r ≡ 32 * trails ⌝ }
+{
+    32 * (trails as usize)
+}
+
+// ---- plans and records
+
+// The record's length goes to `length`, 0 if refused; of refusal 10 the characteristic to `characteristic`, else 0.
+#[no_mangle]
+pub extern "C" fn jurnadel_write(
+    order: &[u16],
+    start: u16,
+    kind: u16,
+    work: &mut [u16],
+    output: &mut [u8],
+    length: &mut u16,
+    characteristic: &mut i32,
+) -> u16
+    ensures { λ r. ⌜ WriteExport kind (record { rotation = now (order .entry); root = start }) (now (work .entry)) (now (output .entry)) r (now (length .exit)) (now (characteristic .exit)) (now (work .exit)) (now (output .exit)) ⌝ }
+{
+    let answer = writing::write(order, start, kind, work, output);
+    match answer {
+        Written::Length(n) => {
+            *length = n;
+            *characteristic = 0;
+            0
+        }
+        Written::Refused(number) => {
+            *length = 0;
+            *characteristic = 0;
+            number
+        }
+        Written::NotPlanar(x) => {
+            *length = 0;
+            *characteristic = x;
+            10
+        }
+    }
+}
+
+// The plan in its standard numbering goes to the first entries of `order`, and the number of its trails to `trails`, 0 if refused.
+#[no_mangle]
+pub extern "C" fn jurnadel_read(record: &[u8], work: &mut [u16], order: &mut [u16], trails: &mut u16) -> u16
+    ensures { λ r. ⌜ ReadExport (now («record» .entry)) (now (work .entry)) (now (order .entry)) r (now (trails .exit)) (now (work .exit)) (now (order .exit)) ⌝ }
+{
+    let answer = reading::read(record, work, order);
+    match answer {
+        ReadBack::Edges(m) => {
+            *trails = m;
+            0
+        }
+        ReadBack::Refused(number) => {
+            *trails = 0;
+            number
+        }
+    }
+}
+
+// ---- the shelf
+
+// The record's number goes to `number`, 0 if refused; the used length to `new_used`, `used` if refused.
+#[no_mangle]
+pub extern "C" fn jurnadel_shelve(record: &[u8], shelf: &mut [u8], used: usize, number: &mut usize, new_used: &mut usize) -> u16
+    ensures { λ r. ⌜ ShelveExport (now («record» .entry)) (now (shelf .entry)) used r (now (number .exit)) (now («new_used» .exit)) (now (shelf .exit)) ⌝ }
+{
+    let answer = shelf::shelve(record, shelf, used);
+    match answer {
+        Shelved::At(n, end) => {
+            *number = n;
+            *new_used = end;
+            0
+        }
+        Shelved::Refused(refusal) => {
+            *number = 0;
+            *new_used = used;
+            refusal
+        }
+    }
+}
+
+// Where the record stands goes to `at` and its length to `length`; both 0 if refused.
+#[no_mangle]
+pub extern "C" fn jurnadel_fetch(shelf: &[u8], used: usize, number: usize, at: &mut usize, length: &mut usize) -> u16
+    ensures { λ r. ⌜ FetchExport (now (shelf .entry)) used number r (now (at .exit)) (now (length .exit)) ⌝ }
+{
+    let mut refusal = 0;
+    let place = shelf::walk_begin(shelf, used, number, &mut refusal);
+    if refusal != 0 {
+        *at = 0;
+        *length = 0;
+        return refusal;
+    }
+    *at = place;
+    *length = shelf::walk_length(shelf, used, place);
+    0
+}
+
+// The place of the record, with which a walk begins, goes to `at`; the used length, where no record is left, if refused.
+#[no_mangle]
+pub extern "C" fn jurnadel_walk_begin(shelf: &[u8], used: usize, number: usize, at: &mut usize) -> u16
+    ensures { λ r. ⌜ Begun (now (shelf .entry)) used number (now (at .exit)) r ⌝ }
+{
+    let mut refusal = 0;
+    *at = shelf::walk_begin(shelf, used, number, &mut refusal);
+    refusal
+}
+
+// The length of the record that stands at this place of the used bytes; 0 if none is left there, or none that passes 1, 2, 3 and 5.
+#[no_mangle]
+pub extern "C" fn jurnadel_walk_step(shelf: &[u8], used: usize, at: usize) -> usize
+    ensures { λ r. ⌜ r ≡ length (recordAt (take used (now (shelf .entry))) at) ⌝ }
+{
+    shelf::walk_length(shelf, used, at)
+}
