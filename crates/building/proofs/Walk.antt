@@ -205,7 +205,7 @@ module _ (w : List Letter) (b : Balance (letter w) (length w)) (some : 0 < lengt
       let hi : i < N = omega arith in
       let more : suc i + k ≡ N = omega arith in
       ap (λ (l : Letter). record { dart = x i; letter = l } ∷ cond (eqb (onward rot l (x i)) 0) []
-          (walk rot 0 k (onward rot l (x i)) (set (met i) (x i) (code l)) (seenAfter rot l (x i) (seen i)))) (letter-right i hi)
+      (walk rot 0 k (onward rot l (x i)) (set (met i) (x i) (code l)) (seenAfter rot l (x i) (seen i)))) (letter-right i hi)
       ∙ ap (λ (vs : List Visit). visit i ∷ vs) (walk-on k i (onward rot (ℓ i) (x i)) more (onward-is i) (walk-is k (suc i) more))
 
   pub built-visits : visits (planOf w) ≡ run N 0

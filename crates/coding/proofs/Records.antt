@@ -67,8 +67,14 @@ module _ (k : ℕ) (p : Plan) (fits : fit k p ≡ true) where
   unfolding decodeRecord recordOf
   record-decodes =
       let o = of-fit k p fits in
-      rw (layOut-readable k m (treeBits p) (labels p) fit-laid, layOut-bits k m (treeBits p) (labels p) fit-laid,
-      layOut-labels k m (treeBits p) (labels p) fit-laid, kind-field, o .bits, o .marks)
+      rw (
+        layOut-readable k m (treeBits p) (labels p) fit-laid,
+        layOut-bits k m (treeBits p) (labels p) fit-laid,
+        layOut-labels k m (treeBits p) (labels p) fit-laid,
+        kind-field,
+        o .bits,
+        o .marks,
+      )
       (decode-encode k (word p) (o .proper))
 
 -- ---- from bytes to a fit plan

@@ -44,7 +44,10 @@ module _ (s : Machine) (k : Held s) where
     nests = rw e (second-nests (s .n) (s .here) (s .below) o os w h (r .nests));
     ups-are = r .ups-are;
     seconds-are = sym (head-tail (s .seconds) (length os) (k .seconds-match ∙ ap length e)) ∙ cons-is (r .label-is) (r .seconds-are);
-    label-is = t; bits-are = r .bits-are; labels-are = r .labels-are }
+    label-is = t;
+    bits-are = r .bits-are;
+    labels-are = r .labels-are;
+  }
 
   pub from-up : (w : List Letter) (v : ℕ) (vs bs : List ℕ) → s .label ≢ 1 → s .bits ≡ 0 ∷ bs → s .below ≡ v ∷ vs → Reads (risen s v vs bs) w
       → Reads s (up ∷ w)
@@ -52,14 +55,22 @@ module _ (s : Machine) (k : Held s) where
   from-up w v vs bs t e q r = record {
     nests = rw q (r .nests);
     ups-are = sym (head-tail (s .ups) (length vs) (k .ups-match ∙ ap length q)) ∙ cons-is (r .label-is) (r .ups-are);
-    seconds-are = r .seconds-are; label-is = zero-label t; bits-are = e ∙ cons-is refl (r .bits-are); labels-are = r .labels-are }
+    seconds-are = r .seconds-are;
+    label-is = zero-label t;
+    bits-are = e ∙ cons-is refl (r .bits-are);
+    labels-are = r .labels-are;
+  }
 
   pub from-done : s .label ≢ 1 → s .bits ≡ [] → s .below ≡ [] → s .opens ≡ [] → s .labels ≡ [] → Reads s []
   unfolding nested ends startsSecond wordBits
   from-done t e p q r = record {
-    nests = rw (p, q); ups-are = no-entries (s .ups) (k .ups-match ∙ ap length p);
+    nests = rw (p, q);
+    ups-are = no-entries (s .ups) (k .ups-match ∙ ap length p);
     seconds-are = no-entries (s .seconds) (k .seconds-match ∙ ap length q);
-    label-is = zero-label t; bits-are = e; labels-are = r }
+    label-is = zero-label t;
+    bits-are = e;
+    labels-are = r;
+  }
 
   module _ (w : List Letter) (b l c : ℕ) (bs ls : List ℕ) (t : s .label ≢ 1) (e : s .bits ≡ b ∷ c ∷ bs) (z : b ≢ 0) (q : s .labels ≡ l ∷ ls) where
     one-bit : s .bits ≡ 1 ∷ c ∷ bs
@@ -68,26 +79,38 @@ module _ (s : Machine) (k : Held s) where
     pub from-star : l ≡ star → Reads (leafed s c bs ls) w → Reads s (down ∷ up ∷ w)
     unfolding nested ends endsOne startsUp startsSecond wordBits
     from-star h r = record {
-      nests = r .nests; ups-are = r .ups-are; seconds-are = r .seconds-are; label-is = zero-label t;
+      nests = r .nests;
+      ups-are = r .ups-are;
+      seconds-are = r .seconds-are;
+      label-is = zero-label t;
       bits-are = one-bit ∙ cons-is refl (cons-is (r .label-is) (r .bits-are));
-      labels-are = q ∙ cons-is h (r .labels-are) }
+      labels-are = q ∙ cons-is h (r .labels-are);
+    }
 
     pub from-back : c ≡ 0 → Reads (backed s l bs ls) w → Reads s (first ∷ w)
     unfolding nested ends endsOne startsSecond wordBits
     from-back h r = record {
-      nests = r .nests; ups-are = r .ups-are; seconds-are = ap tail (r .seconds-are); label-is = zero-label t;
+      nests = r .nests;
+      ups-are = r .ups-are;
+      seconds-are = ap tail (r .seconds-are);
+      label-is = zero-label t;
       bits-are = one-bit ∙ cons-is refl (cons-is h (r .bits-are));
-      labels-are = q ∙ cons-is (ap head (r .seconds-are)) (r .labels-are) }
+      labels-are = q ∙ cons-is (ap head (r .seconds-are)) (r .labels-are);
+    }
 
     pub from-tree : c ≢ 0 → Reads (entered s l (c ∷ bs) ls) w → Reads s (down ∷ w)
     unfolding nested ends endsOne startsSecond wordBits
     from-tree h r =
         let u = not-up w c bs h (r .bits-are) in
         record {
-          nests = r .nests; ups-are = ap tail (r .ups-are); seconds-are = r .seconds-are; label-is = zero-label t;
+          nests = r .nests;
+          ups-are = ap tail (r .ups-are);
+          seconds-are = r .seconds-are;
+          label-is = zero-label t;
           bits-are = one-bit ∙ cons-is refl (r .bits-are ∙ bits-after w u);
           labels-are = q ∙ cons-is (ap head (r .ups-are)) (r .labels-are)
-              ∙ ap (λ (x : Bool). cond x star (head (ends w .ups)) ∷ ends w .labels) (sym u) }
+              ∙ ap (λ (x : Bool). cond x star (head (ends w .ups)) ∷ ends w .labels) (sym u);
+        }
 
 -- ---- the whole word
 
@@ -116,6 +139,7 @@ decoded (suc f) s w k e = go (step s) (λ t v. decoded f t v)
         → turn s ≡ goes (l ∷ ls) t → Held t → ((v : List Letter) → Reads t v → Reads s (l ∷ ls ++ v)) → Reads s w
     back l ls t ih q h from =
         let z = before-after l ls (decode f t) w (sym (ap (follow (decode f)) q) ∙ e) in subst (Reads s) (z .2) (from (z .0) (ih t (z .0) h (z .1)))
+
     go : Step s → ((t : Machine) (v : List Letter) → Held t → decode f t ≡ found v → Reads t v) → Reads s w
     go (closes o os t q h) ih =
         back second [] (closed s os) ih (turn-close s o os t q h) (held-close s k o os q) (λ v. from-close s k v o os t q h)
@@ -175,6 +199,9 @@ pub encode-decode : (k : ℕ) (bits labels : List ℕ) (w : List Letter) → isK
     → length bits ≡ 2 * m → length labels ≡ m → allBelow 2 bits ≡ true → allBelow (labelBase k) labels ≡ true
     → decodeWord k bits labels ≡ found w
     → (valid k w ≡ true) × (wordBits false w ≡ bits) × (wordLabels w ≡ labels) × (length w ≡ 2 * m)
-encode-decode k bits labels w kind m fits n _ low bound e =
-    (decoded-valid k bits labels w low bound e kind (rw n fits), decoded-bits k bits labels w low bound e,
-    decoded-labels k bits labels w low bound e, decoded-length k bits labels w low bound e ∙ n)
+encode-decode k bits labels w kind m fits n _ low bound e = (
+  decoded-valid k bits labels w low bound e kind (rw n fits),
+  decoded-bits k bits labels w low bound e,
+  decoded-labels k bits labels w low bound e,
+  decoded-length k bits labels w low bound e ∙ n,
+)

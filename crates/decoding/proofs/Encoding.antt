@@ -57,8 +57,14 @@ module _ (m : ℕ) (s : Machine) (w : List Letter) (i : Within m s) where
         turns = turn-up s (z .0) (z .1) (wordBits false w) (not-one (s .label) (r .label-is)) (r .bits-are) (z .2);
         within = within-up m s i (z .0) (z .1) (wordBits false w) (z .2);
         reads = record {
-          nests = z .3; ups-are = ap tail (r .ups-are); seconds-are = r .seconds-are; label-is = ap head (r .ups-are);
-          bits-are = refl; labels-are = r .labels-are } }
+          nests = z .3;
+          ups-are = ap tail (r .ups-are);
+          seconds-are = r .seconds-are;
+          label-is = ap head (r .ups-are);
+          bits-are = refl;
+          labels-are = r .labels-are;
+        };
+      }
 
   pub on-second : Reads s (second ∷ w) → Onward m s (second ∷ []) w
   unfolding ends endsOne startsSecond wordBits
@@ -69,8 +75,14 @@ module _ (m : ℕ) (s : Machine) (w : List Letter) (i : Within m s) where
         turns = turn-close s (z .0) (z .1) (r .label-is) (z .2) (z .3);
         within = within-close m s i (z .0) (z .1) (z .2);
         reads = record {
-          nests = z .4; ups-are = r .ups-are; seconds-are = ap tail (r .seconds-are); label-is = ap head (r .seconds-are);
-          bits-are = r .bits-are; labels-are = r .labels-are } }
+          nests = z .4;
+          ups-are = r .ups-are;
+          seconds-are = ap tail (r .seconds-are);
+          label-is = ap head (r .seconds-are);
+          bits-are = r .bits-are;
+          labels-are = r .labels-are;
+        };
+      }
 
   pub on-star : Reads s (down ∷ up ∷ w) → Onward m s (down ∷ up ∷ []) w
   unfolding nested ends endsOne startsUp startsSecond wordBits
@@ -81,7 +93,14 @@ module _ (m : ℕ) (s : Machine) (w : List Letter) (i : Within m s) where
             (λ e. omega arith) (r .labels-are) refl;
         within = within-star m s i star (wordBits false w) (ends w .labels) (r .labels-are) (startsSecond w);
         reads = record {
-          nests = r .nests; ups-are = r .ups-are; seconds-are = r .seconds-are; label-is = refl; bits-are = refl; labels-are = refl } }
+          nests = r .nests;
+          ups-are = r .ups-are;
+          seconds-are = r .seconds-are;
+          label-is = refl;
+          bits-are = refl;
+          labels-are = refl;
+        };
+      }
 
   pub on-back : Reads s (first ∷ w) → Onward m s (first ∷ []) w
   unfolding nested ends endsOne startsSecond wordBits
@@ -94,11 +113,15 @@ module _ (m : ℕ) (s : Machine) (w : List Letter) (i : Within m s) where
             (λ e. omega arith) (r .labels-are) (no-star l (head-below 2 (ends w .seconds) (omega arith) (seconds-below w))) refl;
         within = within-back m s i l (wordBits false w) (ends w .labels) (r .labels-are);
         reads = record {
-          nests = e; ups-are = r .ups-are;
+          nests = e;
+          ups-are = r .ups-are;
           seconds-are = ap (λ (xs : List ℕ). l ∷ xs) (r .seconds-are)
               ∙ head-tail (ends w .seconds) (length (s .opens)) (seconds-count (s .n) (s .here) (s .below) (s .here ∷ s .opens) w e);
           label-is = sym (no-second (s .n) (s .here) (s .below) (s .here ∷ s .opens) w (le-refl (s .here)) e);
-          bits-are = refl; labels-are = refl } }
+          bits-are = refl;
+          labels-are = refl;
+        };
+      }
 
   pub on-tree : startsUp w ≡ false → Reads s (down ∷ w) → Onward m s (down ∷ []) w
   unfolding nested ends endsOne startsSecond wordBits
@@ -118,7 +141,12 @@ module _ (m : ℕ) (s : Machine) (w : List Letter) (i : Within m s) where
           nests = e;
           ups-are = ap (λ (xs : List ℕ). l ∷ xs) (r .ups-are)
               ∙ head-tail (ends w .ups) (length (s .below)) (ups-count (suc (s .n)) (s .n) (s .here ∷ s .below) (s .opens) w e);
-          seconds-are = r .seconds-are; label-is = sym z; bits-are = sym (g .2); labels-are = refl } }
+          seconds-are = r .seconds-are;
+          label-is = sym z;
+          bits-are = sym (g .2);
+          labels-are = refl;
+        };
+      }
 
 -- ---- the whole word
 
@@ -145,9 +173,13 @@ encoded m s (second ∷ w) i r = let o = on-second m s w i r in reads-on m s (se
 pub starts-reading : (w : List Letter) → nested 1 0 [] [] w ≡ true → Reads (start (wordBits false w) (wordLabels w)) w
 unfolding start wordLabels
 starts-reading w e = record {
-  nests = e; ups-are = sym (no-entries (ends w .ups) (ups-count 1 0 [] [] w e));
+  nests = e;
+  ups-are = sym (no-entries (ends w .ups) (ups-count 1 0 [] [] w e));
   seconds-are = sym (no-entries (ends w .seconds) (seconds-count 1 0 [] [] w e));
-  label-is = sym (no-second 1 0 [] [] w zero-le e); bits-are = refl; labels-are = refl }
+  label-is = sym (no-second 1 0 [] [] w zero-le e);
+  bits-are = refl;
+  labels-are = refl;
+}
 
 pub decode-encode : (k : ℕ) (w : List Letter) → valid k w ≡ true → decodeWord k (wordBits false w) (wordLabels w) ≡ found w
 decode-encode k w v =

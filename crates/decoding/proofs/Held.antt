@@ -36,15 +36,25 @@ pub record Held (s : Machine) : Type 0 where
 module _ (s : Machine) (k : Held s) where
   pub held-close : (o : ℕ) (os : List ℕ) → s .opens ≡ o ∷ os → Held (closed s os)
   held-close o os e = record {
-    bits-low = k .bits-low; labels-low = k .labels-low; ups-low = k .ups-low; seconds-low = tail-below 2 (s .seconds) (k .seconds-low);
-    label-low = head-below 2 (s .seconds) (omega arith) (k .seconds-low); ups-match = k .ups-match;
-    seconds-match = length-tail (s .seconds) (length os) (k .seconds-match ∙ ap length e) }
+    bits-low = k .bits-low;
+    labels-low = k .labels-low;
+    ups-low = k .ups-low;
+    seconds-low = tail-below 2 (s .seconds) (k .seconds-low);
+    label-low = head-below 2 (s .seconds) (omega arith) (k .seconds-low);
+    ups-match = k .ups-match;
+    seconds-match = length-tail (s .seconds) (length os) (k .seconds-match ∙ ap length e);
+  }
 
   pub held-up : (v : ℕ) (vs bs : List ℕ) → s .bits ≡ 0 ∷ bs → s .below ≡ v ∷ vs → Held (risen s v vs bs)
   held-up v vs bs e q = record {
-    bits-low = all-part 2 (s .bits) 0 bs e (k .bits-low) .1; labels-low = k .labels-low; ups-low = tail-below 2 (s .ups) (k .ups-low);
-    seconds-low = k .seconds-low; label-low = head-below 2 (s .ups) (omega arith) (k .ups-low);
-    ups-match = length-tail (s .ups) (length vs) (k .ups-match ∙ ap length q); seconds-match = k .seconds-match }
+    bits-low = all-part 2 (s .bits) 0 bs e (k .bits-low) .1;
+    labels-low = k .labels-low;
+    ups-low = tail-below 2 (s .ups) (k .ups-low);
+    seconds-low = k .seconds-low;
+    label-low = head-below 2 (s .ups) (omega arith) (k .ups-low);
+    ups-match = length-tail (s .ups) (length vs) (k .ups-match ∙ ap length q);
+    seconds-match = k .seconds-match;
+  }
 
   module _ (b l c : ℕ) (bs ls : List ℕ) (e : s .bits ≡ b ∷ c ∷ bs) (q : s .labels ≡ l ∷ ls) where
     rest-low : allBelow 2 (c ∷ bs) ≡ true
@@ -61,24 +71,48 @@ module _ (s : Machine) (k : Held s) where
 
     pub held-star : Held (leafed s c bs ls)
     held-star = let j = all-part 2 (c ∷ bs) c bs refl rest-low in record {
-      bits-low = j .1; labels-low = labels-rest; ups-low = k .ups-low; seconds-low = k .seconds-low; label-low = j .0;
-      ups-match = k .ups-match; seconds-match = k .seconds-match }
+      bits-low = j .1;
+      labels-low = labels-rest;
+      ups-low = k .ups-low;
+      seconds-low = k .seconds-low;
+      label-low = j .0;
+      ups-match = k .ups-match;
+      seconds-match = k .seconds-match;
+    }
 
     pub held-back : l ≢ star → Held (backed s l bs ls)
     held-back h = record {
-      bits-low = all-part 2 (c ∷ bs) c bs refl rest-low .1; labels-low = labels-rest; ups-low = k .ups-low;
-      seconds-low = below-cons 2 l (s .seconds) (label-rest h) (k .seconds-low); label-low = omega arith;
-      ups-match = k .ups-match; seconds-match = ap suc (k .seconds-match) }
+      bits-low = all-part 2 (c ∷ bs) c bs refl rest-low .1;
+      labels-low = labels-rest;
+      ups-low = k .ups-low;
+      seconds-low = below-cons 2 l (s .seconds) (label-rest h) (k .seconds-low);
+      label-low = omega arith;
+      ups-match = k .ups-match;
+      seconds-match = ap suc (k .seconds-match);
+    }
 
     pub held-tree : l ≢ star → Held (entered s l (c ∷ bs) ls)
     held-tree h = record {
-      bits-low = rest-low; labels-low = labels-rest; ups-low = below-cons 2 l (s .ups) (label-rest h) (k .ups-low);
-      seconds-low = k .seconds-low; label-low = omega arith; ups-match = ap suc (k .ups-match); seconds-match = k .seconds-match }
+      bits-low = rest-low;
+      labels-low = labels-rest;
+      ups-low = below-cons 2 l (s .ups) (label-rest h) (k .ups-low);
+      seconds-low = k .seconds-low;
+      label-low = omega arith;
+      ups-match = ap suc (k .ups-match);
+      seconds-match = k .seconds-match;
+    }
 
 pub starts-held : (bits labels : List ℕ) → allBelow 2 bits ≡ true → allBelow 3 labels ≡ true → Held (start bits labels)
 unfolding start allBelow
 starts-held bits labels h l = record {
-  bits-low = h; labels-low = l; ups-low = refl; seconds-low = refl; label-low = omega arith; ups-match = refl; seconds-match = refl }
+  bits-low = h;
+  labels-low = l;
+  ups-low = refl;
+  seconds-low = refl;
+  label-low = omega arith;
+  ups-match = refl;
+  seconds-match = refl;
+}
 
 pub turn-held : (s : Machine) → Held s → (ls : List Letter) (t : Machine) → turn s ≡ goes ls t → Held t
 turn-held s k ls t e = subst (Next Held) e (go (step s))

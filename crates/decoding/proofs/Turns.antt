@@ -111,8 +111,10 @@ module _ (s : Machine) where
   step-down t b z [] e ls q = halts (stuck-bit s b t e z)
   step-down t b z (c ∷ bs) e [] q = halts (stuck-label s b c bs t e z q)
   step-down t b z (c ∷ bs) e (l ∷ ls) q =
-      elim (ℕ-discrete l star) [ yes h ↦ leafs b l c bs ls t e z q h
-      | no h ↦ elim (ℕ-discrete c 0) [ yes k ↦ backs b l c bs ls t e z q h k | no k ↦ enters b l c bs ls t e z q h k ] ]
+      elim (ℕ-discrete l star) [
+        | yes h ↦ leafs b l c bs ls t e z q h
+        | no h ↦ elim (ℕ-discrete c 0) [ yes k ↦ backs b l c bs ls t e z q h k | no k ↦ enters b l c bs ls t e z q h k ]
+      ]
 
   step-end : s .label ≢ 1 → s .bits ≡ [] → (below opens labels : List ℕ) → s .below ≡ below → s .opens ≡ opens → s .labels ≡ labels → Step s
   step-end t e [] [] [] p q r = finishes t e p q r

@@ -36,8 +36,12 @@ module _ (m : ℕ) (s : Machine) (i : Within m s) where
   within-close o os e =
       let k = ap length e in let j = i .open-edges in
       record {
-        here-in = i .here-in; below-in = i .below-in; opens-in = all-part (s .n) (s .opens) o os e (i .opens-in) .1;
-        vertices = i .vertices; open-edges = omega arith }
+        here-in = i .here-in;
+        below-in = i .below-in;
+        opens-in = all-part (s .n) (s .opens) o os e (i .opens-in) .1;
+        vertices = i .vertices;
+        open-edges = omega arith;
+      }
 
   pub within-up : (v : ℕ) (vs bs : List ℕ) → s .below ≡ v ∷ vs → Within m (risen s v vs bs)
   within-up v vs bs e =
@@ -52,15 +56,23 @@ module _ (m : ℕ) (s : Machine) (i : Within m s) where
     within-star c =
         let k = ap length e in let j = i .open-edges in let n = i .vertices in
         record {
-          here-in = le-step (i .here-in); below-in = one-more (s .below) (i .below-in); opens-in = one-more (s .opens) (i .opens-in);
-          vertices = omega arith; open-edges = omega arith }
+          here-in = le-step (i .here-in);
+          below-in = one-more (s .below) (i .below-in);
+          opens-in = one-more (s .opens) (i .opens-in);
+          vertices = omega arith;
+          open-edges = omega arith;
+        }
 
     pub within-back : Within m (backed s l bs ls)
     within-back =
         let k = ap length e in let j = i .open-edges in let n = i .vertices in
         record {
-          here-in = i .here-in; below-in = i .below-in; opens-in = below-cons (s .n) (s .here) (s .opens) (i .here-in) (i .opens-in);
-          vertices = omega arith; open-edges = omega arith }
+          here-in = i .here-in;
+          below-in = i .below-in;
+          opens-in = below-cons (s .n) (s .here) (s .opens) (i .here-in) (i .opens-in);
+          vertices = omega arith;
+          open-edges = omega arith;
+        }
 
     pub within-tree : Within m (entered s l bs ls)
     within-tree =
@@ -68,7 +80,10 @@ module _ (m : ℕ) (s : Machine) (i : Within m s) where
         record {
           here-in = lt-suc-self (s .n);
           below-in = below-cons (suc (s .n)) (s .here) (s .below) (le-step (i .here-in)) (one-more (s .below) (i .below-in));
-          opens-in = one-more (s .opens) (i .opens-in); vertices = omega arith; open-edges = omega arith }
+          opens-in = one-more (s .opens) (i .opens-in);
+          vertices = omega arith;
+          open-edges = omega arith;
+        }
 
   pub turn-within : (ls : List Letter) (t : Machine) → turn s ≡ goes ls t → Within m t
   turn-within ls t e = subst (Next (Within m)) e (go (step s))

@@ -26,30 +26,70 @@ pub record Reads (s : Machine) (w : List Letter) : Type 0 where
 
 abbrev pub closed : Machine → List ℕ → Machine
 closed s opens = record {
-  n = s .n; here = s .here; below = s .below; ups = s .ups; opens = opens; seconds = tail (s .seconds); label = head (s .seconds);
-  bits = s .bits; labels = s .labels }
+  n = s .n;
+  here = s .here;
+  below = s .below;
+  ups = s .ups;
+  opens = opens;
+  seconds = tail (s .seconds);
+  label = head (s .seconds);
+  bits = s .bits;
+  labels = s .labels;
+}
 
 abbrev pub risen : Machine → ℕ → List ℕ → List ℕ → Machine
 risen s here below bits = record {
-  n = s .n; here = here; below = below; ups = tail (s .ups); opens = s .opens; seconds = s .seconds; label = head (s .ups);
-  bits = bits; labels = s .labels }
+  n = s .n;
+  here = here;
+  below = below;
+  ups = tail (s .ups);
+  opens = s .opens;
+  seconds = s .seconds;
+  label = head (s .ups);
+  bits = bits;
+  labels = s .labels;
+}
 
 -- b is the leaf's saved label
 abbrev pub leafed : Machine → ℕ → List ℕ → List ℕ → Machine
 leafed s b bits labels = record {
-  n = suc (s .n); here = s .here; below = s .below; ups = s .ups; opens = s .opens; seconds = s .seconds; label = b;
-  bits = bits; labels = labels }
+  n = suc (s .n);
+  here = s .here;
+  below = s .below;
+  ups = s .ups;
+  opens = s .opens;
+  seconds = s .seconds;
+  label = b;
+  bits = bits;
+  labels = labels;
+}
 
 -- l is the edge's label, here and in `entered`
 abbrev pub backed : Machine → ℕ → List ℕ → List ℕ → Machine
 backed s l bits labels = record {
-  n = s .n; here = s .here; below = s .below; ups = s .ups; opens = s .here ∷ s .opens; seconds = l ∷ s .seconds; label = 0;
-  bits = bits; labels = labels }
+  n = s .n;
+  here = s .here;
+  below = s .below;
+  ups = s .ups;
+  opens = s .here ∷ s .opens;
+  seconds = l ∷ s .seconds;
+  label = 0;
+  bits = bits;
+  labels = labels;
+}
 
 abbrev pub entered : Machine → ℕ → List ℕ → List ℕ → Machine
 entered s l bits labels = record {
-  n = suc (s .n); here = s .n; below = s .here ∷ s .below; ups = l ∷ s .ups; opens = s .opens; seconds = s .seconds; label = 0;
-  bits = bits; labels = labels }
+  n = suc (s .n);
+  here = s .n;
+  below = s .here ∷ s .below;
+  ups = l ∷ s .ups;
+  opens = s .opens;
+  seconds = s .seconds;
+  label = 0;
+  bits = bits;
+  labels = labels;
+}
 
 -- ---- the run
 

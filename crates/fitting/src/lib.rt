@@ -29,10 +29,7 @@ fn walked(order: &[u16], root: usize, w: &mut [u16]) -> Survey
 {
     let vertices = cycles::label(order, false, w, 0);
     let met = contour::walk(order, root, w);
-    Survey {
-        vertices,
-        met,
-    }
+    Survey { vertices, met }
 }
 
 // Refusals 11 and 12, from the names of the vertices.

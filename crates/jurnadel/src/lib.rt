@@ -3,7 +3,6 @@
 use model::ReadBack;
 use model::Shelved;
 use model::Written;
-
 ghost use mathlib.Core.Path.{_≡_};
 ghost use Prim.Native.Nat.{ℕ, _*_};
 ghost use lib.ListN.{length, take};
@@ -75,7 +74,12 @@ pub extern "C" fn jurnadel_write(
 
 // The plan in its standard numbering goes to the first entries of `order`, and the number of its trails to `trails`, 0 if refused.
 #[no_mangle]
-pub extern "C" fn jurnadel_read(record: &[u8], work: &mut [u16], order: &mut [u16], trails: &mut u16) -> u16
+pub extern "C" fn jurnadel_read(
+    record: &[u8],
+    work: &mut [u16],
+    order: &mut [u16],
+    trails: &mut u16,
+) -> u16
     ensures { λ r. ⌜ ReadExport (now («record» .entry)) (now (work .entry)) (now (order .entry)) r (now (trails .exit)) (now (work .exit)) (now (order .exit)) ⌝ }
 {
     let answer = reading::read(record, work, order);
@@ -95,7 +99,13 @@ pub extern "C" fn jurnadel_read(record: &[u8], work: &mut [u16], order: &mut [u1
 
 // The record's number goes to `number`, 0 if refused; the used length to `new_used`, `used` if refused.
 #[no_mangle]
-pub extern "C" fn jurnadel_shelve(record: &[u8], shelf: &mut [u8], used: usize, number: &mut usize, new_used: &mut usize) -> u16
+pub extern "C" fn jurnadel_shelve(
+    record: &[u8],
+    shelf: &mut [u8],
+    used: usize,
+    number: &mut usize,
+    new_used: &mut usize,
+) -> u16
     ensures { λ r. ⌜ ShelveExport (now («record» .entry)) (now (shelf .entry)) used r (now (number .exit)) (now («new_used» .exit)) (now (shelf .exit)) ⌝ }
 {
     let answer = shelf::shelve(record, shelf, used);
@@ -115,7 +125,13 @@ pub extern "C" fn jurnadel_shelve(record: &[u8], shelf: &mut [u8], used: usize, 
 
 // Where the record stands goes to `at` and its length to `length`; both 0 if refused.
 #[no_mangle]
-pub extern "C" fn jurnadel_fetch(shelf: &[u8], used: usize, number: usize, at: &mut usize, length: &mut usize) -> u16
+pub extern "C" fn jurnadel_fetch(
+    shelf: &[u8],
+    used: usize,
+    number: usize,
+    at: &mut usize,
+    length: &mut usize,
+) -> u16
     ensures { λ r. ⌜ FetchExport (now (shelf .entry)) used number r (now (at .exit)) (now (length .exit)) ⌝ }
 {
     let mut refusal = 0;
@@ -132,7 +148,12 @@ pub extern "C" fn jurnadel_fetch(shelf: &[u8], used: usize, number: usize, at: &
 
 // The place of the record, with which a walk begins, goes to `at`; the used length, where no record is left, if refused.
 #[no_mangle]
-pub extern "C" fn jurnadel_walk_begin(shelf: &[u8], used: usize, number: usize, at: &mut usize) -> u16
+pub extern "C" fn jurnadel_walk_begin(
+    shelf: &[u8],
+    used: usize,
+    number: usize,
+    at: &mut usize,
+) -> u16
     ensures { λ r. ⌜ Begun (now (shelf .entry)) used number (now (at .exit)) r ⌝ }
 {
     let mut refusal = 0;

@@ -56,7 +56,7 @@ module _ (p : Plan) (toured : Toured p) (bracketed : Bracketed p) (fits : dartCo
       let starts = ap startsUp (word-left p toured (suc i) r) in
       bool-ext _ _
       (λ t. starts ∙ ap (λ (l : Letter). startsUp (l ∷ drop (suc (suc i)) (word p)))
-        (ap (letterOf p) (sym (lone i h e t)) ∙ mate-letter p toured i h down e))
+      (ap (letterOf p) (sym (lone i h e t)) ∙ mate-letter p toured i h down e))
       (λ t. alone i h e (leaf-mate p toured fits bracketed i r e (starts-up (letterOf p (suc i)) (drop (suc (suc i)) (word p)) (sym starts ∙ t))))
 
   -- the down right before an up is its mate
@@ -78,5 +78,5 @@ module _ (p : Plan) (toured : Toured p) (bracketed : Bracketed p) (fits : dartCo
       let here : opposite (dartAt p a) ≡ dartAt p i = sym (mate-dart p toured fits a ha) ∙ ap (dartAt p) back in
       bool-ext _ _
       (λ t. let m = lone a ha ea (ap (degreeOne (p .rotation)) here ∙ t) in
-        ap (afterDown p) (sym back ∙ m) ∙ ap isDown ea)
+      ap (afterDown p) (sym back ∙ m) ∙ ap isDown ea)
       (λ t. ap (degreeOne (p .rotation)) (sym here) ∙ alone a ha ea (down-before i h e t))

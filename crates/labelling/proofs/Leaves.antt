@@ -79,16 +79,16 @@ module _ (p : Plan) (toured : Toured p) (fits : dartCountFits (darts p) ≡ true
   pub marked-other : (i : ℕ) (s : Labels) → i < darts p → letterOf p i ≢ first → Marked p i i s → Marked p (suc i) (suc i) s
   marked-other i s h n m =
       let from : (j : ℕ) → j < darts p → letterOf p j ≡ second → mateOf p j ≢ i = λ j hj e q.
-        n (ap (letterOf p) (sym q) ∙ mate-letter p toured j hj second e) in
+      n (ap (letterOf p) (sym q) ∙ mate-letter p toured j hj second e) in
       let same : (j : ℕ) → lit p i j ≡ lit p (suc i) j = λ j. lit-same p toured i j (λ hj e. from (suc j) hj e) in
       record {
-    tree-size = m .tree-size;
-    cut-size = m .cut-size;
-    ups = λ j hj e. m .ups j hj e ∙ same j;
-    cuts = λ j hj e. m .cuts j hj e ∙ same j;
-    leaves = λ j hj e l. lt-suc-split l (λ q. absurd (from j hj e q)) (λ q. m .leaves j hj e q ∙ same j);
-    present = λ j hj e l. m .present j hj e (omega arith);
-  }
+        tree-size = m .tree-size;
+        cut-size = m .cut-size;
+        ups = λ j hj e. m .ups j hj e ∙ same j;
+        cuts = λ j hj e. m .cuts j hj e ∙ same j;
+        leaves = λ j hj e l. lt-suc-split l (λ q. absurd (from j hj e q)) (λ q. m .leaves j hj e q ∙ same j);
+        present = λ j hj e l. m .present j hj e (omega arith);
+      }
 
   -- a leaf at position i whose cut edge ends at position suc a
   module _ (i a : ℕ) (h : i < darts p) (f : letterOf p i ≡ first) (b : mateOf p i ≡ suc a) where
@@ -115,29 +115,29 @@ module _ (p : Plan) (toured : Toured p) (fits : dartCountFits (darts p) ≡ true
         let ha : a < darts p = omega (arith, end-bound) in
         let no : (j : ℕ) → letterOf p j ≡ second → j ≢ a = λ j e. not-at j second up e g (λ z. omega arith) in
         record {
-      tree-size = simp length-set (m .tree-size);
-      cut-size = m .cut-size;
-      ups = λ j hj e. eq-split j a
-        (λ q. there (s .tree) 1 j a q ha (m .tree-size) ∙ sym lit-here ∙ ap (lit p (suc i)) (sym q))
-        (λ n. elsewhere (s .tree) 1 j a hj ha (ap opens e) (ap opens g) n ∙ m .ups j hj e ∙ lit-else j n);
-      cuts = λ j hj e. m .cuts j hj e ∙ lit-else j (no j e);
-      leaves = λ j hj e l. elsewhere (s .tree) 1 j a hj ha (ap opens e) (ap opens g) (no j e) ∙ m .leaves j hj e l ∙ lit-else j (no j e);
-      present = m .present;
-    }
+          tree-size = simp length-set (m .tree-size);
+          cut-size = m .cut-size;
+          ups = λ j hj e. eq-split j a
+              (λ q. there (s .tree) 1 j a q ha (m .tree-size) ∙ sym lit-here ∙ ap (lit p (suc i)) (sym q))
+              (λ n. elsewhere (s .tree) 1 j a hj ha (ap opens e) (ap opens g) n ∙ m .ups j hj e ∙ lit-else j n);
+          cuts = λ j hj e. m .cuts j hj e ∙ lit-else j (no j e);
+          leaves = λ j hj e l. elsewhere (s .tree) 1 j a hj ha (ap opens e) (ap opens g) (no j e) ∙ m .leaves j hj e l ∙ lit-else j (no j e);
+          present = m .present;
+        }
 
     pub marked-second : letterOf p a ≡ second → i < mateOf p a → (s : Labels) → Marked p i i s → Marked p (suc i) i (lightCut s (edgeAt p a))
     marked-second g late s m =
         let ha : a < darts p = omega (arith, end-bound) in
         record {
-      tree-size = m .tree-size;
-      cut-size = simp length-set (m .cut-size);
-      ups = λ j hj e. m .ups j hj e ∙ lit-else j (not-at j up second e g (λ z. omega arith));
-      cuts = λ j hj e. eq-split j a
-        (λ q. there (s .cut) 1 j a q ha (m .cut-size) ∙ sym lit-here ∙ ap (lit p (suc i)) (sym q))
-        (λ n. elsewhere (s .cut) 1 j a hj ha (ap opens e) (ap opens g) n ∙ m .cuts j hj e ∙ lit-else j n);
-      leaves = λ j hj e l. m .leaves j hj e l ∙ lit-else j (λ q. let z = ap (mateOf p) q in omega arith);
-      present = m .present;
-    }
+          tree-size = m .tree-size;
+          cut-size = simp length-set (m .cut-size);
+          ups = λ j hj e. m .ups j hj e ∙ lit-else j (not-at j up second e g (λ z. omega arith));
+          cuts = λ j hj e. eq-split j a
+              (λ q. there (s .cut) 1 j a q ha (m .cut-size) ∙ sym lit-here ∙ ap (lit p (suc i)) (sym q))
+              (λ n. elsewhere (s .cut) 1 j a hj ha (ap opens e) (ap opens g) n ∙ m .cuts j hj e ∙ lit-else j n);
+          leaves = λ j hj e l. m .leaves j hj e l ∙ lit-else j (λ q. let z = ap (mateOf p) q in omega arith);
+          present = m .present;
+        }
 
     pub marked-removed : (s : Labels) → Marked p (suc i) i s → Marked p (suc i) (suc i) (removeCut s (edgeAt p (suc a)))
     unfolding removeCut
@@ -145,15 +145,15 @@ module _ (p : Plan) (toured : Toured p) (fits : dartCountFits (darts p) ≡ true
         let other : (j : ℕ) → mateOf p j ≢ i → j ≢ suc a = λ j n q. n (ap (mateOf p) q ∙ end-mate) in
         let end = ap opens end-letter in
         record {
-      tree-size = simp length-set (m .tree-size);
-      cut-size = m .cut-size;
-      ups = λ j hj e. elsewhere (s .tree) _ j (suc a) hj end-bound (ap opens e) end
-        (λ q. omega (arith, apart (letterOf p j) e (ap (letterOf p) q ∙ end-letter))) ∙ m .ups j hj e;
-      cuts = m .cuts;
-      leaves = λ j hj e l. eq-split (mateOf p j) i
-        (λ q. let r : j ≡ suc a = sym (mate-back p toured fits j hj) ∙ ap (mateOf p) q ∙ b in
-          there (s .tree) _ j (suc a) r end-bound (m .tree-size) ∙ m .cuts (suc a) end-bound end-letter ∙ ap (lit p (suc i)) (sym r))
-        (λ n. elsewhere (s .tree) _ j (suc a) hj end-bound (ap opens e) end (other j n) ∙ m .leaves j hj e (omega arith));
-      present = λ j hj e l. elsewhere (s .removed) _ j (suc a) hj end-bound (ap opens e) end
-        (other j (λ q. omega arith)) ∙ m .present j hj e (omega arith);
-    }
+          tree-size = simp length-set (m .tree-size);
+          cut-size = m .cut-size;
+          ups = λ j hj e. elsewhere (s .tree) _ j (suc a) hj end-bound (ap opens e) end
+              (λ q. omega (arith, apart (letterOf p j) e (ap (letterOf p) q ∙ end-letter))) ∙ m .ups j hj e;
+          cuts = m .cuts;
+          leaves = λ j hj e l. eq-split (mateOf p j) i
+              (λ q. let r : j ≡ suc a = sym (mate-back p toured fits j hj) ∙ ap (mateOf p) q ∙ b in
+              there (s .tree) _ j (suc a) r end-bound (m .tree-size) ∙ m .cuts (suc a) end-bound end-letter ∙ ap (lit p (suc i)) (sym r))
+              (λ n. elsewhere (s .tree) _ j (suc a) hj end-bound (ap opens e) end (other j n) ∙ m .leaves j hj e (omega arith));
+          present = λ j hj e l. elsewhere (s .removed) _ j (suc a) hj end-bound (ap opens e) end
+              (other j (λ q. omega arith)) ∙ m .present j hj e (omega arith);
+        }

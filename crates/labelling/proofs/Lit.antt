@@ -40,7 +40,7 @@ pub starts-cases : (p : Plan) → Toured p → (k : ℕ) → Starts p k
 unfolding startsAt startsSecond
 starts-cases p toured k = lt-or-le k (darts p)
     (λ h. let e = ap startsSecond (word-left p toured k h) in
-      ⊎-elim (λ z. inl (e ∙ z)) (λ z. inr (h, z .0, e ∙ z .1)) (starts-letter (letterOf p k) (drop (suc k) (word p))))
+    ⊎-elim (λ z. inl (e ∙ z)) (λ z. inr (h, z .0, e ∙ z .1)) (starts-letter (letterOf p k) (drop (suc k) (word p))))
     (λ h. let e = word-length p toured in inl (ap startsSecond (drop-of-length-le (word p) {i = k} (omega arith))))
 
 unfoldable pub lit : Plan → ℕ → ℕ → ℕ
@@ -72,9 +72,9 @@ pub lit-same : (p : Plan) → Toured p → (i j : ℕ) → (suc j < darts p → 
 lit-same p toured i j n =
     ⊎-elim (λ z. lit-none p i j z ∙ sym (lit-none p (suc i) j z))
     (λ z. tri (mateOf p (suc j)) i
-      (λ l. lit-in p i j l ∙ sym (lit-in p (suc i) j (omega arith)))
-      (λ e. absurd (n (z .0) (z .1) e))
-      (λ g. lit-out p i j (omega arith) ∙ sym (lit-out p (suc i) j (omega arith))))
+    (λ l. lit-in p i j l ∙ sym (lit-in p (suc i) j (omega arith)))
+    (λ e. absurd (n (z .0) (z .1) e))
+    (λ g. lit-out p i j (omega arith) ∙ sym (lit-out p (suc i) j (omega arith))))
     (starts-cases p toured (suc j))
 
 pub lit-now : (p : Plan) → Toured p → (i j : ℕ) → suc j < darts p → letterOf p (suc j) ≡ second → mateOf p (suc j) ≡ i → lit p (suc i) j ≡ 1

@@ -54,17 +54,17 @@ module _ (p : Plan) (toured : Toured p) (bracketed : Bracketed p) (fits : dartCo
 
     label-one : (i : ℕ) → i < darts p → (l : Letter) → letterOf p i ≡ l
         → labelOf (p .rotation) (treeLabels p) l (dartAt p i) ++ endsFrom p (suc i) .labels
-          ≡ endsOne l (drop (suc i) (word p)) (endsFrom p (suc i)) .labels
+        ≡ endsOne l (drop (suc i) (word p)) (endsFrom p (suc i)) .labels
     unfolding labelOf endsOne
     label-one i h down e =
         ap₂ (λ (b : Bool) (x : ℕ). cond b star x ∷ endsFrom p (suc i) .labels) (bare-down p toured bracketed fits i h e)
         (label-opens p toured fits perm bracketed after i h (ap opens e)
-          ∙ sym (waits-head p toured bracketed fits true i h (ap isTree e) (ap opens e)))
+        ∙ sym (waits-head p toured bracketed fits true i h (ap isTree e) (ap opens e)))
     label-one i h up e = refl
     label-one i h first e =
         ap (λ (x : ℕ). x ∷ endsFrom p (suc i) .labels)
         (label-opens p toured fits perm bracketed after i h (ap opens e)
-          ∙ sym (waits-head p toured bracketed fits false i h (ap (ofSort false) e) (ap opens e)))
+        ∙ sym (waits-head p toured bracketed fits false i h (ap (ofSort false) e) (ap opens e)))
     label-one i h second e = refl
 
     pub labels-read : labels p ≡ wordLabels (word p)
@@ -77,7 +77,7 @@ module _ (p : Plan) (toured : Toured p) (bracketed : Bracketed p) (fits : dartCo
 
     bits-one : (i : ℕ) → i < darts p → (l : Letter) → letterOf p i ≡ l
         → bitsOf (p .rotation) (treeLabels p) l (dartAt p i) ++ wordBits (isDown l) (drop (suc i) (word p))
-          ≡ wordBits (afterDown p i) (l ∷ drop (suc i) (word p))
+        ≡ wordBits (afterDown p i) (l ∷ drop (suc i) (word p))
     unfolding bitsOf wordBits startsAt
     bits-one i h down e = refl
     bits-one i h up e =

@@ -37,14 +37,14 @@ module _ (p : Plan) (toured : Toured p) (bracketed : Bracketed p) (fits : dartCo
       let open′ = toured .opens-first j (omega arith) (ap opens f) in
       lt-suc-split (began j h e)
       (λ q.
-        let there : next (p .rotation) (dartAt p j) ≡ opposite (dartAt p j) =
-          sym (toured .step j h ∙ ap (λ (l : Letter). onward (p .rotation) l (dartAt p j)) f)
-          ∙ ap (dartAt p) (sym back ∙ ap (mateOf p) q) ∙ mate-dart p toured fits j (omega arith) in
-        let bound = toured .dart-bound j (omega arith) in
-        loopless-at (p .rotation) no-loop (dartAt p j) bound
-        (sym (vertex-turn (p .rotation) turn (dartAt p j) bound) ∙ ap (vertexOf (p .rotation)) there))
+      let there : next (p .rotation) (dartAt p j) ≡ opposite (dartAt p j) =
+      sym (toured .step j h ∙ ap (λ (l : Letter). onward (p .rotation) l (dartAt p j)) f)
+      ∙ ap (dartAt p) (sym back ∙ ap (mateOf p) q) ∙ mate-dart p toured fits j (omega arith) in
+      let bound = toured .dart-bound j (omega arith) in
+      loopless-at (p .rotation) no-loop (dartAt p j) bound
+      (sym (vertex-turn (p .rotation) turn (dartAt p j) bound) ∙ ap (vertexOf (p .rotation)) there))
       (λ l. let z = bracketed .chords a j (mate-bound p toured fits (suc j) h) (began-letter j h e) l (omega arith) (ap isTree f) in
-        omega arith)
+      omega arith)
 
   -- right after a down it would end at a vertex of which no dart was met when it began
   not-down : (j : ℕ) → suc j < darts p → letterOf p (suc j) ≡ second → letterOf p j ≡ down → ⊥
@@ -56,8 +56,8 @@ module _ (p : Plan) (toured : Toured p) (bracketed : Bracketed p) (fits : dartCo
       let seen = toured .old a ha (began-letter j h e) in
       let soon = seen .1 in
       let there : opposite (dartAt p a) ≡ next (p .rotation) (opposite (dartAt p j)) =
-        sym (mate-dart p toured fits a ha) ∙ ap (dartAt p) (mate-back p toured fits (suc j) h)
-        ∙ toured .step j h ∙ ap (λ (l : Letter). onward (p .rotation) l (dartAt p j)) f in
+      sym (mate-dart p toured fits a ha) ∙ ap (dartAt p) (mate-back p toured fits (suc j) h)
+      ∙ toured .step j h ∙ ap (λ (l : Letter). onward (p .rotation) l (dartAt p j)) f in
       let inside = opposite-at p toured fits j (omega arith) in
       toured .new j (omega arith) f (seen .0) (omega arith)
       (seen .2 ∙ ap (vertexOf (p .rotation)) there ∙ vertex-turn (p .rotation) turn (opposite (dartAt p j)) inside)

@@ -99,7 +99,7 @@ module _ (p : Plan) (toured : Toured p) (fits : dartCountFits (darts p) ≡ true
         let ha : a < darts p = omega arith in
         let y = opposite (dartAt p a) in
         let low : isUpper (codes p) y ≡ false = subst (λ (d : ℕ). isUpper (codes p) d ≡ false) (mate-dart p toured fits a ha)
-          (not-upper (mateOf p a) (mate-bound p toured fits a ha) (mate-letter p toured a ha up g)) in
+        (not-upper (mateOf p a) (mate-bound p toured fits a ha) (mate-letter p toured a ha up g)) in
         let light : labelOne (codes p) s y ≡ lightTree s (edgeAt p a) = light-tree (codes p) s y low ∙ ap (lightTree s) (opposite-edge (dartAt p a)) in
         let step = taken i a s y h b (place-up a end g) (not-gone (codes p) s y low) ∙ ap (λ (x : Labels). removeCut x (edgeAt p (suc a))) light in
         subst (Marked p (suc i) (suc i)) (sym step)
@@ -113,7 +113,7 @@ module _ (p : Plan) (toured : Toured p) (fits : dartCountFits (darts p) ≡ true
         let present = m .present a ha g (omega arith) in
         let light : labelOne (codes p) s y ≡ lightCut s (edgeAt p a) = light-cut (codes p) s y (upper a ha g) in
         let step = taken i a s y h b (place-second a end g) (still-there (codes p) s y present)
-          ∙ ap (λ (x : Labels). removeCut x (edgeAt p (suc a))) light in
+        ∙ ap (λ (x : Labels). removeCut x (edgeAt p (suc a))) light in
         subst (Marked p (suc i) (suc i)) (sym step)
         (marked-removed p toured fits i a h f b (lightCut s (edgeAt p a)) (marked-second p toured fits i a h f b g late s m))
 
@@ -159,7 +159,7 @@ module _ (p : Plan) (toured : Toured p) (fits : dartCountFits (darts p) ≡ true
         let len = toured .all-met in
         let v = getD (visits p) i no-visit in
         let next = subst (λ (d : ℕ). Marked p (suc i) (suc i) (takeOne (p .rotation) (codes p) (v .letter) d s)) (sym (visit-dart p i))
-          (one i s (omega arith) m (v .letter) (sym (visit-letter p i))) in
+        (one i s (omega arith) m (v .letter) (sym (visit-letter p i))) in
         rw (drop-cons (visits p) i no-visit (omega arith))
         (all k (suc i) (takeOne (p .rotation) (codes p) (v .letter) (v .dart) s) (omega arith) next)
 

@@ -41,8 +41,8 @@ module _ (N : ℕ) (μ : ℕ → ℕ) (mine : ℕ → Bool) (flag : ℕ → ℕ)
       let other = waiting .back a (omega arith) in
       tri (μ x) (μ a)
       (λ q. le-split low
-        (λ e. let z = ap μ e in absurd (omega arith))
-        (λ r. let z = waiting .nested a (μ x) (omega arith) m r q (waiting .whole x (omega arith) mx) in absurd (omega arith)))
+      (λ e. let z = ap μ e in absurd (omega arith))
+      (λ r. let z = waiting .nested a (μ x) (omega arith) m r q (waiting .whole x (omega arith) mx) in absurd (omega arith)))
       (λ e. let z = ap μ e in absurd (omega arith))
       (λ g. (g, high))
 
@@ -62,8 +62,8 @@ module _ (N : ℕ) (μ : ℕ → ℕ) (mine : ℕ → Bool) (flag : ℕ → ℕ)
           let (low, high) = closed a (omega arith) q m in
           ⊎-elim
           (λ z. let up = z .0 in
-            z .1 ∙ ap tail (ih (suc a) (μ a) (omega arith) up (omega arith) (closed-inside a (omega arith) m) ∙ ender a (omega arith) m up)
-            ∙ ih (suc (μ a)) b (omega arith) high hb (closed-rest a b hb m up high closed))
+          z .1 ∙ ap tail (ih (suc a) (μ a) (omega arith) up (omega arith) (closed-inside a (omega arith) m) ∙ ender a (omega arith) m up)
+          ∙ ih (suc (μ a)) b (omega arith) high hb (closed-rest a b hb m up high closed))
           (λ z. let down = z .0 in absurd (omega arith))
           (waiting .acts a (omega arith) m)
 

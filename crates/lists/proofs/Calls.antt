@@ -31,7 +31,7 @@ number-of-answer k p w o = go (writeRefusal k p w o) (eqb (writeRefusal k p w o)
   where
     go : (r : ℕ) (b c : Bool) → eqb r 0 ≡ b → eqb r 10 ≡ c
         → numberOfWritten (cond b (written.Length (recordLength k (edges (p .rotation))))
-          (cond c (written.NotPlanar (characteristic (p .rotation))) (written.Refused r))) ≡ r
+        (cond c (written.NotPlanar (characteristic (p .rotation))) (written.Refused r))) ≡ r
     go r true c e f = sym (eqb-true r 0 e)
     go r false true e f = sym (eqb-true r 10 f)
     go r false false e f = refl

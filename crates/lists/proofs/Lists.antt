@@ -55,7 +55,7 @@ module _ (coding : Coding) where
   alike c d e f same =
       let (kinds, words) = same-record coding (c .kind) (d .kind) (c .plan) (d .plan) e f same in
       let (partners, carried) = word-renumbering coding (c .kind) (c .plan) (d .plan) e
-          (subst (λ (k : ℕ). fit k (d .plan) ≡ true) (sym kinds) f) words in
+      (subst (λ (k : ℕ). fit k (d .plan) ≡ true) (sym kinds) f) words in
       record { one-kind = kinds; partners = partners; carried = carried }
 
   alike-record : (c d : Writing) → fit (c .kind) (c .plan) ≡ true → fit (d .kind) (d .plan) ≡ true → Alike c d
@@ -74,7 +74,7 @@ module _ (coding : Coding) where
       framed-some (recordOf (c .kind) (c .plan)) (records cs) (record-framed coding (c .kind) (c .plan) e) same
   records-match (c ∷ cs) (d ∷ ds) (e, es) (f, fs) same =
       let (here, rest) = splits (recordOf (c .kind) (c .plan)) (recordOf (d .kind) (d .plan)) (records cs) (records ds)
-          (record-framed coding (c .kind) (c .plan) e) (record-framed coding (d .kind) (d .plan) f) same in
+      (record-framed coding (c .kind) (c .plan) e) (record-framed coding (d .kind) (d .plan) f) same in
       (alike c d e f here, records-match cs ds es fs rest)
 
   match-records : (cs ds : List Writing) → AllFit cs → AllFit ds → PlaceByPlace cs ds → records cs ≡ records ds

@@ -75,11 +75,13 @@ module _ (coding : Coding) where
   pub same-record : (k l : ℕ) (p q : Plan) → fit k p ≡ true → fit l q ≡ true → recordOf k p ≡ recordOf l q → (k ≡ l) × (word p ≡ word q)
   same-record k l p q e f same =
       let (kinds, sizes′, bits, marks) = coding .layout-injective k l (edges (p .rotation)) (edges (q .rotation))
-          (wordBits false (word p)) (wordLabels (word p)) (wordBits false (word q)) (wordLabels (word q)) (laid k p e) (laid l q f)
-          (sym (record-of-word k p e) ∙ same ∙ record-of-word l q f) in
-      (kinds, found-same (word p) (word q)
-      (sym (coding .decoded k (word p) (of-fit k p e .proper)) ∙ ap₂ (decodeWord k) bits marks
-      ∙ ap (λ (j : ℕ). decodeWord j (wordBits false (word q)) (wordLabels (word q))) kinds ∙ coding .decoded l (word q) (of-fit l q f .proper)))
+      (wordBits false (word p)) (wordLabels (word p)) (wordBits false (word q)) (wordLabels (word q)) (laid k p e) (laid l q f)
+      (sym (record-of-word k p e) ∙ same ∙ record-of-word l q f) in (
+        kinds,
+        found-same (word p) (word q)
+            (sym (coding .decoded k (word p) (of-fit k p e .proper)) ∙ ap₂ (decodeWord k) bits marks
+            ∙ ap (λ (j : ℕ). decodeWord j (wordBits false (word q)) (wordLabels (word q))) kinds ∙ coding .decoded l (word q) (of-fit l q f .proper)),
+      )
 
   pub word-renumbering : (k : ℕ) (p q : Plan) → fit k p ≡ true → fit k q ≡ true → word p ≡ word q → (f : List ℕ) × Renumbering p q f
   word-renumbering k p q e f same =
@@ -88,10 +90,11 @@ module _ (coding : Coding) where
       let one : standardPlan q ≡ standardPlan p = of-fit k q f .standard ∙ ap planOf (sym same) ∙ sym (of-fit k p e .standard) in
       let to : Renumbering p (standardPlan p) (standardNumbers p) = coding .standard-renumbering k p e in
       let from : Renumbering q (standardPlan p) (standardNumbers q) =
-          subst (λ (s : Plan). Renumbering q s (standardNumbers q)) one (coding .standard-renumbering k q f) in
-      (composed (standardNumbers p) (inverseOf (standardNumbers q)),
-      compose p (a .count) (a .root) (a .entries) (standardPlan p) (standardNumbers p) to q (inverseOf (standardNumbers q))
-      (inverse q (b .count) (b .root) (b .entries) (standardPlan p) (standardNumbers q) from))
+      subst (λ (s : Plan). Renumbering q s (standardNumbers q)) one (coding .standard-renumbering k q f) in (
+        composed (standardNumbers p) (inverseOf (standardNumbers q)),
+        compose p (a .count) (a .root) (a .entries) (standardPlan p) (standardNumbers p) to q (inverseOf (standardNumbers q))
+            (inverse q (b .count) (b .root) (b .entries) (standardPlan p) (standardNumbers q) from),
+      )
 
   pub renumbered-record : (k : ℕ) (p q : Plan) (f : List ℕ) → fit k p ≡ true → fit k q ≡ true → Renumbering p q f → recordOf k p ≡ recordOf k q
   unfolding edges

@@ -26,9 +26,10 @@ same-length r s rest rest′ f g e =
 
 pub splits : (r s rest rest′ : List ℕ) → Framed r → Framed s → r ++ rest ≡ s ++ rest′ → (r ≡ s) × (rest ≡ rest′)
 splits r s rest rest′ f g e =
-    let n = same-length r s rest rest′ f g e in
-    (sym (take-at r rest (length s) n) ∙ ap (take (length s)) e ∙ take-at s rest′ (length s) refl,
-    sym (drop-at r rest (length s) n) ∙ ap (drop (length s)) e ∙ drop-at s rest′ (length s) refl)
+    let n = same-length r s rest rest′ f g e in (
+      sym (take-at r rest (length s) n) ∙ ap (take (length s)) e ∙ take-at s rest′ (length s) refl,
+      sym (drop-at r rest (length s) n) ∙ ap (drop (length s)) e ∙ drop-at s rest′ (length s) refl,
+    )
 
 -- no framed list is empty
 pub framed-some : (r rest : List ℕ) → Framed r → r ++ rest ≡ [] → ⊥

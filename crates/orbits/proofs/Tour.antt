@@ -48,7 +48,7 @@ module _ (N : ℕ) (σ α : ℕ → ℕ) (turn : Perm N σ) (cross : Involution 
     bound = λ d h. subst (λ (x : ℕ). x < N) (sym (crossed-on (t d) d)) (turn .bound (ψ d) (crossed-bound (t d) d h));
     inj = λ d e hd he q.
         let same : ψ d ≡ ψ e = turn .inj (ψ d) (ψ e) (crossed-bound (t d) d hd) (crossed-bound (t e) e he)
-            (sym (crossed-on (t d) d) ∙ q ∙ crossed-on (t e) e) in
+        (sym (crossed-on (t d) d) ∙ q ∙ crossed-on (t e) e) in
         sym (crossed-back (t d) d hd refl) ∙ ap ψ same ∙ crossed-back (t e) e he refl;
   }
 

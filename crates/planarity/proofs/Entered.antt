@@ -49,9 +49,12 @@ module _ (p : Plan) (t : Toured p) (fits : dartCountFits (darts p) ≡ true) (pe
   flat-no-down k a e q d = true≢false (sym (ap isTree d) ∙ ap (λ (i : ℕ). isTree (letterOf p i)) q ∙ e)
 
   open-past-flat : (k a : ℕ) → k < darts p → isTree (letterOf p k) ≡ false → a < k → Open p k a → Open p (suc k) a
-  open-past-flat k a h e l (d, u) = (d, le-split u
-      (λ q. absurd (true≢false (sym (ap isTree (mate-letter p t a (omega arith) down d)) ∙ ap (λ (i : ℕ). isTree (letterOf p i)) (sym q) ∙ e)))
-      (λ m. m))
+  open-past-flat k a h e l (d, u) = (
+    d,
+    le-split u
+        (λ q. absurd (true≢false (sym (ap isTree (mate-letter p t a (omega arith) down d)) ∙ ap (λ (i : ℕ). isTree (letterOf p i)) (sym q) ∙ e)))
+        (λ m. m),
+  )
 
   pub enters-flat : (k : ℕ) → k < darts p → isTree (letterOf p k) ≡ false → enteredAt p (suc k) ≡ enteredAt p k
   unfolding enteredAt
@@ -83,9 +86,12 @@ module _ (p : Plan) (t : Toured p) (fits : dartCountFits (darts p) ≡ true) (pe
 
   -- and what was open at the down is open
   open-past-up : (k a : ℕ) → k < darts p → letterOf p k ≡ down → a < k → Open p k a → Open p (suc (mateOf p k)) a
-  open-past-up k a h e l (d, u) = (d, le-split u
-      (λ q. absurd (up-no-down a k (omega arith) d q e))
-      (λ c. trees-nested p t fits perm a k (omega arith) d l c (ap isTree e) .1))
+  open-past-up k a h e l (d, u) = (
+    d,
+    le-split u
+        (λ q. absurd (up-no-down a k (omega arith) d q e))
+        (λ c. trees-nested p t fits perm a k (omega arith) d l c (ap isTree e) .1),
+  )
 
   pub enters-up : (k : ℕ) → k < darts p → letterOf p k ≡ down → enteredAt p (suc (mateOf p k)) ≡ enteredAt p k
   unfolding enteredAt

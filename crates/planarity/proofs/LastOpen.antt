@@ -26,9 +26,10 @@ module _ (p : Plan) where
   Open i a = (letterOf p a ≡ down) × (i ≤ mateOf p a)
 
   test-open : (i a : ℕ) → stillOpen p i a ≡ true → Open i a
-  test-open i a e =
-      (is-down (letterOf p a) (and-left (isDown (letterOf p a)) (leb i (mateOf p a)) e),
-      leb-true i (mateOf p a) (and-right (isDown (letterOf p a)) (leb i (mateOf p a)) e))
+  test-open i a e = (
+    is-down (letterOf p a) (and-left (isDown (letterOf p a)) (leb i (mateOf p a)) e),
+    leb-true i (mateOf p a) (and-right (isDown (letterOf p a)) (leb i (mateOf p a)) e),
+  )
 
   open-test : (i a : ℕ) → Open i a → stillOpen p i a ≡ true
   open-test i a (d, l) = ap (λ (c : Letter). isDown c && leb i (mateOf p a)) d ∙ le-leb i (mateOf p a) l

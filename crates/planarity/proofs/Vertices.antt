@@ -125,7 +125,7 @@ module _ (p : Plan) (t : Toured p) (fits : dartCountFits (darts p) ≡ true) (pe
   few-vertices : cycles (next (p .rotation)) (darts p) ≤ suc (downs p)
   few-vertices =
       let most = map-faces-le (darts p) _ opposite (rest (treeDart p)) (posOf p) (dartAt p)
-          (dual (darts p) (next (p .rotation)) opposite (treeDart p) (posOf p) (dartAt p) (tour p t fits perm)) in
+      (dual (darts p) (next (p .rotation)) opposite (treeDart p) (posOf p) (dartAt p) (tour p t fits perm)) in
       omega (arith, around-cycles, tree-chords)
 
   many-vertices : suc (downs p) ≤ cycles (next (p .rotation)) (darts p)

@@ -105,9 +105,9 @@ module _ {rot rot′ f : List ℕ} (two : length rot % 2 ≡ 0) (perm : isPermut
         omega (arith, iso .same-darts);
     inj = λ c d hc hd same.
         sym (back-right c (omega (arith, iso .same-darts))) ∙ ap (of-list f) (
-          next-perm rot perm .inj (getD (inverseOf f) c 0) (getD (inverseOf f) d 0) (back-bound c (omega (arith, iso .same-darts)))
-          (back-bound d (omega (arith, iso .same-darts)))
-          (sym (iso-inverse .rotations c hc) ∙ ap (of-list (inverseOf f)) same ∙ iso-inverse .rotations d hd))
+        next-perm rot perm .inj (getD (inverseOf f) c 0) (getD (inverseOf f) d 0) (back-bound c (omega (arith, iso .same-darts)))
+        (back-bound d (omega (arith, iso .same-darts)))
+        (sym (iso-inverse .rotations c hc) ∙ ap (of-list (inverseOf f)) same ∙ iso-inverse .rotations d hd))
         ∙ back-right d (omega (arith, iso .same-darts));
   })
 
@@ -154,6 +154,7 @@ vertex-on {rot} {rot′} {f} perm perm′ iso d e hd he same = sym (label d hd) 
   where
     at : ℕ → ℕ
     at z = least (next rot′) (length rot′) (getD f z 0)
+
     label : (z : ℕ) → z < length rot → at (least (next rot) (length rot) z) ≡ at z
     label = least-keeps (length rot) (next rot) (next-perm rot perm) at (λ z h.
         let b = image-bound iso z h in
@@ -163,12 +164,15 @@ vertex-on {rot} {rot′} {f} perm perm′ iso d e hd he same = sym (label d hd) 
 module _ {rot rot′ f : List ℕ} (two : length rot % 2 ≡ 0) (perm : isPermutation rot ≡ true) (iso : Isomorphism rot rot′ f) where
   pub iso-vertex : (d e : ℕ) → d < length rot → e < length rot
       → (vertexOf rot d ≡ vertexOf rot e) ↔ (vertexOf rot′ (getD f d 0) ≡ vertexOf rot′ (getD f e 0))
-  iso-vertex d e hd he = (vertex-on perm perm′ iso d e hd he, λ same.
-      let bd = image-bound iso d hd in
-      let be = image-bound iso e he in
-      let on = vertex-on perm′ perm (iso-inverse two perm iso) (getD f d 0) (getD f e 0)
-          (omega (arith, iso .same-darts)) (omega (arith, iso .same-darts)) same in
-      ap (vertexOf rot) (sym (back-left two perm iso d hd)) ∙ on ∙ ap (vertexOf rot) (back-left two perm iso e he))
+  iso-vertex d e hd he = (
+    vertex-on perm perm′ iso d e hd he,
+    λ same.
+        let bd = image-bound iso d hd in
+        let be = image-bound iso e he in
+        let on = vertex-on perm′ perm (iso-inverse two perm iso) (getD f d 0) (getD f e 0)
+        (omega (arith, iso .same-darts)) (omega (arith, iso .same-darts)) same in
+        ap (vertexOf rot) (sym (back-left two perm iso d hd)) ∙ on ∙ ap (vertexOf rot) (back-left two perm iso e he),
+  )
     where
       perm′ : isPermutation rot′ ≡ true
       perm′ = iso-permutation two perm iso

@@ -27,7 +27,13 @@ iso-of r = record { size = r .size; same-darts = r .same-darts; partners = r .pa
 -- an isomorphism that sends root to root
 pub with-root : {p q : Plan} {f : List ℕ} → Isomorphism (p .rotation) (q .rotation) f → getD f (p .root) 0 ≡ q .root → Renumbering p q f
 with-root iso e = record {
-  size = iso .size; same-darts = iso .same-darts; partners = iso .partners; root-to-root = e; opposites = iso .opposites; rotations = iso .rotations }
+  size = iso .size;
+  same-darts = iso .same-darts;
+  partners = iso .partners;
+  root-to-root = e;
+  opposites = iso .opposites;
+  rotations = iso .rotations;
+}
 
 module _ (p : Plan) (fits : dartCountFits (darts p) ≡ true) (root-in : p .root < darts p) (perm : isPermutation (p .rotation) ≡ true) where
   two : darts p % 2 ≡ 0

@@ -17,7 +17,7 @@ module _ (p : Plan)
     (numbers-root : getD (standardNumbers p) (p .root) 0 ≡ 0)
     (numbers-opposite : (d : ℕ) → d < darts p → getD (standardNumbers p) (opposite d) 0 ≡ opposite (getD (standardNumbers p) d 0))
     (standard-entry : (d : ℕ) → d < darts p
-      → next (standardPlan p .rotation) (getD (standardNumbers p) d 0) ≡ getD (standardNumbers p) (next (p .rotation) d) 0) where
+    → next (standardPlan p .rotation) (getD (standardNumbers p) d 0) ≡ getD (standardNumbers p) (next (p .rotation) d) 0) where
   pub standard-renumbering : Renumbering p (standardPlan p) (standardNumbers p)
   unfolding standardPlan
   standard-renumbering = record {

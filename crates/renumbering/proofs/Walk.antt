@@ -101,14 +101,20 @@ module _ (rot rot′ f : List ℕ) (two : length rot % 2 ≡ 0) (perm : isPermut
     where
       n : length (set met d (code l)) ≡ length rot
       n = length-set met d (code l) ∙ m .met-length
+
       n′ : length (set met′ (getD f d 0) (code l)) ≡ length rot
       n′ = length-set met′ (getD f d 0) (code l) ∙ m .met-length′
+
       plain : Marked (set met d (code l)) seen (set met′ (getD f d 0) (code l)) seen′
       plain = record {
-        met-length = n; seen-length = m .seen-length; met-length′ = n′; seen-length′ = m .seen-length′;
+        met-length = n;
+        seen-length = m .seen-length;
+        met-length′ = n′;
+        seen-length′ = m .seen-length′;
         met-same = met-after met met′ (m .met-length) (m .met-length′) (m .met-same) d (code l) h;
         seen-same = m .seen-same;
       }
+
       go : (k : Letter) → Marked (set met d (code l)) (seenAfter rot k d seen) (set met′ (getD f d 0) (code l)) (seenAfter rot′ k (getD f d 0) seen′)
       go down = record {
         met-length = n;
@@ -132,7 +138,7 @@ module _ (rot rot′ f : List ℕ) (two : length rot % 2 ≡ 0) (perm : isPermut
       let e = onward rot l d in
       let he = onward-bound l d h in
       let rest = walk-same root hr n e he (set met d (code l)) (seenAfter rot l d seen) (set met′ (getD f d 0) (code l))
-          (seenAfter rot′ l (getD f d 0) seen′) (marked-after met seen met′ seen′ m l d h) in
+      (seenAfter rot′ l (getD f d 0) seen′) (marked-after met seen met′ seen′ m l d h) in
       let ends = eqb-both e root (getD f e 0) (getD f root 0) (ap (of-list f)) (image-inj iso e root he hr) in
       rw (letter-same met seen met′ seen′ m d h, onward-same l d h, ends, rest)
       (stop (eqb e root) (record { dart = getD f d 0; letter = l }) (walk rot root n e (set met d (code l)) (seenAfter rot l d seen)))
@@ -144,7 +150,7 @@ module _ (rot rot′ f : List ℕ) (two : length rot % 2 ≡ 0) (perm : isPermut
   -- at the beginning nothing is met and the root's vertex is seen
   marked-first : (root : ℕ) → root < length rot
       → Marked (replicate (length rot) 0) (set (replicate (length rot) 0) (vertexOf rot root) 1)
-        (replicate (length rot) 0) (set (replicate (length rot) 0) (vertexOf rot′ (getD f root 0)) 1)
+      (replicate (length rot) 0) (set (replicate (length rot) 0) (vertexOf rot′ (getD f root 0)) 1)
   marked-first root h = record {
     met-length = none;
     seen-length = length-set (replicate (length rot) 0) (vertexOf rot root) 1 ∙ none;
@@ -153,12 +159,13 @@ module _ (rot rot′ f : List ℕ) (two : length rot % 2 ≡ 0) (perm : isPermut
     met-same = λ d hd. blank (getD f d 0) (image-bound iso d hd) ∙ sym (blank d hd);
     seen-same = seen-at (replicate (length rot) 0) (replicate (length rot) 0) none none
         (λ d hd.
-          blank (vertexOf rot′ (getD f d 0)) (vertex-bound′ d hd)
-          ∙ sym (blank (vertexOf rot d) (vertex-bound rot (next-perm rot perm) d hd))) root 1 h;
+        blank (vertexOf rot′ (getD f d 0)) (vertex-bound′ d hd)
+        ∙ sym (blank (vertexOf rot d) (vertex-bound rot (next-perm rot perm) d hd))) root 1 h;
   }
     where
       none : length {A = ℕ} (replicate (length rot) 0) ≡ length rot
       none = length-replicate (length rot) 0
+
       blank : (x : ℕ) → x < length rot → _≡_ {A = ℕ} (getD (replicate (length rot) 0) x 0) 0
       blank x hx = getD-replicate (length rot) x 0 0 hx
 

@@ -219,7 +219,7 @@ module _ (p : Plan) (t : Toured p) (b : Bracketed p) (fits : dartCountFits (dart
     degree-one-read =
         part-split isTree p at
         (λ u m. ⊎-elim (λ s. read-leaf at at-bound u (ap suc (sym m) ∙ s)) (λ (s, z).
-          read-root (subst (λ (i : ℕ). isTree (letterOf p i) ≡ true) z u) (ap (λ (i : ℕ). suc (mateOf p i)) (sym z) ∙ ap suc (sym m) ∙ s)) round)
+        read-root (subst (λ (i : ℕ). isTree (letterOf p i) ≡ true) z u) (ap (λ (i : ℕ). suc (mateOf p i)) (sym z) ∙ ap suc (sym m) ∙ s)) round)
         (λ u m. absurd (⊎-elim (λ s. omega arith) (λ s. omega (arith, count-even (darts p) fits)) round))
 
   pub degree-one-word : (bareLeaf (word p) || eqb (rootDegree 0 (word p)) 1) ≡ hasDegreeOne (p .rotation)

@@ -28,7 +28,7 @@ module _ (ns rot out : List ℕ) where
       let room : getD ns d 0 < length so-far = subst (λ (k : ℕ). getD ns d 0 < k) (sym (renumbered-length ns rot out n)) b in
       lt-suc-split h
       (λ e. subst (λ (k : ℕ). getD (set so-far (getD ns k 0) (getD ns (next rot k) 0)) (getD ns d 0) 0 ≡ getD ns (next rot d) 0) e
-        (getD-set-same so-far (getD ns d 0) (getD ns (next rot d) 0) 0 room))
+      (getD-set-same so-far (getD ns d 0) (getD ns (next rot d) 0) 0 room))
       (λ l.
       getD-set-other so-far (getD ns n 0) (getD ns d 0) (getD ns (next rot n) 0) 0 (other n l (lt-suc-self n))
       ∙ renumbered-at n d l b (λ c u v. other c u (le-step v)))

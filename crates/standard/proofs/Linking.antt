@@ -98,7 +98,7 @@ module _ (p : Plan) (t : Toured p) (fits : dartCountFits (darts p) ≡ true) whe
       let at = place-is k h in
       ap (λ (y : ℕ). getD (link (word p) (numbersMet p) (replicate (length (word p)) 0)) y 0) (sym at)
       ∙ link-at (word p) (numbersMet p) (replicate (length (word p)) 0) k (omega arith) (omega arith) (omega arith)
-        (λ j u v e. let same = place-inj j k (omega arith) h e in omega arith)
+      (λ j u v e. let same = place-inj j k (omega arith) h e in omega arith)
       ∙ after k h
 
 module _ (p : Plan) (t : Toured p) (b : Bracketed p) (fits : dartCountFits (darts p) ≡ true) where
@@ -113,7 +113,7 @@ module _ (p : Plan) (t : Toured p) (b : Bracketed p) (fits : dartCountFits (dart
       let e : turn p k ≡ d = ap (dartAt p) (inv .back i hi) ∙ t .dart-pos d h in
       ap (λ (xs : List ℕ). getD (link (word p) xs (replicate (length (word p)) 0)) (numberOf p d) 0) (word-darts p t b fits)
       ∙ subst (λ (x : ℕ). getD (link (word p) (numbersMet p) (replicate (length (word p)) 0)) (numberOf p x) 0 ≡ numberOf p (next (p .rotation) x)) e
-        (linked p t fits k (inv .bound i hi))
+      (linked p t fits k (inv .bound i hi))
 
   same-rotation : standardPlan p .rotation ≡ rotationOf (word p)
   unfolding next

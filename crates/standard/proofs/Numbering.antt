@@ -113,10 +113,12 @@ module _ (p : Plan) (t : Toured p) (fits : dartCountFits (darts p) ≡ true) whe
       go : (b : Bool) → opening p i ≡ b → Part p i → Part p (suc i)
       go true o (ms, l, e) = (entered (dartAt p i) (rank p i) ms, entered-length (dartAt p i) (rank p i) ms ∙ l, e ∙ opened i h o ms)
       go false o (ms, l, e) = (
-        ms, l,
+        ms,
+        l,
         e ∙ ap (λ (vs : List Visit). number vs (rank p i) ms) (left i h)
-        ∙ number-skips (at i) (drop (suc i) (visits p)) (rank p i) ms (ap opens (visit-letter p i) ∙ o)
-        ∙ ap (λ (r : ℕ). number (drop (suc i) (visits p)) r ms) (sym (rank-stays p i o)))
+            ∙ number-skips (at i) (drop (suc i) (visits p)) (rank p i) ms (ap opens (visit-letter p i) ∙ o)
+            ∙ ap (λ (r : ℕ). number (drop (suc i) (visits p)) r ms) (sym (rank-stays p i o)),
+      )
 
   -- what is opened later is another edge
   later : (i : ℕ) → i < darts p → opening p i ≡ true → (x : ℕ) → x / 2 ≡ dartAt p i / 2 → Unopened (drop (suc i) (visits p)) x
@@ -133,10 +135,13 @@ module _ (p : Plan) (t : Toured p) (fits : dartCountFits (darts p) ≡ true) whe
   given : (i : ℕ) → i < darts p → opening p i ≡ true → (ms : List ℕ) × (length ms ≡ darts p)
       × ((x : ℕ) → x / 2 ≡ dartAt p i / 2 → getD (standardNumbers p) x 0 ≡ getD (entered (dartAt p i) (rank p i) ms) x 0)
   given i h o =
-      let (ms, l, e) = part i (omega arith) in
-      (ms, l, λ x f.
-        ap (λ (ns : List ℕ). getD ns x 0) (e ∙ opened i h o ms)
-        ∙ number-past (drop (suc i) (visits p)) (rank p (suc i)) (entered (dartAt p i) (rank p i) ms) x (later i h o x f))
+      let (ms, l, e) = part i (omega arith) in (
+        ms,
+        l,
+        λ x f.
+            ap (λ (ns : List ℕ). getD ns x 0) (e ∙ opened i h o ms)
+            ∙ number-past (drop (suc i) (visits p)) (rank p (suc i)) (entered (dartAt p i) (rank p i) ms) x (later i h o x f),
+      )
 
   pub opened-number : (i : ℕ) → i < darts p → opening p i ≡ true → getD (standardNumbers p) (dartAt p i) 0 ≡ 2 * rank p i
   opened-number i h o =

@@ -58,8 +58,11 @@ module _ (p : Plan) (t : Toured p) (fits : dartCountFits (darts p) ≡ true) whe
   -- half of the letters open
   half : rank p (darts p) + rank p (darts p) ≡ darts p
   unfolding rank chords
-  half = omega (arith, chords-half (darts p) (mateOf p) (mate-inv p t fits) (mate-ne p t fits),
-      count-ext (opener (mateOf p)) (opening p) (darts p) opener-opens)
+  half = omega (
+    arith,
+    chords-half (darts p) (mateOf p) (mate-inv p t fits) (mate-ne p t fits),
+    count-ext (opener (mateOf p)) (opening p) (darts p) opener-opens,
+  )
 
   pub rank-room : (i : ℕ) → i < darts p → opening p i ≡ true → 2 * rank p i + 1 < darts p
   unfolding rank
@@ -85,5 +88,8 @@ module _ (p : Plan) (t : Toured p) (fits : dartCountFits (darts p) ≡ true) whe
       go : (b : Bool) → opening p i ≡ b → (i : ℕ) × (i < darts p) × (opening p i ≡ true) × ((d ≡ dartAt p i) ⊎ (d ≡ opposite (dartAt p i)))
       go true e = (i, hi, e, inl (sym at))
       go false e = (
-        mateOf p i, mate-bound p t fits i hi, mate-opens p t i hi ∙ ap not e,
-        inr (sym at ∙ sym (opposite-opposite (dartAt p i)) ∙ ap opposite (sym (mate-dart p t fits i hi))))
+        mateOf p i,
+        mate-bound p t fits i hi,
+        mate-opens p t i hi ∙ ap not e,
+        inr (sym at ∙ sym (opposite-opposite (dartAt p i)) ∙ ap opposite (sym (mate-dart p t fits i hi))),
+      )

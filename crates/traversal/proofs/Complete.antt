@@ -57,13 +57,14 @@ module _ (p : Plan) (fits : dartCountFits (darts p) ≡ true) (hr : p .root < da
   pub connected-met : connected (p .rotation) ≡ true → (x : ℕ) → x < N → Among p x
   connected-met e x h =
       let one : bit (isMet p x) ≡ bit (isMet p (p .root)) =
-          connected-kept (p .rotation) (count-even N fits) good e (λ x. bit (isMet p x)) turns crosses x (p .root) h hr in
+      connected-kept (p .rotation) (count-even N fits) good e (λ x. bit (isMet p x)) turns crosses x (p .root) h hr in
       met-among p x (bit-in (isMet p x) (isMet p (p .root)) one root-met)
     where
       turns : (x : ℕ) → x < N → bit (isMet p (next (p .rotation) x)) ≡ bit (isMet p x)
       turns x h = bit-same (isMet p (next (p .rotation) x)) (isMet p x)
           (λ t. among-met p x (w .turned x h (met-among p (next (p .rotation) x) t)))
           (λ t. among-met p (next (p .rotation) x) (w .turn x (met-among p x t)))
+
       crosses : (x : ℕ) → x < N → bit (isMet p (opposite x)) ≡ bit (isMet p x)
       crosses x h = bit-same (isMet p (opposite x)) (isMet p x)
           (λ t. among-met p x (subst (Among p) (opposite-opposite x) (w .across (opposite x) (met-among p (opposite x) t))))

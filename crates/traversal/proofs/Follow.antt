@@ -135,8 +135,11 @@ module _ (rot : List ℕ) (r : ℕ) (turn : Perm (length rot) (next rot)) (cross
       across-unmarked d = down-case (case rot r k) d .0
 
       tree-met : (j : ℕ) → j < k → tree rot r (suc k) (D j) ≡ tree rot r k (D j)
-      tree-met j h = tree-same (D j) (λ d. (ahead j h, λ e.
-          code-some (l j) (sym (f .marked j h) ∙ ap (M k) e ∙ across-unmarked d)))
+      tree-met j h = tree-same (D j) (λ d. (
+        ahead j h,
+        λ e.
+            code-some (l j) (sym (f .marked j h) ∙ ap (M k) e ∙ across-unmarked d),
+      ))
 
       next-followed : Followed (suc k)
       next-followed = record {

@@ -112,9 +112,10 @@ module _ (rot : List ℕ) (r : ℕ) (turn : Perm (length rot) (next rot)) (cross
   alone k y (h, s) = least-in (next rot) (λ z. Unseen k z × (L k z ≡ L k y)) turned N y ((h, s), refl) .1
     where
       turned : (z : ℕ) → Unseen k z × (L k z ≡ L k y) → Unseen k (next rot z) × (L k (next rot z) ≡ L k y)
-      turned z ((hz, sz), e) =
-          ((turn .bound z hz, seen-turn k z hz ∙ sz),
-          ap (L k) (sym (tour-out k z (unseen-out k z sz))) ∙ least-step N (τ k) (τ-perm k) z hz ∙ e)
+      turned z ((hz, sz), e) = (
+        (turn .bound z hz, seen-turn k z hz ∙ sz),
+        ap (L k) (sym (tour-out k z (unseen-out k z sz))) ∙ least-step N (τ k) (τ-perm k) z hz ∙ e,
+      )
 
   -- ---- the root's cycle
 
@@ -130,6 +131,7 @@ module _ (rot : List ℕ) (r : ℕ) (turn : Perm (length rot) (next rot)) (cross
     where
       none : (z : ℕ) → tree rot r 0 z ≡ false
       none z = ap₂ (λ (c d : ℕ). eqb c 1 || eqb d 1) (zeros-at N z) (zeros-at N (opposite z))
+
       label : (z : ℕ) → z < N → L 0 z ≡ vertexOf rot z
       label z b = least-ext N (next rot) turn (τ 0) (λ y _. tour-out 0 y (none y)) N z b
 

@@ -97,7 +97,7 @@ module _ (rot : List ℕ) where
     put-out d h m e true q s = absurd (s (eqb-true (getD m d 0) 0 q))
     put-out d h m e false q s = (
       set-still (set m (opposite d) 1) (next rot d) (opposite d)
-      (set-here m (opposite d) (subst (λ (n : ℕ). opposite d < n) (sym e) (cross .bound d h))),
+          (set-here m (opposite d) (subst (λ (n : ℕ). opposite d < n) (sym e) (cross .bound d h))),
       set-here (set m (opposite d) 1) (next rot d) (simp length-set (subst (λ (n : ℕ). next rot d < n) (sym e) (perm .bound d h))),
     )
 

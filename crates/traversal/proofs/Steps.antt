@@ -222,6 +222,7 @@ module _ (rot : List ℕ) (r : ℕ) where
         met : M k (opposite (D k)) ≢ 0 → S (suc k) (opposite (D k)) ≢ 0
         met n = let (j, h, e) = mark-met k (opposite (D k)) n in
             seen-grows k (opposite (D k)) (subst (λ (x : ℕ). S k x ≢ 0) e (here j (omega arith)))
+
         go : Case (M k (opposite (D k))) (S k (opposite (D k))) (l k) → S (suc k) (opposite (D k)) ≢ 0
         go (new m s e) = seen-down k e
         go (old m s e) = seen-grows k (opposite (D k)) s

@@ -97,6 +97,7 @@ module _ (p : Plan) (fits : dartCountFits (darts p) ≡ true) (hr : p .root < da
     new = λ i h. w .new i (met-at i h);
     old = λ i h. w .old i (met-at i h);
   }
+
 pub walk-toured : (p : Plan) → dartCountFits (darts p) ≡ true → p .root < darts p → isPermutation (p .rotation) ≡ true
     → connected (p .rotation) ≡ true → Toured p
 walk-toured = toured

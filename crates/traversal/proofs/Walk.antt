@@ -148,7 +148,7 @@ module _ (p : Plan) (turn : Perm (darts p) (next (p .rotation))) (cross : Involu
   new-vertex i h d j hj e =
       let s = down-case (case rot r i) (sym (letter-is i h) ∙ d) .1 in
       let one : vertexOf rot (dart rot r j) ≡ vertexOf rot (opposite (dart rot r i)) =
-          ap (vertexOf rot) (sym (dart-is j (omega arith))) ∙ e ∙ ap (λ (x : ℕ). vertexOf rot (opposite x)) (dart-is i h) in
+      ap (vertexOf rot) (sym (dart-is j (omega arith))) ∙ e ∙ ap (λ (x : ℕ). vertexOf rot (opposite x)) (dart-is i h) in
       seen-here rot r turn cross hr i j hj (ap (λ (v : ℕ). getD (at rot r i .seen) v 0) one ∙ s)
 
   old-vertex : (i : ℕ) → i < n → letterOf p i ≡ first → (j : ℕ) × (j ≤ i) × (vertexOf rot (dartAt p j) ≡ vertexOf rot (opposite (dartAt p i)))

@@ -23,7 +23,7 @@ module _ (p : Plan) (t : Toured p) where
     leaf-mate b i h d u =
         le-split (t .opens-first i (omega arith) (ap opens d)) sym
         (λ l. let k = b .trees i (suc i) (omega arith) d (omega arith) l (ap isTree u) in
-          absurd (omega (arith, mate-before p t fits (suc i) h (ap opens u))))
+        absurd (omega (arith, mate-before p t fits (suc i) h (ap opens u))))
 
     pub leaf-own : (i : ℕ) → suc i < darts p → letterOf p i ≡ down → mateOf p i ≡ suc i
         → next (p .rotation) (opposite (dartAt p i)) ≡ opposite (dartAt p i)

@@ -178,8 +178,16 @@ unfoldable pub closeEdge : Machine → List ℕ → Turn
 closeEdge s [] = stuck
 closeEdge s (o ∷ os) = cond (ltb (s .here) o)
     (goes (second ∷ []) (record {
-      n = s .n; here = s .here; below = s .below; ups = s .ups; opens = os; seconds = tail (s .seconds); label = head (s .seconds);
-      bits = s .bits; labels = s .labels }))
+      n = s .n;
+      here = s .here;
+      below = s .below;
+      ups = s .ups;
+      opens = os;
+      seconds = tail (s .seconds);
+      label = head (s .seconds);
+      bits = s .bits;
+      labels = s .labels;
+    }))
     stuck
 
 -- nothing is open and nothing is left
@@ -192,8 +200,16 @@ finish (v ∷ vs) opens labels = stuck
 unfoldable pub goUp : Machine → List ℕ → List ℕ → Turn
 goUp s bits [] = stuck
 goUp s bits (v ∷ vs) = goes (up ∷ []) (record {
-      n = s .n; here = v; below = vs; ups = tail (s .ups); opens = s .opens; seconds = s .seconds; label = head (s .ups);
-      bits = bits; labels = s .labels })
+  n = s .n;
+  here = v;
+  below = vs;
+  ups = tail (s .ups);
+  opens = s .opens;
+  seconds = s .seconds;
+  label = head (s .ups);
+  bits = bits;
+  labels = s .labels;
+})
 
 -- a star is a leaf, and the bit b after it its saved label; else b is 0 where the edge is no tree edge
 unfoldable pub goDown : Machine → List ℕ → List ℕ → Turn
@@ -201,15 +217,39 @@ goDown s [] labels = stuck
 goDown s (b ∷ bs) [] = stuck
 goDown s (b ∷ bs) (l ∷ ls) = cond (eqb l star)
     (goes (down ∷ up ∷ []) (record {
-      n = suc (s .n); here = s .here; below = s .below; ups = s .ups; opens = s .opens; seconds = s .seconds; label = b;
-      bits = bs; labels = ls }))
+      n = suc (s .n);
+      here = s .here;
+      below = s .below;
+      ups = s .ups;
+      opens = s .opens;
+      seconds = s .seconds;
+      label = b;
+      bits = bs;
+      labels = ls;
+    }))
     (cond (eqb b 0)
     (goes (first ∷ []) (record {
-      n = s .n; here = s .here; below = s .below; ups = s .ups; opens = s .here ∷ s .opens; seconds = l ∷ s .seconds; label = 0;
-      bits = bs; labels = ls }))
+      n = s .n;
+      here = s .here;
+      below = s .below;
+      ups = s .ups;
+      opens = s .here ∷ s .opens;
+      seconds = l ∷ s .seconds;
+      label = 0;
+      bits = bs;
+      labels = ls;
+    }))
     (goes (down ∷ []) (record {
-      n = suc (s .n); here = s .n; below = s .here ∷ s .below; ups = l ∷ s .ups; opens = s .opens; seconds = s .seconds; label = 0;
-      bits = b ∷ bs; labels = ls })))
+      n = suc (s .n);
+      here = s .n;
+      below = s .here ∷ s .below;
+      ups = l ∷ s .ups;
+      opens = s .opens;
+      seconds = s .seconds;
+      label = 0;
+      bits = b ∷ bs;
+      labels = ls;
+    })))
 
 -- 0: up; 1: down, with the next label
 unfoldable pub readBit : Machine → List ℕ → Turn
@@ -231,7 +271,16 @@ decode (suc f) s = follow (decode f) (turn s)
 
 unfoldable pub start : List ℕ → List ℕ → Machine
 start bits labels = record {
-  n = 1; here = 0; below = []; ups = []; opens = []; seconds = []; label = 0; bits = bits; labels = labels }
+  n = 1;
+  here = 0;
+  below = [];
+  ups = [];
+  opens = [];
+  seconds = [];
+  label = 0;
+  bits = bits;
+  labels = labels;
+}
 
 -- in kind 1 the root has not degree one
 abbrev pub checkRoot : ℕ → Found → Found

@@ -31,8 +31,10 @@ unfolding valid isKind
 valid-two k v e =
     let r = and-right (isKind k) (dartCountFits (length v) && (nested 1 0 [] [] v && not (eqb k 1 && (bareLeaf v || eqb (rootDegree 0 v) 1)))) e in
     let s = and-right (dartCountFits (length v)) (nested 1 0 [] [] v && not (eqb k 1 && (bareLeaf v || eqb (rootDegree 0 v) 1))) r in
-    rw (and-left (dartCountFits (length v)) (nested 1 0 [] [] v && not (eqb k 1 && (bareLeaf v || eqb (rootDegree 0 v) 1))) r,
-    and-left (nested 1 0 [] [] v) (not (eqb k 1 && (bareLeaf v || eqb (rootDegree 0 v) 1))) s)
+    rw (
+      and-left (dartCountFits (length v)) (nested 1 0 [] [] v && not (eqb k 1 && (bareLeaf v || eqb (rootDegree 0 v) 1))) r,
+      and-left (nested 1 0 [] [] v) (not (eqb k 1 && (bareLeaf v || eqb (rootDegree 0 v) 1))) s,
+    )
 
 base : (k : ℕ) → isKind k ≡ true → labelBase k ≡ 1 + k
 unfolding labelBase
@@ -74,11 +76,16 @@ module _ (n k : ℕ) (w out : List ℕ) (r : Ready n k w out) where
           × (allBelow 2 (bitsIn (2 * (n / 2)) w₂) ≡ true) × (allBelow (1 + k) (labelsIn (2 * (n / 2)) w₂) ≡ true)
       bytes-asked =
           let c = counts in
-          let h = half in
-          (r .kind, omega arith, omega arith, (let z = r .room in let e = s .kept in let f = t .kept in omega arith), r .space,
-          ap (λ (m : ℕ). allBelow 2 (bitsIn m w₂)) h ∙ ap (allBelow 2) bits-now ∙ bits-below false (lettersIn n w),
-          ap (λ (m : ℕ). allBelow (1 + k) (labelsIn m w₂)) h ∙ ap (allBelow (1 + k)) labels-now
-          ∙ subst (λ (b : ℕ). allBelow b (wordLabels (lettersIn n w)) ≡ true) (base k (r .kind)) (labels-bound k (lettersIn n w) (r .proper)))
+          let h = half in (
+            r .kind,
+            omega arith,
+            omega arith,
+            (let z = r .room in let e = s .kept in let f = t .kept in omega arith),
+            r .space,
+            ap (λ (m : ℕ). allBelow 2 (bitsIn m w₂)) h ∙ ap (allBelow 2) bits-now ∙ bits-below false (lettersIn n w),
+            ap (λ (m : ℕ). allBelow (1 + k) (labelsIn m w₂)) h ∙ ap (allBelow (1 + k)) labels-now
+                ∙ subst (λ (b : ℕ). allBelow b (wordLabels (lettersIn n w)) ≡ true) (base k (r .kind)) (labels-bound k (lettersIn n w) (r .proper)),
+          )
 
       pub laid : (answer : ℕ) (out′ : List ℕ) → LaidOut k (n / 2) w₂ out answer out′ → Laid n k w out answer w₂ out′
       laid answer out′ u = record {

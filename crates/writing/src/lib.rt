@@ -1,7 +1,6 @@
 // The public call of writing: the refusals in document 01's order, the record, and a cleared work area.
 use fitting::Verdict;
 use model::Written;
-
 ghost use mathlib.Core.Path.{_≡_};
 ghost use Prim.Native.Nat.{ℕ};
 ghost use lib.ListN.{length};
