@@ -8,13 +8,17 @@ use Rattle.writing.proofs.laid_out.Statement.{statement}
 use Rattle.writing.proofs.laid_out.Tie as tie
 
 put-labels-requires : tie.Need-put-labels-requires
-put-labels-requires c κs = labels-asked (c .before .before .before .args .n) (c .before .before .before .args .kind) (c .before .before .before .args .w .now) (c .before .before .before .args .out .now) (c .before .before .before .pre)
+put-labels-requires c κs = let st = c .before .before .before in
+    labels-asked (st .args .n) (st .args .kind) (st .args .w .now) (st .args .out .now) (st .pre)
 
 put-bits-requires : tie.Need-put-bits-requires
-put-bits-requires c κs = bits-asked (c .before .before .before .before .before .before .before .args .n) (c .before .before .before .before .before .before .before .args .kind) (c .before .before .before .before .before .before .before .args .w .now) (c .before .before .before .before .before .before .before .args .out .now) (c .before .before .before .before .before .before .before .pre) _ (c .before .before .before .put-labels .ensures)
+put-bits-requires c κs = let st = c .before .before .before .before .before .before .before in
+    bits-asked (st .args .n) (st .args .kind) (st .args .w .now) (st .args .out .now) (st .pre) _ (c .before .before .before .put-labels .ensures)
 
 lay-out-requires : tie.Need-lay-out-requires
-lay-out-requires c κs = bytes-asked (c .before .before .before .before .before .before .before .before .before .before .before .before .args .n) (c .before .before .before .before .before .before .before .before .before .before .before .before .args .kind) (c .before .before .before .before .before .before .before .before .before .before .before .before .args .w .now) (c .before .before .before .before .before .before .before .before .before .before .before .before .args .out .now) (c .before .before .before .before .before .before .before .before .before .before .before .before .pre) _ (c .before .before .before .before .before .before .before .before .put-labels .ensures) _ (c .before .before .before .before .put-bits .ensures)
+lay-out-requires c κs = let st = c .before .before .before .before .before .before .before .before .before .before .before .before in
+    let labels = c .before .before .before .before .before .before .before .before .put-labels in
+    bytes-asked (st .args .n) (st .args .kind) (st .args .w .now) (st .args .out .now) (st .pre) _ (labels .ensures) _ (c .before .before .before .before .put-bits .ensures)
 
 same-length : tie.Need-same-length
 same-length c = search needs
@@ -23,7 +27,10 @@ same-length-2 : tie.Need-same-length-2
 same-length-2 c = search needs
 
 returns : tie.Need-returns
-returns c = laid (c .before .before .before .before .before .before .before .before .before .before .before .before .before .before .before .args .n) (c .before .before .before .before .before .before .before .before .before .before .before .before .before .before .before .args .kind) (c .before .before .before .before .before .before .before .before .before .before .before .before .before .before .before .args .w .now) (c .before .before .before .before .before .before .before .before .before .before .before .before .before .before .before .args .out .now) (c .before .before .before .before .before .before .before .before .before .before .before .before .before .before .before .pre) _ (c .before .before .before .before .before .before .before .before .before .before .before .put-labels .ensures) _ (c .before .before .before .before .before .before .before .put-bits .ensures) _ _ (c .before .before .lay-out .ensures)
+returns c = let st = c .before .before .before .before .before .before .before .before .before .before .before .before .before .before .before in
+    let labels = c .before .before .before .before .before .before .before .before .before .before .before .put-labels in
+    let bits = c .before .before .before .before .before .before .before .put-bits in
+    laid (st .args .n) (st .args .kind) (st .args .w .now) (st .args .out .now) (st .pre) _ (labels .ensures) _ (bits .ensures) _ _ (c .before .before .lay-out .ensures)
 
 pub laid-out-spec : {M : Type 1} → statement M
 laid-out-spec =

@@ -24,11 +24,16 @@ returns : tie.Need-returns
 returns c = let st = c .before .before .before .before .before in
     let p : Plan = record { rotation = st .args .order .now; root = st .args .root } in
     let e = c .before .early .ensures in
-    subst (λ (r : ℕ). Made (st .args .kind) p (st .args .w .now) (st .args .out .now) (written.Refused r) (st .args .w .now) (st .args .out .now)) (sym e) (turned-away (st .args .kind) p (st .args .w .now) (st .args .out .now) (λ z. c .if1 .taken (e ∙ z)))
+    subst (λ (r : ℕ). Made (st .args .kind) p (st .args .w .now) (st .args .out .now) (written.Refused r) (st .args .w .now) (st .args .out .now)) (sym e)
+    (turned-away (st .args .kind) p (st .args .w .now) (st .args .out .now) (λ z. c .if1 .taken (e ∙ z)))
 
 judge-requires : tie.Need-judge-requires
-judge-requires c κs = let e = early-parts (c .before .before .before .before .before .before .args .kind) (record { rotation = c .before .before .before .before .before .before .args .order .now; root = c .before .before .before .before .before .before .args .root }) _ _ (sym (c .before .before .early .ensures) ∙ c .before .if1 .left) in
-    (e .count, e .entries, e .root, e .room)
+judge-requires c κs = let st = c .before .before .before .before .before .before in
+    let p : Plan = record { rotation = st .args .order .now; root = st .args .root } in
+    let e = c .before .before .early in
+    let ok = sym (e .ensures) ∙ c .before .if1 .left in
+    let q = early-parts (st .args .kind) p _ _ ok in
+    (q .count, q .entries, q .root, q .room)
 
 enum-known-v : tie.Need-enum-known-v
 enum-known-v c = search needs
@@ -42,9 +47,11 @@ enum-told c = search needs
 laid-out-requires : tie.Need-laid-out-requires
 laid-out-requires c κs = let st = c .before .before .before .before .before .before .before .before .before .before .before .before .before in
     let p : Plan = record { rotation = st .args .order .now; root = st .args .root } in
+    let e = c .before .before .before .before .before .before .before .before .before .early in
+    let ok = sym (e .ensures) ∙ c .before .before .before .before .before .before .before .before .if1 .left in
     let j = c .before .before .before .before .before .before .judge in
-    let e = early-parts (st .args .kind) p _ _ (sym (c .before .before .before .before .before .before .before .before .before .early .ensures) ∙ c .before .before .before .before .before .before .before .before .if1 .left) in
-    to-lay (st .args .kind) p (st .args .w .now) (st .args .out .now) (sym (c .before .before .before .before .before .before .before .before .before .early .ensures) ∙ c .before .before .before .before .before .before .before .before .if1 .left) (j .result) (j .last .1 .1 .1 .0) (j .ensures) (ap isFits (c .before .before .enum-told .given .1)) (e .room) (e .space)
+    let q = early-parts (st .args .kind) p _ _ ok in
+    to-lay (st .args .kind) p (st .args .w .now) (st .args .out .now) ok (j .result) (j .last .1 .1 .1 .0) (j .ensures) (ap isFits (c .before .before .enum-told .given .1)) (q .room) (q .space)
 
 same-length : tie.Need-same-length
 same-length c = search needs
@@ -52,10 +59,12 @@ same-length c = search needs
 returns-2 : tie.Need-returns-2
 returns-2 c = let st = c .before .before .before .before .before .before .before .before .before .before .before .before in
     let p : Plan = record { rotation = st .args .order .now; root = st .args .root } in
+    let e = c .before .before .before .before .before .before .before .before .early in
+    let ok = sym (e .ensures) ∙ c .before .before .before .before .before .before .before .if1 .left in
     let j = c .before .before .before .before .before .judge in
     let z : (j .result ≡ verdict.Refused (c .before .v .given .0 .0)) = c .before .v .given .1 in
     subst (λ (v : Verdict). Made (st .args .kind) p (st .args .w .now) (st .args .out .now) (asWritten (recordLength (st .args .kind) (edges (p .rotation))) v) (j .last .1 .1 .1 .0) (st .args .out .now)) z
-    (judged-away (st .args .kind) p (st .args .w .now) (st .args .out .now) (sym (c .before .before .before .before .before .before .before .before .early .ensures) ∙ c .before .before .before .before .before .before .before .if1 .left) (j .result) (j .last .1 .1 .1 .0) (j .ensures) (ap isFits z))
+    (judged-away (st .args .kind) p (st .args .w .now) (st .args .out .now) ok (j .result) (j .last .1 .1 .1 .0) (j .ensures) (ap isFits z))
 
 same-length-2 : tie.Need-same-length-2
 same-length-2 c = search needs
@@ -63,11 +72,15 @@ same-length-2 c = search needs
 returns-3 : tie.Need-returns-3
 returns-3 c = let st = c .before .before .before .before .before .before .before .before .before .before .before .before in
     let p : Plan = record { rotation = st .args .order .now; root = st .args .root } in
+    let e = c .before .before .before .before .before .before .before .before .early in
+    let ok = sym (e .ensures) ∙ c .before .before .before .before .before .before .before .if1 .left in
     let j = c .before .before .before .before .before .judge in
-    let z : (j .result ≡ verdict.NotPlanar (c .before .v2 .given .0 .0)) = c .before .v2 .given .1 in
-    let fits : SFits w32 (c .before .v2 .given .0 .0) = record { sfits = c .known-told2 .given .0 .1 } in
-    rw (toZ-ofZ fits) (subst (λ (v : Verdict). Made (st .args .kind) p (st .args .w .now) (st .args .out .now) (asWritten (recordLength (st .args .kind) (edges (p .rotation))) v) (j .last .1 .1 .1 .0) (st .args .out .now)) z
-    (judged-away (st .args .kind) p (st .args .w .now) (st .args .out .now) (sym (c .before .before .before .before .before .before .before .before .early .ensures) ∙ c .before .before .before .before .before .before .before .if1 .left) (j .result) (j .last .1 .1 .1 .0) (j .ensures) (ap isFits z)))
+    let x = c .before .v2 .given .0 .0 in
+    let z : (j .result ≡ verdict.NotPlanar x) = c .before .v2 .given .1 in
+    let fits : SFits w32 x = record { sfits = c .known-told2 .given .0 .1 } in
+    rw (toZ-ofZ fits)
+    (subst (λ (v : Verdict). Made (st .args .kind) p (st .args .w .now) (st .args .out .now) (asWritten (recordLength (st .args .kind) (edges (p .rotation))) v) (j .last .1 .1 .1 .0) (st .args .out .now)) z
+    (judged-away (st .args .kind) p (st .args .w .now) (st .args .out .now) ok (j .result) (j .last .1 .1 .1 .0) (j .ensures) (ap isFits z)))
 
 same-length-3 : tie.Need-same-length-3
 same-length-3 c = search needs
@@ -78,9 +91,11 @@ same-length-4 c = search needs
 returns-4 : tie.Need-returns-4
 returns-4 c = let st = c .before .before .before .before .before .before .before .before .before .before .before .before .before .before .before .before .before .before in
     let p : Plan = record { rotation = st .args .order .now; root = st .args .root } in
+    let e = c .before .before .before .before .before .before .before .before .before .before .before .before .before .before .early in
+    let ok = sym (e .ensures) ∙ c .before .before .before .before .before .before .before .before .before .before .before .before .before .if1 .left in
     let j = c .before .before .before .before .before .before .before .before .before .before .before .judge in
     let l = c .before .before .before .before .laid-out in
-    made (st .args .kind) p (st .args .w .now) (st .args .out .now) (sym (c .before .before .before .before .before .before .before .before .before .before .before .before .before .before .early .ensures) ∙ c .before .before .before .before .before .before .before .before .before .before .before .before .before .if1 .left) (j .result) (j .last .1 .1 .1 .0) (j .ensures) (ap isFits (c .before .before .before .before .before .before .before .enum-told .given .1)) (l .result) _ _ (l .ensures)
+    made (st .args .kind) p (st .args .w .now) (st .args .out .now) ok (j .result) (j .last .1 .1 .1 .0) (j .ensures) (ap isFits (c .before .before .before .before .before .before .before .enum-told .given .1)) (l .result) _ _ (l .ensures)
 
 pub made-spec : {M : Type 1} → statement M
 made-spec =
