@@ -2,8 +2,8 @@
  * jurnadel.h: trail plans, their records and shelves, for C and C++.
  *
  * Link with libjurnadel.a (x86-64). The library has no state and no heap, and calls
- * nothing but memset, memcpy, memmove and memcmp, which the compiler makes of loops:
- * it is re-entrant and can be linked into firmware that supplies these four.
+ * nothing but memset, which the compiler makes of loops: it is re-entrant and can be
+ * linked into firmware that supplies this one function.
  *
  * Words. A trail is an edge, a trail end a dart, a junction a vertex, an area a face.
  * A plan has m trails and 2m darts; darts 2e and 2e+1 are the two ends of trail e. The
