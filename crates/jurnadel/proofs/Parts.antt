@@ -4,16 +4,13 @@
 --   record-part           the record at a place of the used bytes, as a part of the shelf
 --   fetch-refused, fetch-fine   the two ways out
 use mathlib.Core.Path.{_≡_, refl, sym, ap, _∙_}
-use mathlib.Core.Bool.{cond}
 use mathlib.Core.List.{List, [], _∷_}
 use Prim.Native.Nat.{ℕ, zero, suc, _+_, _-_, _≤_}
-use native.Mathlib.Nat.{not-suc-le-zero}
 use native.Mathlib.Decide.{ℕ-discrete}
 use native.Mathlib.Omega.{arith}
-use lib.ListN.{length, getD, take, drop, length-take}
+use lib.ListN.{length, take, drop, length-take}
 use lib.Seq.{take-take}
 use borrow.Author.Tests.{eq-eqb, ne-eqb}
-use Rattle.model.specs.Shelf.{recordsIn}
 use Rattle.model.specs.Calls.{fetchRefusal, fetched}
 use Rattle.cutting.specs.Cutting.{recordAt}
 use Rattle.cutting.proofs.Stands.{stands, stands-length, part-none, part-is}

@@ -3,7 +3,7 @@
 --   no-kind, no-edges, too-many   no record has these
 --   length-there          one does
 --   length-fits           and its length is a 16-bit number
-use mathlib.Core.Path.{_≡_, refl, sym, ap, _∙_}
+use mathlib.Core.Path.{_≡_}
 use mathlib.Core.Bool.{Bool, true, false, cond}
 use Prim.Native.Nat.{ℕ, _+_, _*_, _/_, _≤_, _<_}
 use native.Mathlib.Omega.{arith}

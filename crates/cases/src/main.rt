@@ -1,0 +1,153 @@
+// Writes the plans that document 01 leaves to a run, plans at its limits and plans that are refused, and prints each answer on a line: the refusal, or the
+// record's length and a checksum of its bytes. The file stdout has what it must write.
+ghost use Prim.Native.Nat.{_≤_, _<_};
+ghost use lib.ListN.{length};
+use model::Written;
+
+fn next(sum: u32, byte: u8) -> u32
+    requires { ⌜ sum < 65521 ⌝ }
+    ensures { λ r. ⌜ r < 65521 ⌝ }
+{
+    (31 * sum + byte as u32) % 65521
+}
+
+// The first n bytes as a number in base 31, modulo 65,521.
+fn checksum(bytes: &[u8], n: usize) -> u32 {
+    let mut sum = 0;
+    let mut i = 0;
+    while i < n && i < bytes.len() {
+        sum = next(sum, bytes[i]);
+        i += 1;
+    }
+    sum
+}
+
+fn show(name: &[u8], kind: u16, answer: Written, out: &[u8]) {
+    io::write_all(1, name);
+    io::write_all(1, b", kind ");
+    io::print_decimal(1, kind as u64);
+    match answer {
+        Written::Length(n) => {
+            io::write_all(1, b": length ");
+            io::print_decimal(1, n as u64);
+            io::write_all(1, b", checksum ");
+            io::print_decimal(1, checksum(out, n as usize) as u64);
+        }
+        Written::Refused(number) => {
+            io::write_all(1, b": refusal ");
+            io::print_decimal(1, number as u64);
+        }
+        Written::NotPlanar(x) => {
+            io::write_all(1, b": refusal 10");
+        }
+    }
+    io::write_all(1, b"\n");
+}
+
+fn run(name: &[u8], order: &[u16], start: u16, kind: u16, work: &mut [u16], out: &mut [u8]) {
+    let answer = writing::write(order, start, kind, work, out);
+    show(name, kind, answer, out);
+}
+
+// The plan is written, with a work area and an output of these lengths.
+fn one(name: &[u8], order: &[u16], start: u16, kind: u16, room: usize, space: usize)
+    requires { ⌜ (room ≤ 131072) × (space ≤ 1850) ⌝ }
+{
+    let mut work = [7u16; 131072];
+    let mut out = [9u8; 1850];
+    run(
+        name,
+        order,
+        start,
+        kind,
+        &mut work[0..room],
+        &mut out[0..space],
+    );
+}
+
+// The dart so many places further: `even` from an even one, `odd` from an odd one.
+fn entry(dart: usize, even: usize, odd: usize) -> u16
+    requires { ⌜ (dart ≤ 8194) × (even ≤ 8192) × (odd ≤ 8192) ⌝ }
+{
+    if dart % 2 == 0 {
+        return ((dart + even) % 8192) as u16;
+    }
+    ((dart + odd) % 8192) as u16
+}
+
+fn turning(order: &mut [u16], even: usize, odd: usize)
+    requires { ⌜ (length (now order) ≤ 8194) × (even ≤ 8192) × (odd ≤ 8192) ⌝ }
+{
+    let mut i = 0;
+    while i < order.len() {
+        order[i] = entry(i, even, odd);
+        i += 1;
+    }
+}
+
+fn small() {
+    one(b"order 1 0", &[1, 0], 0, 1, 32, 1850);
+    one(b"order 1 0", &[1, 0], 0, 2, 32, 1850);
+    one(b"order 0 1", &[0, 1], 0, 1, 32, 1850);
+    one(b"order 0 1", &[0, 1], 0, 2, 32, 1850);
+    one(b"order 0 1 2 3", &[0, 1, 2, 3], 0, 2, 64, 1850);
+    one(b"order 3 2 4 5 1 0", &[3, 2, 4, 5, 1, 0], 0, 2, 96, 1850);
+}
+
+fn refused() {
+    one(b"order 0 1", &[0, 1], 0, 0, 32, 1850);
+    one(b"order 0 1", &[0, 1], 0, 3, 32, 1850);
+    one(b"order 0", &[0], 0, 2, 32, 1850);
+    one(b"order 0 1 2", &[0, 1, 2], 0, 2, 64, 1850);
+    one(b"order 0 1, start 2", &[0, 1], 2, 2, 32, 1850);
+    one(b"order 1 1", &[1, 1], 0, 2, 32, 1850);
+    one(b"order 0 2", &[0, 2], 0, 2, 32, 1850);
+}
+
+fn short() {
+    one(
+        b"order 3 2 1 0, work area 63",
+        &[3, 2, 1, 0],
+        0,
+        1,
+        63,
+        1850,
+    );
+    one(b"order 3 2 1 0, output 6", &[3, 2, 1, 0], 0, 1, 64, 6);
+    one(b"order 3 2 1 0, output 7", &[3, 2, 1, 0], 0, 1, 64, 7);
+    let none = [0u16; 2];
+    one(b"order of length 0", &none[0..0], 0, 2, 32, 1850);
+}
+
+fn counts() {
+    let mut order = [0u16; 8194];
+    turning(&mut order, 0, 0);
+    one(b"8192 darts, work area 0", &order[0..8192], 0, 1, 0, 1850);
+    one(b"8194 darts, work area 0", &order, 0, 1, 0, 1850);
+    one(
+        b"8192 darts, each loose",
+        &order[0..8192],
+        0,
+        2,
+        131072,
+        1850,
+    );
+}
+
+fn large() {
+    let mut order = [0u16; 8192];
+    turning(&mut order, 8191, 1);
+    one(b"ring of 4096 trails", &order, 0, 1, 131072, 1850);
+    one(b"ring of 4096 trails", &order, 0, 2, 131072, 1850);
+    turning(&mut order, 2, 0);
+    one(b"star of 4096 trails", &order, 0, 1, 131072, 1850);
+    one(b"star of 4096 trails", &order, 0, 2, 131072, 1850);
+}
+
+fn main() {
+    small();
+    refused();
+    short();
+    counts();
+    large();
+}
