@@ -5,3 +5,4 @@ pub mod Cursors
 pub mod Turning
 pub mod Runs
 pub mod Payload
+pub mod Groups

@@ -22,6 +22,7 @@ use Rattle.decoding.specs.Reading.{backed, entered}
 use Rattle.decoding.proofs.Turns.{turn-close, stuck-none, stuck-early, turn-up, stuck-root, turn-done, stuck-left}
 use Rattle.decoding.proofs.Turns.{turn-star, turn-back, turn-tree, stuck-bit, stuck-label}
 use Rattle.areas.specs.Area.{region}
+use Rattle.areas.proofs.Regions.{region-set-other}
 use Rattle.decoder.specs.declared.Cursor.{Cursor}
 use Rattle.decoder.specs.declared.State.{State}
 use Rattle.decoder.specs.States.{tops, machineOf, before, Fits, Room, Ready, Moved}
@@ -53,6 +54,11 @@ machine-letter m bs ls w i x h s c =
       tops-letter m w i x h (14 * m) (s .opens) (omega arith),
       tops-letter m w i x h (16 * m) (s .opens) (omega arith),
     )
+
+-- ---- a store below the labels leaves them
+
+under : (m : ℕ) (w : List ℕ) (i x : ℕ) → i < 18 * m → region (18 * m) m (set w i x) ≡ region (18 * m) m w
+under m w i x h = region-set-other (18 * m) m w i x (λ l. absurd (omega arith))
 
 -- ---- an edge of label 1 has ended
 
@@ -93,6 +99,7 @@ module _ (m : ℕ) (bs ls w : List ℕ) (s : State) (c : Cursor) where
           };
           further = omega arith;
           kept = length-set w (6 * m + s .read) 4;
+          labels-stay = under m w _ 4 (omega arith);
         }
 
 -- ---- the next bit is 0
@@ -131,6 +138,7 @@ module _ (m : ℕ) (bs ls w : List ℕ) (s : State) (c : Cursor) (t : s .label �
         };
         further = omega arith;
         kept = length-set w (6 * m + s .read) 2;
+        labels-stay = under m w _ 2 (omega arith);
       }
 
 -- ---- the bit before c is not 0
@@ -211,6 +219,7 @@ module _ (m : ℕ) (bs ls w : List ℕ) (s : State) (c : Cursor) (t : s .label �
             };
             further = omega arith;
             kept = simp length-set;
+            labels-stay = under m (lettered m w s 1) _ 2 (omega arith) ∙ under m w _ 1 (omega arith);
           }
 
       module _ (k : getD ls (c .labels) 0 ≢ star) where
@@ -253,6 +262,8 @@ module _ (m : ℕ) (bs ls w : List ℕ) (s : State) (c : Cursor) (t : s .label �
               };
               further = omega arith;
               kept = simp length-set;
+              labels-stay = under m (set w₁ (14 * m + s .opens) (s .here)) _ label (omega arith) ∙ under m w₁ _ (s .here) (omega arith)
+                  ∙ under m w _ 3 (omega arith);
             }
 
         pub entering : getD bs (c .bits) 0 ≢ 0
@@ -297,6 +308,8 @@ module _ (m : ℕ) (bs ls w : List ℕ) (s : State) (c : Cursor) (t : s .label �
               };
               further = omega arith;
               kept = simp length-set;
+              labels-stay = under m (set w₁ (10 * m + s .depth) (s .here)) _ label (omega arith) ∙ under m w₁ _ (s .here) (omega arith)
+                  ∙ under m w _ 1 (omega arith);
             }
 
 -- ---- no bit is left

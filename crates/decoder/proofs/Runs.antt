@@ -4,6 +4,7 @@
 --   running-start         so at the start
 --   running-on            and after a turn that goes on
 --   turned-goes, turned-done, turned-stuck   what a turn hands back, by its case
+--   answer-kept           the answer, from a work area of the same length
 --   answer-unreadable, answer-readable   the answer for the record
 --   answer-stuck, answer-root, answer-word   the answer where the machine is stuck, where in kind 1 the root has degree one, and with a word
 use Prim.Native.Nat.{ℕ, _+_, _*_, _≤_}
@@ -43,15 +44,16 @@ pub record Running (m : ℕ) (bs ls w₀ w : List ℕ) (s : State) (c : Cursor) 
   pub counted : (v : List Letter) → s .root + rootDegree (s .depth) v ≡ rootDegree 0 (letters ++ v)
   pub answer : after letters (run (machineOf m bs ls w s c)) ≡ run (start bs ls)
   pub kept : length w ≡ length w₀
+  pub labelled : region (18 * m) m w ≡ ls
 
 map-append : (xs ys : List Letter) → map code xs ++ map code ys ≡ map code (xs ++ ys)
 map-append [] ys = refl
 map-append (x ∷ xs) ys = ap (λ (r : List ℕ). code x ∷ r) (map-append xs ys)
 
 module _ (m : ℕ) (bs ls w₀ : List ℕ) where
-  pub running-start : m ≤ 4096 → 32 * m ≤ length w₀ → Running m bs ls w₀ w₀ first-state first-cursor
+  pub running-start : m ≤ 4096 → 32 * m ≤ length w₀ → region (18 * m) m w₀ ≡ ls → Running m bs ls w₀ w₀ first-state first-cursor
   unfolding machineOf tops start region
-  running-start h r = record {
+  running-start h r l = record {
     fits = record {
       few-edges = h;
       room = r;
@@ -67,6 +69,7 @@ module _ (m : ℕ) (bs ls w₀ : List ℕ) where
     counted = λ v. zero-add (rootDegree 0 v);
     answer = refl;
     kept = refl;
+    labelled = l;
   }
 
   module _ (w : List ℕ) (s : State) (c : Cursor) (i : Running m bs ls w₀ w s c) where
@@ -78,6 +81,7 @@ module _ (m : ℕ) (bs ls w₀ : List ℕ) where
       counted = λ v. x .counted v ∙ i .counted (x .letters ++ v) ∙ ap (rootDegree 0) (sym (append-assoc (i .letters) (x .letters) v));
       answer = run-on (i .letters) (machineOf m bs ls w s c) (machineOf m bs ls w′ t d) (x .letters) (x .turns) ∙ i .answer;
       kept = x .kept ∙ i .kept;
+      labelled = x .labels-stay ∙ i .labelled;
     }
 
     nothing-after : (xs : List Letter) → after xs none ≡ none
@@ -131,20 +135,27 @@ module _ (m : ℕ) (bs ls w₀ : List ℕ) where
 
 -- ---- what a turn hands back
 
-module _ (m : ℕ) (bs ls w : List ℕ) (s : State) (c : Cursor) (o : Outcome) (w′ : List ℕ) (x : Turned m bs ls w s c o w′) where
+module _ (m : ℕ) (bs ls w : List ℕ) (s : State) (c : Cursor) (o : Outcome) (w′ : List ℕ) (l : region (18 * m) m w ≡ ls)
+    (x : Turned m bs (region (18 * m) m w) w s c o w′) where
+  turned : Turned m bs ls w s c o w′
+  turned = subst (λ (y : List ℕ). Turned m bs y w s c o w′) l x
+
   pub turned-goes : (t : State) (d : Cursor) → o ≡ Goes t d → Moved m bs ls w s c t d w′
   unfolding Turned
-  turned-goes t d e = subst (λ (y : Outcome). Turned m bs ls w s c y w′) e x
+  turned-goes t d e = subst (λ (y : Outcome). Turned m bs ls w s c y w′) e turned
 
   pub turned-done : o ≡ Done → (turn (machineOf m bs ls w s c) ≡ done) × (s .read ≡ 2 * m) × (w′ ≡ w)
   unfolding Turned
-  turned-done e = subst (λ (y : Outcome). Turned m bs ls w s c y w′) e x
+  turned-done e = subst (λ (y : Outcome). Turned m bs ls w s c y w′) e turned
 
   pub turned-stuck : o ≡ Stuck → (turn (machineOf m bs ls w s c) ≡ stuck) × (w′ ≡ w)
   unfolding Turned
-  turned-stuck e = subst (λ (y : Outcome). Turned m bs ls w s c y w′) e x
+  turned-stuck e = subst (λ (y : Outcome). Turned m bs ls w s c y w′) e turned
 
 -- ---- the record
+
+pub answer-kept : (f : Found) (n : ℕ) (v w : List ℕ) (b : Bool) (w′ : List ℕ) → length v ≡ length w → Answered f n v b w′ → Answered f n w b w′
+answer-kept f n v w b w′ e a = record { word-found = a .word-found; none-found = a .none-found; kept = a .kept ∙ e }
 
 read : (r : List ℕ) → readable r ≡ true → decodeRecord r ≡ decodeWord (kindOf r) (bitsIn r) (labelsIn r)
 unfolding decodeRecord

@@ -5,15 +5,16 @@
 --   tops-push             a store just behind a stack pushes
 --   tops-set              a store elsewhere leaves it
 --   region-push           a store just behind a region makes it one longer
+--   copy-start, copy-on, copy-end   a list is copied into a region, entry by entry
 --   push-first, push-second, push-beside, push-region   two pushes, on stacks one behind the other
 use Prim.Native.Nat.{ℕ, zero, suc, _+_, _-_, _≤_, _<_}
 use native.Mathlib.Nat.{not-suc-le-zero}
 use native.Mathlib.Numerals.{add-one}
 use native.Mathlib.Omega.{arith}
-use mathlib.Core.Path.{_≡_, refl, ap, _∙_}
+use mathlib.Core.Path.{_≡_, refl, sym, ap, _∙_, subst}
 use mathlib.Core.List.{List, [], _∷_, _++_}
-use lib.ListN.{length, getD, set, length-set}
-use lib.Seq.{getD-set-same, getD-set-other, drop-cons}
+use lib.ListN.{length, getD, set, take, length-set}
+use lib.Seq.{getD-set-same, getD-set-other, drop-cons, take-suc, take-all}
 use Rattle.areas.specs.Area.{region}
 use Rattle.areas.proofs.Regions.{region-split, region-set-other}
 use Rattle.decoder.specs.States.{tops}
@@ -47,6 +48,24 @@ region-push w a d v h =
   where
     one : region (a + d) 1 (set w (a + d) v) ≡ v ∷ []
     one = rw (drop-cons (set w (a + d) v) (a + d) 0 (rw (length-set w (a + d) v) h), getD-set-same w (a + d) v 0 h)
+
+-- ---- a list is copied
+
+module _ (a : ℕ) (xs : List ℕ) where
+  pub copy-start : (w : List ℕ) → region a 0 w ≡ take 0 xs
+  unfolding region
+  copy-start w = refl
+
+  pub copy-on : (w : List ℕ) (i v : ℕ) → a + i < length w → i < length xs → v ≡ getD xs i 0 → region a i w ≡ take i xs
+      → region a (i + 1) (set w (a + i) v) ≡ take (i + 1) xs
+  copy-on w i v h k e q =
+      region-push w a i v h
+      ∙ ap (λ (r : List ℕ). r ++ (v ∷ [])) q
+      ∙ ap (λ (x : ℕ). take i xs ++ (x ∷ [])) e
+      ∙ sym (rw add-one (take-suc xs i 0 k))
+
+  pub copy-end : (w : List ℕ) (i n : ℕ) → i ≡ n → length xs ≡ n → region a i w ≡ take i xs → region a n w ≡ xs
+  copy-end w i n e l q = subst (λ (k : ℕ). region a k w ≡ take k xs) e q ∙ take-all n xs (omega arith)
 
 -- ---- two pushes, on stacks that stand one behind the other
 

@@ -1,6 +1,7 @@
 -- The machine's state in the code: a few numbers, a cursor, and four stacks in the work area. m is the number of edges.
 --
 --   nextBit bs c, nextLabel ls c   what the cursor c hands back of the bits bs and the labels ls
+--   grouped at g w           w with the five labels of the group g from place at on
 --   tops w a d               the d entries of w from place a on, the last first: a stack
 --   machineOf m bs ls w s c  the machine's state
 --   before c                 the cursor before the bit that was read last
@@ -11,10 +12,10 @@
 --                            after an edge outside the tree began, after going down
 --   lettered m w s x         the work area after the letter x
 --   leafedArea, backedArea, enteredArea   the work area after the other steps
---   Moved                    a turn that goes on: its letters are written, and the state after it
+--   Moved                    a turn that goes on: its letters are written, the labels stay, and the state after it
 --   Turned                   what one turn hands back, by cases
 --   Closed                   the same for a turn that reads no bit and no label, whichever they are
-use Prim.Native.Nat.{ℕ, zero, suc, _+_, _-_, _*_, _≤_, _<_}
+use Prim.Native.Nat.{ℕ, zero, suc, _+_, _-_, _*_, _/_, _%_, _≤_, _<_}
 use mathlib.Core.Path.{_≡_}
 use mathlib.Core.Logic.{_≢_}
 use mathlib.Core.Bool.{cond}
@@ -36,6 +37,9 @@ nextBit bs c = cond (ltb (c .bits) (length bs)) (Value (getD bs (c .bits) 0) (re
 
 unfoldable pub nextLabel : List ℕ → Cursor → Next
 nextLabel ls c = cond (ltb (c .labels) (length ls)) (Value (getD ls (c .labels) 0) (record { bits = c .bits; labels = c .labels + 1 })) End
+
+abbrev pub grouped : ℕ → ℕ → List ℕ → List ℕ
+grouped at g w = set (set (set (set (set w at (g / 81 % 3)) (at + 1) (g / 27 % 3)) (at + 2) (g / 9 % 3)) (at + 3) (g / 3 % 3)) (at + 4) (g % 3)
 
 unfoldable pub tops : List ℕ → ℕ → ℕ → List ℕ
 tops w a zero = []
@@ -164,6 +168,7 @@ pub record Moved (m : ℕ) (bs ls w : List ℕ) (s : State) (c : Cursor) (t : St
   pub fits : Fits m w′ t d
   pub further : s .read < t .read
   pub kept : length w′ ≡ length w
+  pub labels-stay : region (18 * m) m w′ ≡ region (18 * m) m w
 
 unfoldable pub Turned : ℕ → List ℕ → List ℕ → List ℕ → State → Cursor → Outcome → List ℕ → Type 0
 Turned m bs ls w s c (Goes t d) w′ = Moved m bs ls w s c t d w′

@@ -1,19 +1,20 @@
 // A record's payload decoded into its contour word, in the lent work area, by a machine that reads tree bits and labels in step. It knows bits, labels
 // and letters, no rotations. With n = 2m darts: letters by position at 3n; stacks: vertices that the present one hangs from at 5n, labels of open tree
-// edges at 6n, vertices where other open edges began at 7n, their labels at 8n.
+// edges at 6n, vertices where other open edges began at 7n, their labels at 8n; the record's labels by number at 9n.
 ghost use mathlib.Core.Path.{_≡_};
 ghost use mathlib.Core.Logic.{_≢_};
 ghost use mathlib.Core.Bool.{true};
 ghost use Prim.Native.Nat.{_+_, _*_, _^_, _≤_, _<_};
-ghost use lib.ListN.{length, getD, take, drop};
+ghost use lib.ListN.{length, take, drop};
 ghost use Rattle.model.specs.Numbers.{allBelow};
 ghost use Rattle.model.specs.Shelf.{kindOf, edgesOf, passes};
 ghost use Rattle.words.specs.Word.{atRoot, decodeWord};
 ghost use Rattle.packing.specs.Unpack.{bits};
 ghost use Rattle.packing.specs.Unlay.{bitsIn, labelsIn, readable};
+ghost use Rattle.areas.specs.Area.{region};
 ghost use Rattle.bits.specs.Places.{labelsFrom};
 ghost use Rattle.decoder.specs.Decoded.{Head, Decoded, Answered};
-ghost use Rattle.decoder.specs.States.{nextBit, nextLabel, before, Fits, Room, Ready, Turned, Closed};
+ghost use Rattle.decoder.specs.States.{nextBit, nextLabel, grouped, before, Fits, Room, Ready, Turned, Closed};
 ghost use Rattle.decoder.specs.States.{risenState, leafedState, backedState, enteredState, lettered, leafedArea, backedArea, enteredArea};
 
 // Where the next tree bit and the next label stand.
@@ -59,7 +60,7 @@ const SECOND: u16 = 4;
 // The label of a leaf.
 const STAR: u16 = 2;
 
-// Where the letters and the stacks begin, in units of m.
+// Where the letters, the stacks and the labels begin, in units of m.
 const LETTERS: usize = 6;
 
 const BELOW: usize = 10;
@@ -69,6 +70,8 @@ const UPS: usize = 12;
 const OPENS: usize = 14;
 
 const SECONDS: usize = 16;
+
+const LABELS: usize = 18;
 
 // ---- padding bits, fill labels and groups
 
@@ -140,19 +143,65 @@ fn clean(bytes: &[u8], kind: u16, m: usize) -> bool
     zero_labels(bytes, from, m)
 }
 
-// ---- the cursor
+// ---- labels by number
 
-// Label i of the record.
-fn label_of(bytes: &[u8], kind: u16, m: usize, i: usize) -> u8
+// The labels of a record of kind 1.
+fn spread_bits(bytes: &[u8], m: usize, w: &mut [u16])
+    requires { ⌜ Head (now bytes) 1 m ⌝ }
+    requires { ⌜ 32 * m ≤ length (now w) ⌝ }
+    ensures { λ _. ⌜ region (18 * m) m (now (w .exit)) ≡ labelsIn (now (bytes .entry)) ⌝ }
+{
+    let mut i = 0;
+    while i < m {
+        let l = bits::bit_at(bytes, 48 + (2 * m + i));
+        w[LABELS * m + i] = l as u16;
+        i += 1;
+    }
+}
+
+// The five labels of a group, from place `at` on.
+fn put_group(w: &mut [u16], at: usize, group: u8)
+    requires { ⌜ at + 5 ≤ length (now w) ⌝ }
+    ensures { λ _. ⌜ now (w .exit) ≡ grouped at group (now (w .entry)) ⌝ }
+{
+    let g = group as u16;
+    w[at] = g / 81 % 3;
+    w[at + 1] = g / 27 % 3;
+    w[at + 2] = g / 9 % 3;
+    w[at + 3] = g / 3 % 3;
+    w[at + 4] = g % 3;
+}
+
+// The labels of a record of kind 2, and those that fill its last group.
+fn spread_groups(bytes: &[u8], m: usize, w: &mut [u16])
+    requires { ⌜ Head (now bytes) 2 m ⌝ }
+    requires { ⌜ 32 * m ≤ length (now w) ⌝ }
+    ensures { λ _. ⌜ region (18 * m) m (now (w .exit)) ≡ labelsIn (now (bytes .entry)) ⌝ }
+{
+    let from = 6 + (2 * m + 7) / 8;
+    let count = bytes.len() - from;
+    let mut i = 0;
+    while i < count {
+        let group = bytes[from + i];
+        put_group(w, LABELS * m + 5 * i, group);
+        i += 1;
+    }
+}
+
+// The labels are put where the cursor finds them without a division.
+fn spread(bytes: &[u8], kind: u16, m: usize, w: &mut [u16])
     requires { ⌜ Head (now bytes) kind m ⌝ }
-    requires { ⌜ i < m ⌝ }
-    ensures { λ r. ⌜ r ≡ getD (labelsIn (now (bytes .entry))) i 0 ⌝ }
+    requires { ⌜ 32 * m ≤ length (now w) ⌝ }
+    ensures { λ _. ⌜ region (18 * m) m (now (w .exit)) ≡ labelsIn (now (bytes .entry)) ⌝ }
 {
     if kind == 1 {
-        return bits::bit_at(bytes, 48 + (2 * m + i));
+        spread_bits(bytes, m, w);
+        return;
     }
-    bits::label_at(bytes, 6 + (2 * m + 7) / 8, i)
+    spread_groups(bytes, m, w);
 }
+
+// ---- the cursor
 
 impl Cursor {
     // The tree bit here.
@@ -176,16 +225,16 @@ impl Cursor {
     }
 
     // The label here.
-    fn label(self, bytes: &[u8], kind: u16, m: usize) -> Next
-        requires { ⌜ Head (now bytes) kind m ⌝ }
-        ensures { λ r. ⌜ r ≡ nextLabel (labelsIn (now (bytes .entry))) self ⌝ }
+    fn label(self, w: &[u16], m: usize) -> Next
+        requires { ⌜ (m ≤ 4096) × (32 * m ≤ length (now w)) ⌝ }
+        ensures { λ r. ⌜ r ≡ nextLabel (region (18 * m) m (now (w .entry))) self ⌝ }
     {
         let bits = self.bits;
         let labels = self.labels;
         if labels < m {
-            let l = label_of(bytes, kind, m, labels);
+            let l = w[LABELS * m + labels];
             return Next::Value(
-                l as u16,
+                l,
                 Cursor {
                     bits,
                     labels: labels + 1,
@@ -348,10 +397,10 @@ fn enter(w: &mut [u16], m: usize, s: State, label: u16) -> State
 }
 
 // A bit that is not 0 was read up to c: a bit and a label more say what begins.
-fn descend(bytes: &[u8], kind: u16, m: usize, w: &mut [u16], s: State, c: Cursor) -> Outcome
-    requires { ⌜ Head (now bytes) kind m ⌝ }
+fn descend(bytes: &[u8], m: usize, w: &mut [u16], s: State, c: Cursor) -> Outcome
+    requires { ⌜ (passes (now bytes) ≡ true) × (m ≡ edgesOf (now bytes)) ⌝ }
     requires { ⌜ Ready m (bitsIn (now bytes)) (now w) s c × (s .label ≢ 1) ⌝ }
-    ensures { λ r. ⌜ Turned m (bitsIn (now (bytes .entry))) (labelsIn (now (bytes .entry))) (now (w .entry)) s (before c) r (now (w .exit)) ⌝ }
+    ensures { λ r. ⌜ Turned m (bitsIn (now (bytes .entry))) (region (18 * m) m (now (w .entry))) (now (w .entry)) s (before c) r (now (w .exit)) ⌝ }
 {
     let at = c.bits;
     match c.bit(bytes, m) {
@@ -359,7 +408,7 @@ fn descend(bytes: &[u8], kind: u16, m: usize, w: &mut [u16], s: State, c: Cursor
             return Outcome::Stuck;
         }
         Next::Value(b, d) => {
-            match d.label(bytes, kind, m) {
+            match d.label(w, m) {
                 Next::End => {
                     return Outcome::Stuck;
                 }
@@ -382,10 +431,10 @@ fn descend(bytes: &[u8], kind: u16, m: usize, w: &mut [u16], s: State, c: Cursor
 }
 
 // One turn.
-fn turn(bytes: &[u8], kind: u16, m: usize, w: &mut [u16], s: State, c: Cursor) -> Outcome
-    requires { ⌜ Head (now bytes) kind m ⌝ }
+fn turn(bytes: &[u8], m: usize, w: &mut [u16], s: State, c: Cursor) -> Outcome
+    requires { ⌜ (passes (now bytes) ≡ true) × (m ≡ edgesOf (now bytes)) ⌝ }
     requires { ⌜ Fits m (now w) s c ⌝ }
-    ensures { λ r. ⌜ Turned m (bitsIn (now (bytes .entry))) (labelsIn (now (bytes .entry))) (now (w .entry)) s c r (now (w .exit)) ⌝ }
+    ensures { λ r. ⌜ Turned m (bitsIn (now (bytes .entry))) (region (18 * m) m (now (w .entry))) (now (w .entry)) s c r (now (w .exit)) ⌝ }
 {
     let label = s.label;
     let depth = s.depth;
@@ -406,7 +455,7 @@ fn turn(bytes: &[u8], kind: u16, m: usize, w: &mut [u16], s: State, c: Cursor) -
         }
         Next::Value(b, d) => {
             if b != 0 {
-                return descend(bytes, kind, m, w, s, d);
+                return descend(bytes, m, w, s, d);
             }
             if depth == 0 {
                 return Outcome::Stuck;
@@ -420,7 +469,7 @@ fn turn(bytes: &[u8], kind: u16, m: usize, w: &mut [u16], s: State, c: Cursor) -
 // The machine from its start until it is done or stuck. In kind 1 the root has not degree one.
 fn run(bytes: &[u8], kind: u16, m: usize, w: &mut [u16]) -> bool
     requires { ⌜ Head (now bytes) kind m ⌝ }
-    requires { ⌜ 32 * m ≤ length (now w) ⌝ }
+    requires { ⌜ (32 * m ≤ length (now w)) × (region (18 * m) m (now w) ≡ labelsIn (now bytes)) ⌝ }
     ensures { λ r. ⌜ Answered (decodeWord kind (bitsIn (now (bytes .entry))) (labelsIn (now (bytes .entry)))) (2 * m) (now (w .entry)) r (now (w .exit)) ⌝ }
 {
     let mut s = State {
@@ -435,7 +484,7 @@ fn run(bytes: &[u8], kind: u16, m: usize, w: &mut [u16]) -> bool
     let mut c = Cursor { bits: 0, labels: 0 };
     loop {
         let root = s.root;
-        match turn(bytes, kind, m, w, s, c) {
+        match turn(bytes, m, w, s, c) {
             Outcome::Goes(t, d) => {
                 s = t;
                 c = d;
@@ -466,5 +515,6 @@ pub fn decode(bytes: &[u8], kind: u16, m: usize, w: &mut [u16]) -> bool
     if !readable {
         return false;
     }
+    spread(bytes, kind, m, w);
     run(bytes, kind, m, w)
 }

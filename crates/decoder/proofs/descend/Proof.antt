@@ -1,6 +1,12 @@
 -- `descend`: a leaf, an edge outside the tree or a tree edge, by the bit and the label that follow. Assumes nothing.
-use mathlib.Core.Path.{refl}
-use Rattle.packing.specs.Unlay.{bitsIn, labelsIn}
+use Prim.Native.Nat.{_*_}
+use native.Mathlib.Omega.{arith}
+use mathlib.Core.Path.{_≡_, refl}
+use lib.ListN.{length}
+use Rattle.model.specs.Shelf.{kindOf}
+use Rattle.packing.specs.Unlay.{bitsIn}
+use Rattle.areas.specs.Area.{region}
+use Rattle.areas.proofs.Regions.{length-region}
 use Rattle.decoder.specs.States.{Room, Turned}
 use Rattle.decoder.proofs.Cursors.{bit-end, Read, both-read, label-missing}
 use Rattle.decoder.proofs.Moves.{no-bit, no-label, room-left}
@@ -10,26 +16,32 @@ use borrow.Author.Needs.{needs}
 use Rattle.decoder.proofs.descend.Statement.{statement}
 use Rattle.decoder.proofs.descend.Tie as tie
 
+bit-count : (c : tie.Start) → length (bitsIn (c .args .bytes .now)) ≡ 2 * c .args .m
+bit-count c = sizes _ (kindOf (c .args .bytes .now)) _ (c .pre .0 .0, refl, c .pre .0 .1) .bit-count
+
+label-count : (c : tie.Start) → length (region (18 * c .args .m) (c .args .m) (c .args .w .now)) ≡ c .args .m
+label-count c = length-region _ _ _ (let r = c .pre .1 .0 .fits .room in omega arith)
+
 reading : (c : tie.After-known-told2) →
-    let a = c .before .before .before .before .before .before .before .before .before .before .args in
-    let b = c .before .before .before .before .before .b .given .0 in
+    let a = c .before .before .before .before .before .before .before .before .before .before .before .args in
+    let b = c .before .before .before .before .before .before .b .given .0 in
     let l = c .before .l .given .0 in
-    Read (bitsIn (a .bytes .now)) (labelsIn (a .bytes .now)) (a .c) (b .0) (l .0) (l .1 .0)
+    Read (bitsIn (a .bytes .now)) (region (18 * a .m) (a .m) (a .w .now)) (a .c) (b .0) (l .0) (l .1 .0)
 reading c =
-    let b = c .before .before .before .before .before .before .before .bit in
+    let b = c .before .before .before .before .before .before .before .before .bit in
     let l = c .before .before .before .label in
-    let g = c .before .before .before .before .before .b .given .1 in
+    let g = c .before .before .before .before .before .before .b .given .1 in
     both-read _ _ _ (b .result) _ _ (b .ensures) g (l .result) (l .ensures) _ _ (c .before .l .given .1)
 
 room : (c : tie.After-known-told2) →
-    let a = c .before .before .before .before .before .before .before .before .before .before .args in
+    let a = c .before .before .before .before .before .before .before .before .before .before .before .args in
     Room (a .m) (a .w .now) (a .s)
 room c =
-    let st = c .before .before .before .before .before .before .before .before .before .before in
-    let z = sizes _ _ _ (st .pre .0) in
+    let st = c .before .before .before .before .before .before .before .before .before .before .before in
     let r = reading c in
     let p = st .pre .1 in
-    room-left _ _ (labelsIn (st .args .bytes .now)) _ _ _ (p .1) (p .0) (z .bit-count) (r .bit-left) (z .label-count) (r .label-left)
+    let ls = region (18 * st .args .m) (st .args .m) (st .args .w .now) in
+    room-left _ _ ls _ _ _ (p .1) (p .0) (bit-count st) (r .bit-left) (label-count st) (r .label-left)
 
 bit-requires : tie.Need-bit-requires
 bit-requires c κs = search needs
@@ -41,9 +53,8 @@ returns : tie.Need-returns
 unfolding Turned
 returns c =
     let st = c .before .before .before .before .before in
-    let z = sizes _ _ _ (st .pre .0) in
     let b = c .before .before .bit in
-    (no-bit _ _ _ _ _ _ (st .pre .1 .1) (st .pre .1 .0) (z .bit-count) (bit-end _ _ (b .result) (b .ensures) (c .enum-told .given .1)), refl)
+    (no-bit _ _ _ _ _ _ (st .pre .1 .1) (st .pre .1 .0) (bit-count st) (bit-end _ _ (b .result) (b .ensures) (c .enum-told .given .1)), refl)
 
 enum-known-b : tie.Need-enum-known-b
 enum-known-b c = search needs
@@ -54,16 +65,18 @@ label-requires c κs = search needs
 enum-told-2 : tie.Need-enum-told-2
 enum-told-2 c = search needs
 
+same-length : tie.Need-same-length
+same-length c = search needs
+
 returns-2 : tie.Need-returns-2
 unfolding Turned
 returns-2 c =
-    let st = c .before .before .before .before .before .before .before .before .before in
-    let z = sizes _ _ _ (st .pre .0) in
-    let b = c .before .before .before .before .before .before .bit in
+    let st = c .before .before .before .before .before .before .before .before .before .before in
+    let b = c .before .before .before .before .before .before .before .bit in
     let l = c .before .before .label in
-    let g = c .before .before .before .before .b .given .1 in
+    let g = c .before .before .before .before .before .b .given .1 in
     let r = label-missing _ _ _ (b .result) _ _ (b .ensures) g (l .result) (l .ensures) (c .enum-told2 .given .1) in
-    (no-label _ _ _ _ _ _ (st .pre .1 .1) (st .pre .1 .0) (z .bit-count) (r .0) (r .1), refl)
+    (no-label _ _ _ _ _ _ (st .pre .1 .1) (st .pre .1 .0) (bit-count st) (r .0) (r .1), refl)
 
 enum-known-l : tie.Need-enum-known-l
 enum-known-l c = search needs
@@ -71,46 +84,43 @@ enum-known-l c = search needs
 leaf-requires : tie.Need-leaf-requires
 leaf-requires c κs = room (c .before .before)
 
-same-length : tie.Need-same-length
-same-length c = search needs
+same-length-2 : tie.Need-same-length-2
+same-length-2 c = search needs
 
 returns-3 : tie.Need-returns-3
 unfolding Turned
 returns-3 c =
-    let st = c .before .before .before .before .before .before .before .before .before .before .before .before .before .before .before in
-    let z = sizes _ _ _ (st .pre .0) in
+    let st = c .before .before .before .before .before .before .before .before .before .before .before .before .before .before .before .before in
     let r = reading (c .before .before .before .before .before) in
-    leaf-turn _ _ _ _ _ _ (st .pre .1 .1) (st .pre .1 .0) (z .bit-count) (z .label-count) _ _ _ r _ _
+    leaf-turn _ _ _ _ _ _ (st .pre .1 .1) (st .pre .1 .0) (bit-count st) (label-count st) _ _ _ r _ _
     (c .before .before .before .before .if1 .taken) (c .before .before .leaf .ensures)
 
 back-requires : tie.Need-back-requires
 back-requires c κs = room (c .before .before .before)
 
-same-length-2 : tie.Need-same-length-2
-same-length-2 c = search needs
+same-length-3 : tie.Need-same-length-3
+same-length-3 c = search needs
 
 returns-4 : tie.Need-returns-4
 unfolding Turned
 returns-4 c =
-    let st = c .before .before .before .before .before .before .before .before .before .before .before .before .before .before .before .before in
-    let z = sizes _ _ _ (st .pre .0) in
+    let st = c .before .before .before .before .before .before .before .before .before .before .before .before .before .before .before .before .before in
     let r = reading (c .before .before .before .before .before .before) in
-    back-turn _ _ _ _ _ _ (st .pre .1 .1) (st .pre .1 .0) (z .bit-count) (z .label-count) _ _ _ r _ _
+    back-turn _ _ _ _ _ _ (st .pre .1 .1) (st .pre .1 .0) (bit-count st) (label-count st) _ _ _ r _ _
     (c .before .before .before .before .before .if1 .left) (c .before .before .before .before .if2 .taken) (c .before .before .back .ensures)
 
 enter-requires : tie.Need-enter-requires
 enter-requires c κs = room (c .before .before .before)
 
-same-length-3 : tie.Need-same-length-3
-same-length-3 c = search needs
+same-length-4 : tie.Need-same-length-4
+same-length-4 c = search needs
 
 returns-5 : tie.Need-returns-5
 unfolding Turned
 returns-5 c =
-    let st = c .before .before .before .before .before .before .before .before .before .before .before .before .before .before .before .before in
-    let z = sizes _ _ _ (st .pre .0) in
+    let st = c .before .before .before .before .before .before .before .before .before .before .before .before .before .before .before .before .before in
     let r = reading (c .before .before .before .before .before .before) in
-    enter-turn _ _ _ _ _ _ (st .pre .1 .1) (st .pre .1 .0) (z .bit-count) (z .label-count) _ _ _ r _ _
+    enter-turn _ _ _ _ _ _ (st .pre .1 .1) (st .pre .1 .0) (bit-count st) (label-count st) _ _ _ r _ _
     (c .before .before .before .before .before .if1 .left) (c .before .before .before .before .if2 .left) (c .before .before .enter .ensures)
 
 pub descend-spec : {M : Type 1} → statement M
@@ -123,14 +133,15 @@ descend-spec =
     enum-known-b
     label-requires
     enum-told-2
+    same-length
     returns-2
     enum-known-l
     leaf-requires
-    same-length
+    same-length-2
     returns-3
     back-requires
-    same-length-2
+    same-length-3
     returns-4
     enter-requires
-    same-length-3
+    same-length-4
     returns-5)

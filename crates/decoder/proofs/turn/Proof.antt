@@ -1,9 +1,12 @@
 -- `turn`: one turn of the machine. Assumes nothing.
-use Prim.Native.Nat.{_≤_}
-use mathlib.Core.Path.{refl, sym, _∙_, subst}
+use Prim.Native.Nat.{_*_, _≤_}
+use mathlib.Core.Path.{_≡_, refl, sym, _∙_, subst}
 use native.Mathlib.Omega.{arith}
 use lib.ListN.{length}
-use Rattle.packing.specs.Unlay.{bitsIn, labelsIn}
+use Rattle.model.specs.Shelf.{kindOf}
+use Rattle.packing.specs.Unlay.{bitsIn}
+use Rattle.areas.specs.Area.{region}
+use Rattle.areas.proofs.Regions.{length-region}
 use Rattle.decoder.specs.declared.Cursor.{Cursor}
 use Rattle.decoder.specs.States.{Turned}
 use Rattle.decoder.proofs.Cursors.{BitRead, bit-read, bit-end}
@@ -13,6 +16,12 @@ use Rattle.decoder.proofs.Payload.{sizes}
 use borrow.Author.Needs.{needs}
 use Rattle.decoder.proofs.turn.Statement.{statement}
 use Rattle.decoder.proofs.turn.Tie as tie
+
+bit-count : (c : tie.Start) → length (bitsIn (c .args .bytes .now)) ≡ 2 * c .args .m
+bit-count c = sizes _ (kindOf (c .args .bytes .now)) _ (c .pre .0 .0, refl, c .pre .0 .1) .bit-count
+
+label-count : (c : tie.Start) → length (region (18 * c .args .m) (c .args .m) (c .args .w .now)) ≡ c .args .m
+label-count c = length-region _ _ _ (let r = c .pre .1 .room in omega arith)
 
 one-read : (c : tie.After-known-told) →
     let a = c .before .before .before .before .before .before .before .args in
@@ -50,13 +59,15 @@ returns-2 c = (open-left _ _ _ _ _ _ (c .before .before .before .before .if1 .le
 returns-3 : tie.Need-returns-3
 unfolding Turned
 returns-3 c =
-    let z = sizes _ _ _ (c .before .before .before .before .before .before .before .before .pre .0) in
+    let st = c .before .before .before .before .before .before .before .before in
+    let z = bit-count st in let y = label-count st in
     (label-left _ _ _ _ _ _ (c .before .before .before .before .before .if1 .left) (none-left (c .before .before)) (omega arith), refl)
 
 returns-4 : tie.Need-returns-4
 unfolding Turned
 returns-4 c =
-    let z = sizes _ _ _ (c .before .before .before .before .before .before .before .before .pre .0) in
+    let st = c .before .before .before .before .before .before .before .before in
+    let z = bit-count st in let y = label-count st in
     let f = c .before .before .before .before .before .before .before .before .pre .1 in
     let q = none-left (c .before .before) in
     (finishing _ _ _ _ _ _ (c .before .before .before .before .before .if1 .left) q (omega arith) (omega arith) (omega arith), omega arith, refl)
@@ -67,8 +78,8 @@ enum-known-b c = search needs
 descend-requires : tie.Need-descend-requires
 descend-requires c κs =
     let st = c .before .before .before .before .before .before .before .before .before in
-    let z = sizes _ _ _ (st .pre .0) in
-    let r = ready _ _ _ _ _ _ _ (z .bit-count) (st .pre .1) (one-read (c .before .before)) (c .before .if4 .taken) in
+    let z = bit-count st in
+    let r = ready _ _ _ _ _ _ _ z (st .pre .1) (one-read (c .before .before)) (c .before .if4 .taken) in
     (st .pre .0, (r, c .before .before .before .before .before .before .if1 .left))
 
 same-length-2 : tie.Need-same-length-2
@@ -78,7 +89,8 @@ returns-5 : tie.Need-returns-5
 returns-5 c =
     let a = c .before .before .before .before .before .before .before .before .before .before .before .before .args in
     let d = c .before .before .descend in
-    subst (λ (x : Cursor). Turned (a .m) (bitsIn (a .bytes .now)) (labelsIn (a .bytes .now)) (a .w .now) (a .s) x (d .result) (d .last .1 .1 .1 .0))
+    let ls = region (18 * a .m) (a .m) (a .w .now) in
+    subst (λ (x : Cursor). Turned (a .m) (bitsIn (a .bytes .now)) ls (a .w .now) (a .s) x (d .result) (d .last .1 .1 .0))
     (before-moved _ _ (one-read (c .before .before .before .before .before) .2)) (d .ensures)
 
 returns-6 : tie.Need-returns-6
@@ -90,7 +102,7 @@ returns-6 c =
 
 rise-requires : tie.Need-rise-requires
 rise-requires c κs =
-    let z = sizes _ _ _ (c .before .before .before .before .before .before .before .before .before .before .pre .0) in
+    let z = bit-count (c .before .before .before .before .before .before .before .before .before .before) in
     let f = c .before .before .before .before .before .before .before .before .before .before .pre .1 in
     let r = one-read (c .before .before .before) in
     (f .few-edges, f .room, omega arith, omega arith, omega arith)
@@ -102,10 +114,10 @@ returns-7 : tie.Need-returns-7
 unfolding Turned
 returns-7 c =
     let st = c .before .before .before .before .before .before .before .before .before .before .before .before .before in
-    let z = sizes _ _ _ (st .pre .0) in
+    let z = bit-count st in
     let t = c .before .before .before .before .before .before .before .before .before .before .if1 .left in
     let r = one-read (c .before .before .before .before .before .before) in
-    rise-turn _ _ _ _ _ _ t (z .bit-count) (st .pre .1) _ _ r (c .before .before .before .before .before .if4 .left) (c .before .before .before .before .if5 .left) _ _
+    rise-turn _ _ _ _ _ _ t z (st .pre .1) _ _ r (c .before .before .before .before .before .if4 .left) (c .before .before .before .before .if5 .left) _ _
     (c .before .before .rise .ensures)
 
 pub turn-spec : {M : Type 1} → statement M

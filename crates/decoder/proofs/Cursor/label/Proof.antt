@@ -1,25 +1,38 @@
 -- `Cursor::label`: the label at the cursor, or the end. Assumes nothing.
+use Prim.Native.Nat.{_*_}
+use mathlib.Core.Path.{_≡_, sym}
 use native.Mathlib.Omega.{arith}
+use lib.ListN.{length}
+use Rattle.areas.specs.Area.{region}
+use Rattle.areas.proofs.Regions.{length-region, getD-region}
 use Rattle.decoder.proofs.Cursors.{label-next, label-none}
-use Rattle.decoder.proofs.Payload.{sizes}
 use borrow.Author.Needs.{needs}
 use Rattle.decoder.proofs.Cursor.label.Statement.{statement}
 use Rattle.decoder.proofs.Cursor.label.Tie as tie
 
-label-of-requires : tie.Need-label-of-requires
-label-of-requires c κs = search needs
+label-count : (c : tie.Start) → length (region (18 * c .args .m) (c .args .m) (c .args .w .now)) ≡ c .args .m
+label-count c = length-region _ _ _ (let r = c .pre .1 in omega arith)
 
-cast-t9 : tie.Need-cast-t9
-cast-t9 c = search needs
+mul-l : tie.Need-mul-l
+mul-l c = search needs
 
-add-t10 : tie.Need-add-t10
-add-t10 c = search needs
+add-l : tie.Need-add-l
+add-l c = search needs
+
+mul-l-2 : tie.Need-mul-l-2
+mul-l-2 c = search needs
+
+shared-slice-read-l : tie.Need-shared-slice-read-l
+shared-slice-read-l c = search needs
+
+add-t8 : tie.Need-add-t8
+add-t8 c = search needs
 
 returns : tie.Need-returns
-returns c = let z = sizes _ _ _ (c .before .before .before .pre) in label-next _ _ _ (omega arith) (c .label-of .ensures)
+returns c = let z = label-count (c .before .before) in label-next _ _ _ (omega arith) (sym (getD-region _ _ _ _ (c .before .if1 .taken)))
 
 returns-2 : tie.Need-returns-2
-returns-2 c = let z = sizes _ _ _ (c .before .before .pre) in label-none _ _ (omega arith)
+returns-2 c = let z = label-count (c .before) in label-none _ _ (omega arith)
 
 pub label-spec : {M : Type 1} → statement M
-label-spec = tie.close (tie.spec label-of-requires cast-t9 add-t10 returns returns-2)
+label-spec = tie.close (tie.spec mul-l add-l mul-l-2 shared-slice-read-l add-t8 returns returns-2)
