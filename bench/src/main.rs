@@ -4,6 +4,7 @@
 //! else the machine does meets all three alike. All three must give the same bytes and entries, or the run fails.
 
 mod coders;
+mod plain;
 mod plans;
 
 use coders::CODERS;
@@ -241,6 +242,34 @@ fn time_shelf() {
         },
     ]);
     row("walk all", times);
+    time_shelving(&records, used);
+}
+
+/// All records shelved one after another into an empty shelf, by the proved library and by the same loop in plain Rust.
+fn time_shelving(records: &[Vec<u8>], length: usize) {
+    let mut shelf = vec![0; length];
+    let mut seconds =
+        |shelve: &mut dyn FnMut(&[u8], &mut [u8], usize) -> Option<(usize, usize)>| {
+            let begun = Instant::now();
+            let mut used = 0;
+            for (number, record) in records.iter().enumerate() {
+                let stored = shelve(record, &mut shelf, used);
+                assert_eq!(stored, Some((number, used + record.len())));
+                used += record.len();
+            }
+            begun.elapsed().as_secs_f64()
+        };
+    let proved = seconds(&mut |record, shelf, used| {
+        let stored = jurnadel::shelve(record, shelf, used).ok()?;
+        Some((stored.number, stored.used))
+    });
+    let plain = seconds(&mut plain::shelve);
+    println!();
+    println!(
+        "all {} shelved one after another into an empty shelf: proved {proved:.2} s, plain Rust {plain:.2} s, ratio {:.2}",
+        records.len(),
+        proved / plain
+    );
 }
 
 fn main() {
