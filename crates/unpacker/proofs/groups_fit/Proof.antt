@@ -1,0 +1,55 @@
+-- `groups_fit`: no byte from a place on is above 242. Assumes nothing.
+use Prim.Native.Nat.{_-_}
+use mathlib.Core.Path.{_≡_, refl, sym, _∙_}
+use native.Mathlib.Omega.{arith}
+use lib.ListN.{length, drop}
+use Rattle.model.specs.Numbers.{allBelow}
+use Rattle.unpacker.proofs.Readable.{below-next, below-stop, below-end}
+use borrow.Author.Needs.{needs}
+use Rattle.unpacker.proofs.groups_fit.Statement.{statement}
+use Rattle.unpacker.proofs.groups_fit.Tie as tie
+
+abbrev Inv-loop : tie.InvT-loop
+Inv-loop bytes from k₀ k = allBelow 243 (drop k bytes) ≡ allBelow 243 (drop from bytes)
+
+abbrev μ-loop : tie.MeasureT-loop
+μ-loop bytes from k₀ k = length bytes - k
+
+loop-holds : tie.Need-loop-holds Inv-loop μ-loop
+loop-holds c = refl
+
+shared-slice-read-b : tie.Need-shared-slice-read-b Inv-loop μ-loop
+shared-slice-read-b c = search needs
+
+returns : tie.Need-returns Inv-loop μ-loop
+returns c =
+    let at = c .before .before .before .loop in
+    sym (below-stop 243 _ (at .k) (omega arith) (omega arith)) ∙ at .inv
+
+add-k : tie.Need-add-k Inv-loop μ-loop
+add-k c = search needs
+
+loop-less : tie.Need-loop-less Inv-loop μ-loop
+loop-less c = search needs
+
+loop-again : tie.Need-loop-again Inv-loop μ-loop
+loop-again c =
+    let at = c .before .before .before .loop in
+    sym (below-next 243 _ (at .k) (omega arith) (omega arith)) ∙ at .inv
+
+returns-2 : tie.Need-returns-2 Inv-loop μ-loop
+returns-2 c = sym (below-end 243 _ (c .before .loop .k) (omega arith)) ∙ c .before .loop .inv
+
+pub groups-fit-spec : {M : Type 1} → statement M
+groups-fit-spec =
+    tie.close
+    (tie.spec
+    Inv-loop
+    μ-loop
+    loop-holds
+    shared-slice-read-b
+    returns
+    add-k
+    loop-less
+    loop-again
+    returns-2)

@@ -1,0 +1,110 @@
+-- `spread_groups`: the labels of kind 2, copied group by group. Assumes nothing.
+use Prim.Native.Nat.{_+_, _-_, _*_, _/_, _≤_}
+use mathlib.Core.Path.{_≡_, refl, ap, _∙_}
+use native.Mathlib.Omega.{arith}
+use lib.ListN.{length, take, drop}
+use Rattle.areas.specs.Area.{region}
+use Rattle.packing.specs.Unpack.{groups}
+use Rattle.unpacker.proofs.Payload.{KindTwo, two, labels-two}
+use Rattle.unpacker.proofs.Labels.{groups-start, group-on, groups-end}
+use borrow.Author.Needs.{needs}
+use Rattle.unpacker.proofs.spread_groups.Statement.{statement}
+use Rattle.unpacker.proofs.spread_groups.Tie as tie
+
+abbrev Inv-loop : tie.InvT-loop
+Inv-loop bytes m w₀ from count i₀ w i =
+    (i ≤ (m + 4) / 5) × (length w ≡ length w₀) × (region (18 * m) (5 * i) w ≡ groups (take i (drop (6 + (2 * m + 7) / 8) bytes)))
+
+abbrev μ-loop : tie.MeasureT-loop
+μ-loop bytes m w₀ from count i₀ w i = (m + 4) / 5 - i
+
+facts : (c : tie.Start Inv-loop μ-loop) → KindTwo (c .args .bytes .now) (c .args .m)
+facts c = two _ _ _ (c .pre .0) (λ e. let z : ⊥ = omega arith in z)
+
+mul-from : tie.Need-mul-from Inv-loop μ-loop
+mul-from c = let z = facts (c .before .before) in omega arith
+
+add-from : tie.Need-add-from Inv-loop μ-loop
+add-from c = let z = facts (c .before .before) in omega arith
+
+add-from-2 : tie.Need-add-from-2 Inv-loop μ-loop
+add-from-2 c = let z = facts (c .before .before) in omega arith
+
+sub-count : tie.Need-sub-count Inv-loop μ-loop
+sub-count c = let z = facts (c .before .before) in omega arith
+
+loop-holds : tie.Need-loop-holds Inv-loop μ-loop
+loop-holds c =
+    let a = c .before .before .args in
+    (omega arith, refl, groups-start (18 * a .m) (6 + (2 * a .m + 7) / 8) (a .bytes .now) (a .w .now))
+
+add-group : tie.Need-add-group Inv-loop μ-loop
+add-group c = let z = facts (c .before .before .before .before) in omega arith
+
+shared-slice-read-group : tie.Need-shared-slice-read-group Inv-loop μ-loop
+shared-slice-read-group c = let z = facts (c .before .before .before .before .before) in omega arith
+
+mul-put-group : tie.Need-mul-put-group Inv-loop μ-loop
+mul-put-group c = let z = facts (c .before .before .before .before .before .before) in omega arith
+
+mul-put-group-2 : tie.Need-mul-put-group-2 Inv-loop μ-loop
+mul-put-group-2 c = let z = facts (c .before .before .before .before .before .before) in omega arith
+
+add-put-group : tie.Need-add-put-group Inv-loop μ-loop
+add-put-group c = let z = facts (c .before .before .before .before .before .before) in omega arith
+
+put-group-requires : tie.Need-put-group-requires Inv-loop μ-loop
+put-group-requires c κs =
+    let st = c .before .before .before .before .before .before in
+    let z = facts st in let h = st .pre .1 in let k = c .before .before .before .loop .inv .1 in omega arith
+
+add-i : tie.Need-add-i Inv-loop μ-loop
+add-i c = let z = facts (c .before .before .before .before .before .before .before .before .before) in omega arith
+
+loop-less : tie.Need-loop-less Inv-loop μ-loop
+loop-less c = let z = facts (c .before .before .before .before .before .before .before .before .before) in omega arith
+
+loop-again : tie.Need-loop-again Inv-loop μ-loop
+loop-again c =
+    let st = c .before .before .before .before .before .before .before .before .before in
+    let z = facts st in let h = st .pre .1 in
+    let at = c .before .before .before .before .before .before .loop in let k = at .inv .1 in
+    let p = c .before .before .put-group in (
+      omega arith,
+      p .kept .0 ∙ k,
+      ap (region (18 * st .args .m) (5 * (at .i + 1))) (p .ensures)
+          ∙ group-on (18 * st .args .m) (6 + (2 * st .args .m + 7) / 8) (st .args .bytes .now) (at .w) (at .i) (omega arith) (omega arith) (at .inv .2),
+    )
+
+same-length : tie.Need-same-length Inv-loop μ-loop
+same-length c = search needs
+
+returns : tie.Need-returns Inv-loop μ-loop
+returns c =
+    let st = c .before .before .before .before in
+    let y = facts st in let at = c .before .loop in
+    groups-end (18 * st .args .m) (6 + (2 * st .args .m + 7) / 8) (st .args .bytes .now) (at .w) (at .i) (st .args .m) (omega arith) (omega arith) (at .inv .2)
+    ∙ labels-two _ _ _ (st .pre .0) (λ e. let z : ⊥ = omega arith in z)
+
+pub spread-groups-spec : {M : Type 1} → statement M
+spread-groups-spec =
+    tie.close
+    (tie.spec
+    Inv-loop
+    μ-loop
+    mul-from
+    add-from
+    add-from-2
+    sub-count
+    loop-holds
+    add-group
+    shared-slice-read-group
+    mul-put-group
+    mul-put-group-2
+    add-put-group
+    put-group-requires
+    add-i
+    loop-less
+    loop-again
+    same-length
+    returns)

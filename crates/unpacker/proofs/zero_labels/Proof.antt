@@ -1,0 +1,71 @@
+-- `zero_labels`: every label from number m on is 0. Assumes nothing.
+use Prim.Native.Nat.{_-_, _*_}
+use mathlib.Core.Path.{_≡_, refl, sym, _∙_}
+use native.Mathlib.Omega.{arith}
+use lib.ListN.{length, drop}
+use Rattle.model.specs.Numbers.{allBelow}
+use Rattle.bits.specs.Places.{labelsFrom}
+use Rattle.unpacker.proofs.Readable.{below-next, below-stop, below-end, length-labels}
+use borrow.Author.Needs.{needs}
+use Rattle.unpacker.proofs.zero_labels.Statement.{statement}
+use Rattle.unpacker.proofs.zero_labels.Tie as tie
+
+abbrev Inv-loop : tie.InvT-loop
+Inv-loop bytes from m end k₀ k =
+    (end ≡ 5 * (length bytes - from)) × (allBelow 1 (drop k (labelsFrom bytes from)) ≡ allBelow 1 (drop m (labelsFrom bytes from)))
+
+abbrev μ-loop : tie.MeasureT-loop
+μ-loop bytes from m end k₀ k = end - k
+
+sub-end : tie.Need-sub-end Inv-loop μ-loop
+sub-end c = search needs
+
+mul-end : tie.Need-mul-end Inv-loop μ-loop
+mul-end c = search needs
+
+loop-holds : tie.Need-loop-holds Inv-loop μ-loop
+loop-holds c = (refl, refl)
+
+label-at-requires : tie.Need-label-at-requires Inv-loop μ-loop
+label-at-requires c κs = search needs
+
+returns : tie.Need-returns Inv-loop μ-loop
+returns c =
+    let at = c .before .before .before .loop in
+    let n = length-labels (c .before .before .before .before .before .args .bytes .now) (c .before .before .before .before .before .args .from) in
+    let l = c .before .label-at .ensures in
+    sym (below-stop 1 _ (at .k) (omega arith) (omega arith)) ∙ at .inv .1
+
+add-k : tie.Need-add-k Inv-loop μ-loop
+add-k c = search needs
+
+loop-less : tie.Need-loop-less Inv-loop μ-loop
+loop-less c = search needs
+
+loop-again : tie.Need-loop-again Inv-loop μ-loop
+loop-again c =
+    let at = c .before .before .before .loop in
+    let n = length-labels (c .before .before .before .before .before .args .bytes .now) (c .before .before .before .before .before .args .from) in
+    let l = c .before .label-at .ensures in
+    (at .inv .0, sym (below-next 1 _ (at .k) (omega arith) (omega arith)) ∙ at .inv .1)
+
+returns-2 : tie.Need-returns-2 Inv-loop μ-loop
+returns-2 c =
+    let n = length-labels (c .before .before .before .args .bytes .now) (c .before .before .before .args .from) in
+    sym (below-end 1 _ (c .before .loop .k) (omega arith)) ∙ c .before .loop .inv .1
+
+pub zero-labels-spec : {M : Type 1} → statement M
+zero-labels-spec =
+    tie.close
+    (tie.spec
+    Inv-loop
+    μ-loop
+    sub-end
+    mul-end
+    loop-holds
+    label-at-requires
+    returns
+    add-k
+    loop-less
+    loop-again
+    returns-2)

@@ -1,0 +1,142 @@
+// A record's payload taken apart: whether its padding bits and fill labels are 0 and its groups fit, and its labels by number, put into the lent work
+// area. It knows digits and bytes, and what a record's head says; no letters, no words and no plans. With n = 2m darts the labels stand from 9n on.
+ghost use mathlib.Core.Path.{_≡_};
+ghost use Prim.Native.Nat.{_+_, _*_, _^_, _≤_, _<_};
+ghost use lib.ListN.{length, take, drop};
+ghost use Rattle.model.specs.Numbers.{allBelow};
+ghost use Rattle.packing.specs.Unpack.{bits};
+ghost use Rattle.packing.specs.Unlay.{labelsIn, readable};
+ghost use Rattle.areas.specs.Area.{region};
+ghost use Rattle.bits.specs.Places.{labelsFrom};
+ghost use Rattle.unpacker.specs.Unpacked.{Head, grouped};
+
+// Where the labels begin, in units of m.
+const LABELS: usize = 18;
+
+// ---- padding bits, fill labels and groups
+
+// Every bit from place `from` up to place `to` is 0.
+fn zero_bits(bytes: &[u8], from: usize, to: usize) -> bool
+    requires { ⌜ to ≤ 8 * length (now bytes) ⌝ }
+    ensures { λ r. ⌜ r ≡ allBelow 1 (drop from (take to (bits (now (bytes .entry))))) ⌝ }
+{
+    let mut k = from;
+    while k < to {
+        let b = bits::bit_at(bytes, k);
+        if b != 0 {
+            return false;
+        }
+        k += 1;
+    }
+    true
+}
+
+// Every label of the groups from byte `from` on is 0, from number m on.
+fn zero_labels(bytes: &[u8], from: usize, m: usize) -> bool
+    requires { ⌜ (from ≤ length (now bytes)) × (length (now bytes) < 2 ^ 32) ⌝ }
+    ensures { λ r. ⌜ r ≡ allBelow 1 (drop m (labelsFrom (now (bytes .entry)) from)) ⌝ }
+{
+    let end = 5 * (bytes.len() - from);
+    let mut k = m;
+    while k < end {
+        let l = bits::label_at(bytes, from, k);
+        if l != 0 {
+            return false;
+        }
+        k += 1;
+    }
+    true
+}
+
+// No byte from place `from` on is above 242.
+fn groups_fit(bytes: &[u8], from: usize) -> bool
+    ensures { λ r. ⌜ r ≡ allBelow 243 (drop from (now (bytes .entry))) ⌝ }
+{
+    let mut k = from;
+    while k < bytes.len() {
+        let b = bytes[k];
+        if b > 242 {
+            return false;
+        }
+        k += 1;
+    }
+    true
+}
+
+// "unused low bits are 0", "the last group filled with 0", and five labels make no more than 242.
+pub fn clean(bytes: &[u8], kind: u16, m: usize) -> bool
+    requires { ⌜ Head (now bytes) kind m ⌝ }
+    ensures { λ r. ⌜ r ≡ readable (now (bytes .entry)) ⌝ }
+{
+    if kind == 1 {
+        return zero_bits(bytes, 48 + 3 * m, 8 * bytes.len());
+    }
+    let from = 6 + (2 * m + 7) / 8;
+    let padded = zero_bits(bytes, 48 + 2 * m, 8 * from);
+    if !padded {
+        return false;
+    }
+    let fit = groups_fit(bytes, from);
+    if !fit {
+        return false;
+    }
+    zero_labels(bytes, from, m)
+}
+
+// ---- labels by number
+
+// The labels of a record of kind 1.
+fn spread_bits(bytes: &[u8], m: usize, w: &mut [u16])
+    requires { ⌜ Head (now bytes) 1 m ⌝ }
+    requires { ⌜ 32 * m ≤ length (now w) ⌝ }
+    ensures { λ _. ⌜ region (18 * m) m (now (w .exit)) ≡ labelsIn (now (bytes .entry)) ⌝ }
+{
+    let mut i = 0;
+    while i < m {
+        let l = bits::bit_at(bytes, 48 + (2 * m + i));
+        w[LABELS * m + i] = l as u16;
+        i += 1;
+    }
+}
+
+// The five labels of a group, from place `at` on.
+fn put_group(w: &mut [u16], at: usize, group: u8)
+    requires { ⌜ at + 5 ≤ length (now w) ⌝ }
+    ensures { λ _. ⌜ now (w .exit) ≡ grouped at group (now (w .entry)) ⌝ }
+{
+    let g = group as u16;
+    w[at] = g / 81 % 3;
+    w[at + 1] = g / 27 % 3;
+    w[at + 2] = g / 9 % 3;
+    w[at + 3] = g / 3 % 3;
+    w[at + 4] = g % 3;
+}
+
+// The labels of a record of kind 2, and those that fill its last group.
+fn spread_groups(bytes: &[u8], m: usize, w: &mut [u16])
+    requires { ⌜ Head (now bytes) 2 m ⌝ }
+    requires { ⌜ 32 * m ≤ length (now w) ⌝ }
+    ensures { λ _. ⌜ region (18 * m) m (now (w .exit)) ≡ labelsIn (now (bytes .entry)) ⌝ }
+{
+    let from = 6 + (2 * m + 7) / 8;
+    let count = bytes.len() - from;
+    let mut i = 0;
+    while i < count {
+        let group = bytes[from + i];
+        put_group(w, LABELS * m + 5 * i, group);
+        i += 1;
+    }
+}
+
+// The labels by number, so that whoever reads them one by one needs no division.
+pub fn spread(bytes: &[u8], kind: u16, m: usize, w: &mut [u16])
+    requires { ⌜ Head (now bytes) kind m ⌝ }
+    requires { ⌜ 32 * m ≤ length (now w) ⌝ }
+    ensures { λ _. ⌜ region (18 * m) m (now (w .exit)) ≡ labelsIn (now (bytes .entry)) ⌝ }
+{
+    if kind == 1 {
+        spread_bits(bytes, m, w);
+        return;
+    }
+    spread_groups(bytes, m, w);
+}
