@@ -2,7 +2,7 @@
 --
 --   root-here, root-elsewhere   what `atRoot` adds
 --   count-root            the root's dart is counted on either side
---   root-fits             a count that is at most the letters stays so
+--   root-fits             at most one is added
 --   pred-is               `pred` by subtraction
 use Prim.Native.Nat.{ℕ, zero, suc, _+_, _-_, _≤_}
 use native.Mathlib.Nat.{suc-ne-zero}
@@ -24,9 +24,9 @@ pub count-root : (d c e : ℕ) → atRoot d c + e ≡ c + atRoot d e
 count-root zero c e = omega arith
 count-root (suc d) c e = refl
 
-pub root-fits : (d c k : ℕ) → c ≤ k → atRoot d c ≤ k + 1
-root-fits zero c k h = omega arith
-root-fits (suc d) c k h = omega arith
+pub root-fits : (d c : ℕ) → atRoot d c ≤ c + 1
+root-fits zero c = omega arith
+root-fits (suc d) c = omega arith
 
 pub pred-is : (d : ℕ) → pred d ≡ d - 1
 pred-is zero = omega arith

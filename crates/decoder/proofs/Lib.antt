@@ -1,8 +1,7 @@
-pub mod Stacks
 pub mod Counting
+pub mod Linking
+pub mod Views
 pub mod Moves
 pub mod Cursors
 pub mod Turning
 pub mod Runs
-pub mod Payload
-pub mod Groups

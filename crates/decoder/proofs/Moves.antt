@@ -1,4 +1,4 @@
--- One turn of the machine in the code's terms: what each step writes is the turn that the machine makes. Assumes nothing.
+-- One turn of the machine in the code's terms: what each step writes is the turn that the machine makes, and its darts are entered. Assumes nothing.
 --
 --   rest-cons             what is left from a place on: the entry there and the rest
 --   closing, early, empty the turn after an edge of label 1 has ended
@@ -12,23 +12,29 @@ use native.Mathlib.Numerals.{add-one}
 use native.Mathlib.Omega.{arith}
 use mathlib.Core.Path.{_≡_, refl, sym, ap, _∙_}
 use mathlib.Core.Logic.{_≢_}
-use mathlib.Core.List.{List, [], _∷_, _++_, append-assoc}
-use lib.ListN.{length, getD, set, drop, length-set, length-drop}
+use mathlib.Core.Bool.{true}
+use mathlib.Core.List.{List, [], _∷_}
+use lib.ListN.{length, getD, set, drop, length-drop}
 use lib.Seq.{drop-cons}
-use Rattle.model.specs.Traversal.{down, up, first, second}
+use Rattle.model.specs.Numbers.{allBelow}
+use Rattle.model.specs.Traversal.{Letter, down, up, first, second}
 use Rattle.model.specs.LabelledTree.{star}
-use Rattle.words.specs.Word.{Machine, goes, done, stuck, turn, rootDegree}
-use Rattle.decoding.specs.Reading.{backed, entered}
+use Rattle.model.proofs.Below.{below-cons}
+use Rattle.model.proofs.Opposite.{opposite-even, opposite-odd}
+use Rattle.words.specs.Word.{Machine, goes, done, stuck, turn, rootDegree, wordDarts, placeOf}
 use Rattle.decoding.proofs.Turns.{turn-close, stuck-none, stuck-early, turn-up, stuck-root, turn-done, stuck-left}
 use Rattle.decoding.proofs.Turns.{turn-star, turn-back, turn-tree, stuck-bit, stuck-label}
-use Rattle.areas.specs.Area.{region}
-use Rattle.areas.proofs.Regions.{region-set-other}
+use Rattle.areas.specs.Area.{region, stack}
+use Rattle.areas.proofs.Regions.{getD-region}
+use Rattle.areas.proofs.Stacks.{length-stack, stack-pop}
 use Rattle.decoder.specs.declared.Cursor.{Cursor}
 use Rattle.decoder.specs.declared.State.{State}
-use Rattle.decoder.specs.States.{tops, machineOf, before, Fits, Room, Ready, Moved}
-use Rattle.decoder.specs.States.{closedState, risenState, leafedState, backedState, enteredState, lettered, leafedArea, backedArea, enteredArea}
+use Rattle.decoder.specs.States.{labelsOf, machineOf, linked, outcome, before, Fits, Room, Ready, Moved, lastOpen, lastTree}
+use Rattle.decoder.specs.States.{closedState, risenState, leafedState, backedState, enteredState}
+use Rattle.decoder.specs.States.{closedArea, risenArea, leafedArea, backedArea, enteredArea}
 use Rattle.decoder.proofs.Counting.{count-root, root-fits, pred-is}
-use Rattle.decoder.proofs.Stacks.{length-tops, tops-pop, tops-set, region-push, push-first, push-second, push-beside, push-region}
+use Rattle.decoder.proofs.Linking.{linked-step}
+use Rattle.decoder.proofs.Views.{seen, entered, pushed-tree, pushed-open, all-first, all-rest}
 
 pub rest-cons : (xs : List ℕ) (k : ℕ) → k < length xs → drop k xs ≡ getD xs k 0 ∷ drop (k + 1) xs
 rest-cons xs k h = rw add-one (drop-cons xs k 0 h)
@@ -39,26 +45,8 @@ rest-none [] (suc k) h = refl
 rest-none (x ∷ xs) zero h = absurd (omega arith)
 rest-none (x ∷ xs) (suc k) h = rest-none xs k (omega arith)
 
--- ---- a letter is written, below the stacks
-
-tops-letter : (m : ℕ) (w : List ℕ) (i x : ℕ) → i < 2 * m → (a d : ℕ) → 8 * m ≤ a → tops (set w (6 * m + i) x) a d ≡ tops w a d
-tops-letter m w i x h a d l = tops-set w a d (6 * m + i) x (λ k. absurd (omega arith))
-
-machine-letter : (m : ℕ) (bs ls w : List ℕ) (i x : ℕ) → i < 2 * m → (s : State) (c : Cursor)
-    → machineOf m bs ls (set w (6 * m + i) x) s c ≡ machineOf m bs ls w s c
-unfolding machineOf
-machine-letter m bs ls w i x h s c =
-    rw (
-      tops-letter m w i x h (10 * m) (s .depth) (omega arith),
-      tops-letter m w i x h (12 * m) (s .depth) (omega arith),
-      tops-letter m w i x h (14 * m) (s .opens) (omega arith),
-      tops-letter m w i x h (16 * m) (s .opens) (omega arith),
-    )
-
--- ---- a store below the labels leaves them
-
-under : (m : ℕ) (w : List ℕ) (i x : ℕ) → i < 18 * m → region (18 * m) m (set w i x) ≡ region (18 * m) m w
-under m w i x h = region-set-other (18 * m) m w i x (λ l. absurd (omega arith))
+label-at : (m : ℕ) (w ls : List ℕ) (e : ℕ) → region (18 * m) m w ≡ ls → e < m → getD w (18 * m + e) 0 ≡ getD ls e 0
+label-at m w ls e l h = sym (getD-region (18 * m) m w e h) ∙ ap (λ (r : List ℕ). getD r e 0) l
 
 -- ---- an edge of label 1 has ended
 
@@ -67,39 +55,48 @@ module _ (m : ℕ) (bs ls w : List ℕ) (s : State) (c : Cursor) where
   machine = machineOf m bs ls w s c
 
   pub empty : s .label ≡ 1 → s .opens ≡ 0 → turn machine ≡ stuck
-  unfolding machineOf tops
+  unfolding machineOf stack
   empty t e = stuck-none machine t (rw e)
 
   module _ (t : s .label ≡ 1) (h : 0 < s .opens) where
     pub early : getD w (14 * m + (s .opens - 1)) 0 ≤ s .here → turn machine ≡ stuck
     unfolding machineOf
-    early l = stuck-early machine _ _ t (tops-pop w (14 * m) (s .opens) h) l
+    early l = stuck-early machine _ _ t (stack-pop (14 * m) (s .opens) w h) l
 
-    pub closing : Fits m w s c → s .here < getD w (14 * m + (s .opens - 1)) 0
-        → Moved m bs ls w s c (closedState m w s) c (lettered m w s 4)
-    unfolding machineOf rootDegree
-    closing f l =
-        let g = f .letters in let b = f .bits-in in let q = f .edges in let j = f .labels-in in let o = f .room in
-        let k : s .read < 2 * m = omega arith in
+    pub closing : region (18 * m) m w ≡ ls → Fits m w s c → s .here < getD w (14 * m + (s .opens - 1)) 0
+        → Moved m bs ls w s c (closedState m w s) c (closedArea m w s)
+    unfolding machineOf labelsOf outcome wordDarts placeOf rootDegree
+    closing z f l =
+        let g = f .stands in let few = g .few-open in let darts = f .root-darts in
+        let e = lastOpen m w s in
+        let top = stack-pop (16 * m) (s .opens) w h in
+        let small = all-first m (16 * m) (s .opens) w h (g .seconds-in) in
+        let n = root-fits (s .depth) (s .root) in
+        let q = f .edges in
+        let a = entered m (s .depth) (s .opens - 1) w _ _ _ _ _ _ _ (seen m (s .depth) (s .opens - 1) w) (s .place) (2 * e + 1) (g .place-in) in
         record {
           letters = second ∷ [];
-          turns = turn-close machine _ _ t (tops-pop w (14 * m) (s .opens) h) l
-              ∙ ap (goes (second ∷ [])) (rw (tops-pop w (16 * m) (s .opens) h) (sym (machine-letter m bs ls w (s .read) 4 k (closedState m w s) c)));
-          written = region-push w (6 * m) (s .read) 4 (omega arith);
+          turns = turn-close machine _ _ t (stack-pop (14 * m) (s .opens) w h) l
+              ∙ ap (goes (second ∷ [])) (rw (top, a .below-is, a .trees-are, a .opens-are, a .seconds-are, label-at m w ls e z small));
+          built = λ v. rw (a .trees-are, a .seconds-are, a .rotation, top) (linked-step (s .place) _ second v _ _ (region 0 (2 * m) w) refl);
           counted = λ v. count-root (s .depth) (s .root) (rootDegree (s .depth) v);
           fits = record {
-            few-edges = f .few-edges;
-            room = rw (length-set w (6 * m + s .read) 4) o;
-            bits-in = b;
-            labels-in = j;
-            letters = omega arith;
+            stands = record {
+              few-edges = g .few-edges;
+              room = rw (a .long) (g .room);
+              few-open = omega arith;
+              place-in = omega arith;
+              trees-in = rw (a .trees-are) (g .trees-in);
+              seconds-in = rw (a .seconds-are) (all-rest m (16 * m) (s .opens) w h (g .seconds-in));
+            };
+            bits-in = f .bits-in;
+            labels-in = f .labels-in;
             edges = omega arith;
             vertices = f .vertices;
-            root-darts = root-fits (s .depth) (s .root) (s .read) (f .root-darts);
+            root-darts = omega arith;
           };
-          further = omega arith;
-          kept = length-set w (6 * m + s .read) 4;
-          labels-stay = under m w _ 4 (omega arith);
+          kept = a .long;
+          labels-stay = a .labels-are;
         }
 
 -- ---- the next bit is 0
@@ -109,36 +106,43 @@ module _ (m : ℕ) (bs ls w : List ℕ) (s : State) (c : Cursor) (t : s .label �
   zero-next = rest-cons bs (c .bits) i ∙ ap (λ (x : ℕ). x ∷ drop (c .bits + 1) bs) z
 
   pub at-root : s .depth ≡ 0 → turn (machine m bs ls w s c) ≡ stuck
-  unfolding machineOf tops
+  unfolding machineOf stack
   at-root e = stuck-root (machine m bs ls w s c) (drop (c .bits + 1) bs) t zero-next (rw e)
 
-  pub rising : length bs ≡ 2 * m → Fits m w s c → 0 < s .depth
-      → Moved m bs ls w s c (risenState m w s) (record { bits = c .bits + 1; labels = c .labels }) (lettered m w s 2)
-  unfolding machineOf rootDegree
-  rising p f h =
-      let g = f .letters in let q = f .edges in let j = f .labels-in in let o = f .room in let n = f .root-darts in
-      let k : s .read < 2 * m = omega arith in
+  pub rising : length bs ≡ 2 * m → region (18 * m) m w ≡ ls → Fits m w s c → 0 < s .depth
+      → Moved m bs ls w s c (risenState m w s) (record { bits = c .bits + 1; labels = c .labels }) (risenArea m w s)
+  unfolding machineOf labelsOf outcome wordDarts placeOf rootDegree
+  rising p y f h =
+      let g = f .stands in let few = g .few-open in let darts = f .root-darts in
+      let e = lastTree m w s in
+      let top = stack-pop (12 * m) (s .depth) w h in
+      let small = all-first m (12 * m) (s .depth) w h (g .trees-in) in
+      let q = f .edges in
+      let a = entered m (s .depth - 1) (s .opens) w _ _ _ _ _ _ _ (seen m (s .depth - 1) (s .opens) w) (s .place) (2 * e + 1) (g .place-in) in
       record {
         letters = up ∷ [];
-        turns = turn-up (machine m bs ls w s c) _ _ (drop (c .bits + 1) bs) t zero-next (tops-pop w (10 * m) (s .depth) h)
-            ∙ ap (goes (up ∷ []))
-            (rw (tops-pop w (12 * m) (s .depth) h)
-            (sym (machine-letter m bs ls w (s .read) 2 k (risenState m w s) (record { bits = c .bits + 1; labels = c .labels }))));
-        written = region-push w (6 * m) (s .read) 2 (omega arith);
+        turns = turn-up (machine m bs ls w s c) _ _ (drop (c .bits + 1) bs) t zero-next (stack-pop (10 * m) (s .depth) w h)
+            ∙ ap (goes (up ∷ [])) (rw (top, a .below-is, a .trees-are, a .opens-are, a .seconds-are, label-at m w ls e y small));
+        built = λ v. rw (a .trees-are, a .seconds-are, a .rotation, top)
+            (linked-step (s .place) _ up v _ _ (region 0 (2 * m) w) (sym (opposite-odd e)));
         counted = λ v. ap (λ (d : ℕ). s .root + rootDegree d v) (sym (pred-is (s .depth)));
         fits = record {
-          few-edges = f .few-edges;
-          room = rw (length-set w (6 * m + s .read) 2) o;
+          stands = record {
+            few-edges = g .few-edges;
+            room = rw (a .long) (g .room);
+            few-open = omega arith;
+            place-in = omega arith;
+            trees-in = rw (a .trees-are) (all-rest m (12 * m) (s .depth) w h (g .trees-in));
+            seconds-in = rw (a .seconds-are) (g .seconds-in);
+          };
           bits-in = omega arith;
-          labels-in = j;
-          letters = omega arith;
+          labels-in = f .labels-in;
           edges = omega arith;
           vertices = f .vertices;
           root-darts = omega arith;
         };
-        further = omega arith;
-        kept = length-set w (6 * m + s .read) 2;
-        labels-stay = under m w _ 2 (omega arith);
+        kept = a .long;
+        labels-stay = a .labels-are;
       }
 
 -- ---- the bit before c is not 0
@@ -170,146 +174,128 @@ module _ (m : ℕ) (bs ls w : List ℕ) (s : State) (c : Cursor) (t : s .label �
     no-label h = stuck-label machine-before bit (getD bs (c .bits) 0) (drop (c .bits + 1) bs) t two-next (x .one) (rest-none ls (c .labels) h)
 
     module _ (q : length ls ≡ m) (j : c .labels < length ls) where
-      label : ℕ
-      label = getD ls (c .labels) 0
-
-      pub room-left : Room m w s
+      pub room-left : Room m w s (c .labels)
       room-left =
-          let f = x .fits in let g = f .letters in let e = f .edges in let v = f .vertices in let o = x .some-bit in
+          let f = x .fits in let g = f .stands in let k = f .edges in let v = f .vertices in let n = f .root-darts in let b = f .bits-in in
           record {
-            few-edges = f .few-edges;
-            room = f .room;
-            letters = omega arith;
-            edges = omega arith;
+            few-edges = g .few-edges;
+            room = g .room;
+            place-in = g .place-in;
+            one-more = omega arith;
+            edge-in = omega arith;
             vertices = omega arith;
-            root-darts = f .root-darts;
+            root-darts = omega arith;
           }
 
       pub leafing : getD ls (c .labels) 0 ≡ star
-          → Moved m bs ls w s (before c) (leafedState s (getD bs (c .bits) 0)) (record { bits = c .bits + 1; labels = c .labels + 1 })
-          (leafedArea m w s)
-      unfolding machineOf rootDegree bit
+          → Moved m bs ls w s (before c) (leafedState s (c .labels) (getD bs (c .bits) 0)) (record { bits = c .bits + 1; labels = c .labels + 1 })
+          (leafedArea w s (c .labels))
+      unfolding machineOf outcome wordDarts placeOf rootDegree bit
       leafing k =
-          let f = x .fits in let g = f .letters in let e = f .edges in let v = f .vertices in let o = f .room in let some = x .some-bit in
-          let n = root-fits (s .depth) (s .root) (s .read) (f .root-darts) in
-          let at : 6 * m + s .read + 1 ≡ 6 * m + (s .read + 1) = omega arith in
-          let more : s .read + 2 ≡ s .read + 1 + 1 = omega arith in
-          let d : Cursor = record { bits = c .bits + 1; labels = c .labels + 1 } in
-          let next = leafedState s (getD bs (c .bits) 0) in
+          let f = x .fits in let g = f .stands in let few = f .edges in let v = f .vertices in let darts = f .root-darts in let some = x .some-bit in
+          let e = c .labels in
+          let n = root-fits (s .depth) (s .root) in
+          let a₁ = entered m (s .depth) (s .opens) w _ _ _ _ _ _ _ (seen m (s .depth) (s .opens) w) (s .place) (2 * e) (g .place-in) in
+          let a = entered m (s .depth) (s .opens) _ _ _ _ _ _ _ _ a₁ (2 * e + 1) (2 * e + 1) (omega arith) in
           record {
             letters = down ∷ up ∷ [];
             turns = turn-star machine-before _ _ _ _ _ t two-next (x .one) (rest-cons ls (c .labels) j) k
-                ∙ ap (goes (down ∷ up ∷ [])) (rw (at, ← add-one (s .n))
-                (sym (machine-letter m bs ls (lettered m w s 1) (s .read + 1) 2 (omega arith) next d
-                ∙ machine-letter m bs ls w (s .read) 1 (omega arith) next d)));
-            written = rw (at, more)
-                (region-push (lettered m w s 1) (6 * m) (s .read + 1) 2 (rw (length-set w (6 * m + s .read) 1) (omega arith))
-                ∙ ap (λ (r : List ℕ). r ++ (2 ∷ [])) (region-push w (6 * m) (s .read) 1 (omega arith))
-                ∙ append-assoc (region (6 * m) (s .read) w) (1 ∷ []) (2 ∷ []));
+                ∙ ap (goes (down ∷ up ∷ [])) (rw (a .below-is, a .trees-are, a .opens-are, a .seconds-are, add-one (s .n)));
+            built = λ v. rw (a .trees-are, a .seconds-are, a .rotation, add-one (c .labels))
+                (linked-step (2 * e + 1) (2 * e) up v (2 * e + 1) _ (set (region 0 (2 * m) w) (s .place) (2 * e)) (sym (opposite-odd e))
+                ∙ linked-step (s .place) (2 * e + 1) down (up ∷ v) (2 * e) _ (region 0 (2 * m) w) (sym (opposite-even e)));
             counted = λ v. count-root (s .depth) (s .root) (rootDegree (s .depth) v);
             fits = record {
-              few-edges = f .few-edges;
-              room = simp length-set o;
+              stands = record {
+                few-edges = g .few-edges;
+                room = rw (a .long) (g .room);
+                few-open = g .few-open;
+                place-in = omega arith;
+                trees-in = rw (a .trees-are) (g .trees-in);
+                seconds-in = rw (a .seconds-are) (g .seconds-in);
+              };
               bits-in = omega arith;
               labels-in = omega arith;
-              letters = omega arith;
               edges = omega arith;
               vertices = omega arith;
               root-darts = omega arith;
             };
-            further = omega arith;
-            kept = simp length-set;
-            labels-stay = under m (lettered m w s 1) _ 2 (omega arith) ∙ under m w _ 1 (omega arith);
+            kept = a .long;
+            labels-stay = a .labels-are;
           }
 
       module _ (k : getD ls (c .labels) 0 ≢ star) where
         pub backing : getD bs (c .bits) 0 ≡ 0
-            → Moved m bs ls w s (before c) (backedState s) (record { bits = c .bits + 1; labels = c .labels + 1 })
-            (backedArea m w s (getD ls (c .labels) 0))
-        unfolding machineOf rootDegree bit label
+            → Moved m bs ls w s (before c) (backedState s (c .labels)) (record { bits = c .bits + 1; labels = c .labels + 1 })
+            (backedArea m w s (c .labels))
+        unfolding machineOf labelsOf outcome wordDarts placeOf rootDegree bit
         backing b =
-            let f = x .fits in let g = f .letters in let e = f .edges in let v = f .vertices in let o = f .room in let some = x .some-bit in
-            let r : s .read < 2 * m = omega arith in
-            let near : 14 * m + s .opens < 16 * m = omega arith in
-            let w₁ = lettered m w s 3 in
-            let room : 16 * m + s .opens < length w₁ = rw (length-set w (6 * m + s .read) 3) (omega arith) in
-            let beside : (a d : ℕ) → a + d ≤ 14 * m → tops (backedArea m w s label) a d ≡ tops w₁ a d
-            = λ a d h. push-beside w₁ (14 * m) (16 * m) (s .opens) (s .here) label near room a d (λ i. omega arith) (λ i. omega arith) in
+            let f = x .fits in let g = f .stands in let few = f .edges in let v = f .vertices in let darts = f .root-darts in let some = x .some-bit in
+            let e = c .labels in
+            let n = root-fits (s .depth) (s .root) in
+            let a₁ = entered m (s .depth) (s .opens) w _ _ _ _ _ _ _ (seen m (s .depth) (s .opens) w) (s .place) (2 * e) (g .place-in) in
+            let a = pushed-open m (s .depth) (s .opens) _ _ _ _ _ _ _ _ a₁ (g .room) (omega arith) (s .here) e in
             record {
               letters = first ∷ [];
               turns = turn-back machine-before _ _ _ _ _ t two-next (x .one) (rest-cons ls (c .labels) j) k b
-                  ∙ ap (λ (y : Machine). goes (first ∷ []) (backed y label (drop (c .bits + 1) bs) (drop (c .labels + 1) ls)))
-                  (sym (machine-letter m bs ls w (s .read) 3 r s (before c)))
-                  ∙ ap (goes (first ∷ []))
-                  (rw (
-                    beside (10 * m) (s .depth) (omega arith),
-                    beside (12 * m) (s .depth) (omega arith),
-                    push-first w₁ (14 * m) (16 * m) (s .opens) (s .here) label near room,
-                    push-second w₁ (14 * m) (16 * m) (s .opens) (s .here) label near room,
-                  ));
-              written = push-region w₁ (14 * m) (16 * m) (s .opens) (s .here) label near room (6 * m) (s .read + 1) (omega arith)
-                  ∙ region-push w (6 * m) (s .read) 3 (omega arith);
+                  ∙ ap (goes (first ∷ [])) (rw (add-one (s .opens), a .below-is, a .trees-are, a .opens-are, a .seconds-are));
+              built = λ v. rw (add-one (s .opens), a .trees-are, a .seconds-are, a .rotation, add-one (c .labels))
+                  (linked-step (s .place) (2 * e) first v (2 * e) _ (region 0 (2 * m) w) refl);
               counted = λ v. count-root (s .depth) (s .root) (rootDegree (s .depth) v);
               fits = record {
-                few-edges = f .few-edges;
-                room = simp length-set o;
+                stands = record {
+                  few-edges = g .few-edges;
+                  room = rw (a .long) (g .room);
+                  few-open = omega arith;
+                  place-in = omega arith;
+                  trees-in = rw (a .trees-are) (g .trees-in);
+                  seconds-in = rw (add-one (s .opens), a .seconds-are) (below-cons m e _ (omega arith) (g .seconds-in));
+                };
                 bits-in = omega arith;
                 labels-in = omega arith;
-                letters = omega arith;
                 edges = omega arith;
                 vertices = omega arith;
-                root-darts = root-fits (s .depth) (s .root) (s .read) (f .root-darts);
+                root-darts = omega arith;
               };
-              further = omega arith;
-              kept = simp length-set;
-              labels-stay = under m (set w₁ (14 * m + s .opens) (s .here)) _ label (omega arith) ∙ under m w₁ _ (s .here) (omega arith)
-                  ∙ under m w _ 3 (omega arith);
+              kept = a .long;
+              labels-stay = a .labels-are;
             }
 
         pub entering : getD bs (c .bits) 0 ≢ 0
-            → Moved m bs ls w s (before c) (enteredState s) (record { bits = c .bits; labels = c .labels + 1 })
-            (enteredArea m w s (getD ls (c .labels) 0))
-        unfolding machineOf rootDegree bit label
+            → Moved m bs ls w s (before c) (enteredState s (c .labels)) (record { bits = c .bits; labels = c .labels + 1 })
+            (enteredArea m w s (c .labels))
+        unfolding machineOf labelsOf outcome wordDarts placeOf rootDegree bit
         entering b =
-            let f = x .fits in let g = f .letters in let e = f .edges in let v = f .vertices in let o = f .room in let some = x .some-bit in
-            let r : s .read < 2 * m = omega arith in
-            let near : 10 * m + s .depth < 12 * m = omega arith in
-            let w₁ = lettered m w s 1 in
-            let room : 12 * m + s .depth < length w₁ = rw (length-set w (6 * m + s .read) 1) (omega arith) in
-            let beside : (a d : ℕ) → 14 * m ≤ a → tops (enteredArea m w s label) a d ≡ tops w₁ a d
-            = λ a d h. push-beside w₁ (10 * m) (12 * m) (s .depth) (s .here) label near room a d
-            (λ i. absurd (omega arith)) (λ i. absurd (omega arith)) in
+            let f = x .fits in let g = f .stands in let few = f .edges in let v = f .vertices in let darts = f .root-darts in let some = x .some-bit in
+            let e = c .labels in
+            let n = root-fits (s .depth) (s .root) in
+            let a₁ = entered m (s .depth) (s .opens) w _ _ _ _ _ _ _ (seen m (s .depth) (s .opens) w) (s .place) (2 * e) (g .place-in) in
+            let a = pushed-tree m (s .depth) (s .opens) _ _ _ _ _ _ _ _ a₁ (g .room) (omega arith) (s .here) e in
             record {
               letters = down ∷ [];
               turns = turn-tree machine-before _ _ _ _ _ t two-next (x .one) (rest-cons ls (c .labels) j) k b
-                  ∙ ap (λ (y : Machine). goes (down ∷ []) (entered y label (getD bs (c .bits) 0 ∷ drop (c .bits + 1) bs) (drop (c .labels + 1) ls)))
-                  (sym (machine-letter m bs ls w (s .read) 1 r s (before c)))
                   ∙ ap (goes (down ∷ []))
-                  (rw (
-                    beside (14 * m) (s .opens) (omega arith),
-                    beside (16 * m) (s .opens) (omega arith),
-                    add-one (s .n),
-                    rest-cons bs (c .bits) i,
-                    push-first w₁ (10 * m) (12 * m) (s .depth) (s .here) label near room,
-                    push-second w₁ (10 * m) (12 * m) (s .depth) (s .here) label near room,
-                  ));
-              written = push-region w₁ (10 * m) (12 * m) (s .depth) (s .here) label near room (6 * m) (s .read + 1) (omega arith)
-                  ∙ region-push w (6 * m) (s .read) 1 (omega arith);
+                  (rw (add-one (s .depth), add-one (s .n), a .below-is, a .trees-are, a .opens-are, a .seconds-are, rest-cons bs (c .bits) i));
+              built = λ v. rw (add-one (s .depth), a .trees-are, a .seconds-are, a .rotation, add-one (c .labels))
+                  (linked-step (s .place) (2 * e + 1) down v (2 * e) _ (region 0 (2 * m) w) (sym (opposite-even e)));
               counted = λ v. rw (add-one (s .depth)) (count-root (s .depth) (s .root) (rootDegree (suc (s .depth)) v));
               fits = record {
-                few-edges = f .few-edges;
-                room = simp length-set o;
-                bits-in = omega arith;
+                stands = record {
+                  few-edges = g .few-edges;
+                  room = rw (a .long) (g .room);
+                  few-open = omega arith;
+                  place-in = omega arith;
+                  trees-in = rw (add-one (s .depth), a .trees-are) (below-cons m e _ (omega arith) (g .trees-in));
+                  seconds-in = rw (a .seconds-are) (g .seconds-in);
+                };
+                bits-in = x .bits-in;
                 labels-in = omega arith;
-                letters = omega arith;
                 edges = omega arith;
                 vertices = omega arith;
-                root-darts = root-fits (s .depth) (s .root) (s .read) (f .root-darts);
+                root-darts = omega arith;
               };
-              further = omega arith;
-              kept = simp length-set;
-              labels-stay = under m (set w₁ (10 * m + s .depth) (s .here)) _ label (omega arith) ∙ under m w₁ _ (s .here) (omega arith)
-                  ∙ under m w _ 1 (omega arith);
+              kept = a .long;
+              labels-stay = a .labels-are;
             }
 
 -- ---- no bit is left
@@ -319,7 +305,7 @@ module _ (m : ℕ) (bs ls w : List ℕ) (s : State) (c : Cursor) (t : s .label �
   unfolding machineOf
   open-left h =
       stuck-left (machine m bs ls w s c) t (rest-none bs (c .bits) e)
-      (rw (length-tops w (10 * m) (s .depth), length-tops w (14 * m) (s .opens)) (omega arith))
+      (rw (length-stack (10 * m) (s .depth) w, length-stack (14 * m) (s .opens) w) (omega arith))
 
   pub label-left : c .labels < length ls → turn (machine m bs ls w s c) ≡ stuck
   unfolding machineOf
@@ -327,5 +313,5 @@ module _ (m : ℕ) (bs ls w : List ℕ) (s : State) (c : Cursor) (t : s .label �
       stuck-left (machine m bs ls w s c) t (rest-none bs (c .bits) e) (let k = length-drop (c .labels) ls in omega arith)
 
   pub finishing : s .depth ≡ 0 → s .opens ≡ 0 → length ls ≤ c .labels → turn (machine m bs ls w s c) ≡ done
-  unfolding machineOf tops
+  unfolding machineOf stack
   finishing p q h = turn-done (machine m bs ls w s c) t (rest-none bs (c .bits) e) (rw p) (rw q) (rest-none ls (c .labels) h)

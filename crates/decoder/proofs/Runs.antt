@@ -1,37 +1,45 @@
--- The loop of turns: the letters that are written and the run from here give the word. Assumes nothing.
+-- The loop of turns: the letters read so far and the run from here give the word, and the darts entered so far and those to come its rotation.
+-- Assumes nothing.
 --
 --   Running               what the loop keeps
+--   left-is               how much is left to read, by the cursor and the stack
 --   running-start         so at the start
---   running-on            and after a turn that goes on
+--   running-on, running-less   and after a turn that goes on, with less left
 --   turned-goes, turned-done, turned-stuck   what a turn hands back, by its case
+--   answer-stuck, answer-done   the answer where the machine is stuck, and where it is done
 --   answer-kept           the answer, from a work area of the same length
 --   answer-unreadable, answer-readable   the answer for the record
---   answer-stuck, answer-root, answer-word   the answer where the machine is stuck, where in kind 1 the root has degree one, and with a word
-use Prim.Native.Nat.{ℕ, _+_, _*_, _≤_}
+use Prim.Native.Nat.{ℕ, _+_, _-_, _*_, _≤_, _<_}
 use native.Mathlib.Nat.{zero-add, add-zero}
 use native.Mathlib.Omega.{arith}
 use mathlib.Core.Path.{_≡_, refl, sym, ap, _∙_, subst}
-use mathlib.Core.Bool.{Bool, true, false, _&&_, cond, true≢false, false≢true}
-use mathlib.Core.List.{List, [], _∷_, _++_, map, append-nil, append-assoc}
+use mathlib.Core.Bool.{Bool, true, false, not, _&&_, cond, true≢false, false≢true}
+use mathlib.Core.List.{List, [], _∷_, _++_, append-nil, append-assoc}
 use lib.Dec.{eqb}
-use lib.ListN.{length}
-use Rattle.model.specs.Traversal.{Letter, code}
+use lib.ListN.{length, set, replicate, length-append, length-drop, length-set}
+use Rattle.model.specs.Numbers.{allBelow}
+use Rattle.model.specs.Traversal.{Letter}
 use Rattle.model.specs.Shelf.{kindOf, edgesOf}
 use Rattle.packing.specs.Unlay.{bitsIn, labelsIn, readable}
-use Rattle.words.specs.Word.{Found, found, none, after, done, stuck, turn, start, rootDegree, checkRoot, decodeWord}
-use Rattle.decoding.specs.Reading.{run}
-use Rattle.decoding.proofs.Runs.{run-on, run-done, run-stuck, decodeWord-run}
-use Rattle.areas.specs.Area.{region}
+use Rattle.words.specs.Word.{Found, found, none, after, Machine, done, stuck, turn, start, head, wordDarts, rotationOf, rootDegree, checkRoot, decodeWord}
+use Rattle.decoding.specs.Reading.{left, run}
+use Rattle.decoding.proofs.Decoding.{wordIn}
+use Rattle.decoding.proofs.Runs.{turn-left, turn-none, run-on, run-done, run-stuck, decodeWord-run}
+use Rattle.areas.specs.Area.{region, stack}
+use Rattle.areas.proofs.Stacks.{length-stack}
 use Rattle.decoder.specs.declared.Cursor.{Cursor}
 use Rattle.decoder.specs.declared.State.{State}
 use Rattle.decoder.specs.declared.Outcome.{Outcome}
 use Rattle.decoder.specs.declared.Outcome.the-variants.{Goes, Done, Stuck}
 use Rattle.coding.specs.Decode.{decodeRecord}
-use Rattle.decoder.specs.Decoded.{Head, Answered}
-use Rattle.decoder.specs.States.{tops, machineOf, Fits, Moved, Turned}
+use Rattle.unpacker.specs.Unpacked.{Head}
+use Rattle.decoder.specs.Decoded.{Answered}
+use Rattle.decoder.specs.States.{labelsOf, machineOf, outcome, Fits, Moved, Turned, rootFits}
+use Rattle.decoder.proofs.Linking.{linked-end, first-dart, linked-whole}
+use Rattle.decoder.proofs.Views.{seen, entered}
 
 abbrev pub first-state : State
-first-state = record { n = 1; here = 0; depth = 0; opens = 0; label = 0; read = 0; root = 0 }
+first-state = record { n = 1; here = 0; depth = 0; opens = 0; label = 0; root = 0; place = 0 }
 
 abbrev pub first-cursor : Cursor
 first-cursor = record { bits = 0; labels = 0 }
@@ -40,32 +48,40 @@ first-cursor = record { bits = 0; labels = 0 }
 pub record Running (m : ℕ) (bs ls w₀ w : List ℕ) (s : State) (c : Cursor) : Type 0 where
   pub fits : Fits m w s c
   pub letters : List Letter
-  pub written : region (6 * m) (s .read) w ≡ map code letters
+  pub paced : length letters + left (machineOf m bs ls w s c) ≡ length bs
+  pub built : (v : List Letter) → outcome m w s c v ≡ outcome m w₀ first-state first-cursor (letters ++ v)
   pub counted : (v : List Letter) → s .root + rootDegree (s .depth) v ≡ rootDegree 0 (letters ++ v)
   pub answer : after letters (run (machineOf m bs ls w s c)) ≡ run (start bs ls)
   pub kept : length w ≡ length w₀
   pub labelled : region (18 * m) m w ≡ ls
 
-map-append : (xs ys : List Letter) → map code xs ++ map code ys ≡ map code (xs ++ ys)
-map-append [] ys = refl
-map-append (x ∷ xs) ys = ap (λ (r : List ℕ). code x ∷ r) (map-append xs ys)
+-- how much is left, by the cursor and the stack
+pub left-is : (m : ℕ) (bs ls w : List ℕ) (s : State) (c : Cursor) → left (machineOf m bs ls w s c) ≡ length bs - c .bits + s .opens
+unfolding machineOf
+left-is m bs ls w s c = rw (length-drop (c .bits) bs, length-stack (14 * m) (s .opens) w)
 
 module _ (m : ℕ) (bs ls w₀ : List ℕ) where
-  pub running-start : m ≤ 4096 → 32 * m ≤ length w₀ → region (18 * m) m w₀ ≡ ls → Running m bs ls w₀ w₀ first-state first-cursor
-  unfolding machineOf tops start region
-  running-start h r l = record {
+  pub running-start : 1 ≤ m → m ≤ 4096 → 32 * m ≤ length w₀ → region (18 * m) m w₀ ≡ ls → Running m bs ls w₀ w₀ first-state first-cursor
+  unfolding machineOf labelsOf stack start allBelow
+  running-start g h r l = record {
     fits = record {
-      few-edges = h;
-      room = r;
+      stands = record {
+        few-edges = h;
+        room = r;
+        few-open = omega arith;
+        place-in = omega arith;
+        trees-in = refl;
+        seconds-in = refl;
+      };
       bits-in = omega arith;
       labels-in = omega arith;
-      letters = refl;
       edges = omega arith;
       vertices = omega arith;
       root-darts = omega arith;
     };
     letters = [];
-    written = refl;
+    paced = omega arith;
+    built = λ v. refl;
     counted = λ v. zero-add (rootDegree 0 v);
     answer = refl;
     kept = refl;
@@ -74,15 +90,30 @@ module _ (m : ℕ) (bs ls w₀ : List ℕ) where
 
   module _ (w : List ℕ) (s : State) (c : Cursor) (i : Running m bs ls w₀ w s c) where
     pub running-on : (w′ : List ℕ) (t : State) (d : Cursor) → Moved m bs ls w s c t d w′ → Running m bs ls w₀ w′ t d
-    running-on w′ t d x = record {
-      fits = x .fits;
-      letters = i .letters ++ x .letters;
-      written = x .written ∙ ap (λ (r : List ℕ). r ++ map code (x .letters)) (i .written) ∙ map-append (i .letters) (x .letters);
-      counted = λ v. x .counted v ∙ i .counted (x .letters ++ v) ∙ ap (rootDegree 0) (sym (append-assoc (i .letters) (x .letters) v));
-      answer = run-on (i .letters) (machineOf m bs ls w s c) (machineOf m bs ls w′ t d) (x .letters) (x .turns) ∙ i .answer;
-      kept = x .kept ∙ i .kept;
-      labelled = x .labels-stay ∙ i .labelled;
-    }
+    running-on w′ t d x =
+        let p = i .paced in
+        let q = turn-left (machineOf m bs ls w s c) (machineOf m bs ls w′ t d) (x .letters) (x .turns) .0 in
+        let k = length-append (i .letters) (x .letters) in
+        record {
+          fits = x .fits;
+          letters = i .letters ++ x .letters;
+          paced = omega arith;
+          built = λ v. x .built v ∙ i .built (x .letters ++ v)
+              ∙ ap (outcome m w₀ first-state first-cursor) (sym (append-assoc (i .letters) (x .letters) v));
+          counted = λ v. x .counted v ∙ i .counted (x .letters ++ v) ∙ ap (rootDegree 0) (sym (append-assoc (i .letters) (x .letters) v));
+          answer = run-on (i .letters) (machineOf m bs ls w s c) (machineOf m bs ls w′ t d) (x .letters) (x .turns) ∙ i .answer;
+          kept = x .kept ∙ i .kept;
+          labelled = x .labels-stay ∙ i .labelled;
+        }
+
+    -- each turn leaves less
+    pub running-less : (w′ : List ℕ) (t : State) (d : Cursor) → Moved m bs ls w s c t d w′
+        → length bs - d .bits + t .opens < length bs - c .bits + s .opens
+    running-less w′ t d x =
+        let q = turn-left (machineOf m bs ls w s c) (machineOf m bs ls w′ t d) (x .letters) (x .turns) in
+        let a = q .0 in let b = q .1 in
+        let e = left-is m bs ls w s c in let f = left-is m bs ls w′ t d in
+        omega arith
 
     nothing-after : (xs : List Letter) → after xs none ≡ none
     nothing-after [] = refl
@@ -102,7 +133,9 @@ module _ (m : ℕ) (bs ls w₀ : List ℕ) where
         nothing : run (start bs ls) ≡ none
         nothing = sym (i .answer) ∙ ap (after (i .letters)) (run-stuck (machineOf m bs ls w s c) e) ∙ nothing-after (i .letters)
 
-    module _ (k : ℕ) (w′ : List ℕ) (e : turn (machineOf m bs ls w s c) ≡ done) (all : s .read ≡ 2 * m) (q : w′ ≡ w) where
+    -- w′ has dart 0 where the last dart waits for its successor
+    module _ (k : ℕ) (w′ : List ℕ) (size : length bs ≡ 2 * m) (clear : region 0 (2 * m) w₀ ≡ replicate (2 * m) 0)
+        (e : turn (machineOf m bs ls w s c) ≡ done) (q : w′ ≡ set w (s .place) 0) where
       whole : run (start bs ls) ≡ found (i .letters)
       whole = sym (i .answer) ∙ ap (after (i .letters)) (run-done (machineOf m bs ls w s c) e) ∙ only-these (i .letters)
 
@@ -113,25 +146,38 @@ module _ (m : ℕ) (bs ls w₀ : List ℕ) where
       decided : decodeWord k bs ls ≡ cond (eqb k 1 && eqb (s .root) 1) none (found (i .letters))
       decided = decodeWord-run k bs ls ∙ ap (checkRoot k) whole ∙ ap (λ (n : ℕ). cond (eqb k 1 && eqb n 1) none (found (i .letters))) (sym root-total)
 
-      pub answer-root : k ≡ 1 → s .root ≡ 1 → Answered (decodeWord k bs ls) (2 * m) w₀ false w′
-      answer-root a b = record {
-        word-found = λ f. absurd (false≢true f);
-        none-found = λ f. decided ∙ rw (a, b);
-        kept = ap length q ∙ i .kept;
-      }
+      -- all 2m letters are read
+      all-read : length (i .letters) ≡ 2 * m
+      all-read = let p = i .paced in let z = turn-none (machineOf m bs ls w s c) e in omega arith
 
-      pub answer-word : (eqb k 1 && eqb (s .root) 1) ≡ false → Answered (decodeWord k bs ls) (2 * m) w₀ true w′
-      answer-word a = record {
-        word-found = λ f. (i .letters, decided ∙ rw a, placed);
-        none-found = λ f. absurd (true≢false f);
-        kept = ap length q ∙ i .kept;
+      begun : head (wordDarts 0 [] [] (i .letters)) ≡ 0
+      unfolding start
+      begun = ap (λ (r : Found). head (wordDarts 0 [] [] (wordIn r))) (sym whole) ∙ first-dart (start bs ls) (omega arith) refl
+
+      plan-built : region 0 (2 * m) w′ ≡ rotationOf (i .letters)
+      unfolding outcome wordDarts stack
+      plan-built =
+          ap (region 0 (2 * m)) q
+          ∙ entered m 0 0 w _ _ _ _ _ _ _ (seen m 0 0 w) (s .place) 0 (i .fits .stands .place-in) .rotation
+          ∙ sym (linked-end (s .place) (region 0 (2 * m) w))
+          ∙ i .built []
+          ∙ rw (append-nil (i .letters), clear) (linked-whole (2 * m) (i .letters) all-read begun)
+
+      pub answer-done : (b : Bool) → b ≡ rootFits k (s .root) → Answered (decodeWord k bs ls) (2 * m) w₀ b w′
+      unfolding rootFits
+      answer-done b a = record {
+        word-found = λ f. (i .letters, decided ∙ when-fit (eqb k 1 && eqb (s .root) 1) (sym a ∙ f), plan-built);
+        none-found = λ f. decided ∙ when-not (eqb k 1 && eqb (s .root) 1) (sym a ∙ f);
+        kept = ap length q ∙ length-set w (s .place) 0 ∙ i .kept;
       }
         where
-          at : 3 * (2 * m) ≡ 6 * m
-          at = omega arith
+          when-fit : (x : Bool) → not x ≡ true → cond x none (found (i .letters)) ≡ found (i .letters)
+          when-fit true n = absurd (false≢true n)
+          when-fit false n = refl
 
-          placed : region (3 * (2 * m)) (2 * m) w′ ≡ map code (i .letters)
-          placed = rw (at, q, sym all) (i .written)
+          when-not : (x : Bool) → not x ≡ false → cond x none (found (i .letters)) ≡ none
+          when-not true n = refl
+          when-not false n = absurd (true≢false n)
 
 -- ---- what a turn hands back
 
@@ -144,7 +190,7 @@ module _ (m : ℕ) (bs ls w : List ℕ) (s : State) (c : Cursor) (o : Outcome) (
   unfolding Turned
   turned-goes t d e = subst (λ (y : Outcome). Turned m bs ls w s c y w′) e turned
 
-  pub turned-done : o ≡ Done → (turn (machineOf m bs ls w s c) ≡ done) × (s .read ≡ 2 * m) × (w′ ≡ w)
+  pub turned-done : o ≡ Done → (turn (machineOf m bs ls w s c) ≡ done) × (w′ ≡ w)
   unfolding Turned
   turned-done e = subst (λ (y : Outcome). Turned m bs ls w s c y w′) e turned
 

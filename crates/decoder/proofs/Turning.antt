@@ -10,10 +10,11 @@ use mathlib.Core.Path.{_≡_, sym, ap, _∙_, subst}
 use mathlib.Core.Logic.{_≢_}
 use mathlib.Core.List.{List}
 use lib.ListN.{length, getD}
+use Rattle.areas.specs.Area.{region}
 use Rattle.decoder.specs.declared.Cursor.{Cursor}
 use Rattle.decoder.specs.declared.State.{State}
 use Rattle.decoder.specs.States.{before, Fits, Ready, Moved}
-use Rattle.decoder.specs.States.{risenState, leafedState, backedState, enteredState, lettered, leafedArea, backedArea, enteredArea}
+use Rattle.decoder.specs.States.{risenState, leafedState, backedState, enteredState, risenArea, leafedArea, backedArea, enteredArea}
 use Rattle.decoder.proofs.Cursors.{BitRead, Read}
 use Rattle.decoder.proofs.Moves.{rising, leafing, backing, entering}
 
@@ -43,26 +44,26 @@ module _ (m : ℕ) (bs ls w : List ℕ) (s : State) where
 
   module _ (c : Cursor) (t : s .label ≢ 1) (x : Ready m bs w s c) (p : length bs ≡ 2 * m) (q : length ls ≡ m) (b l : ℕ) (e : Cursor)
       (r : Read bs ls c b l e) (u : State) (w′ : List ℕ) where
-    pub leaf-turn : l ≡ 2 → (u ≡ leafedState s b) × (w′ ≡ leafedArea m w s) → Moved m bs ls w s (before c) u e w′
+    pub leaf-turn : l ≡ 2 → (u ≡ leafedState s (c .labels) b) × (w′ ≡ leafedArea w s (c .labels)) → Moved m bs ls w s (before c) u e w′
     leaf-turn k h =
-        moved-at (before c) _ u _ e _ w′ (h .0 ∙ ap (leafedState s) (r .bit-is)) (r .moved) (h .1)
+        moved-at (before c) _ u _ e _ w′ (h .0 ∙ ap (leafedState s (c .labels)) (r .bit-is)) (r .moved) (h .1)
         (leafing m bs ls w s c t x p (r .bit-left) q (r .label-left) (sym (r .label-is) ∙ k))
 
-    pub back-turn : l ≢ 2 → b ≡ 0 → (u ≡ backedState s) × (w′ ≡ backedArea m w s l) → Moved m bs ls w s (before c) u e w′
+    pub back-turn : l ≢ 2 → b ≡ 0 → (u ≡ backedState s (c .labels)) × (w′ ≡ backedArea m w s (c .labels)) → Moved m bs ls w s (before c) u e w′
     back-turn k z h =
-        moved-at (before c) _ u _ e _ w′ (h .0) (r .moved) (h .1 ∙ ap (backedArea m w s) (r .label-is))
+        moved-at (before c) _ u _ e _ w′ (h .0) (r .moved) (h .1)
         (backing m bs ls w s c t x p (r .bit-left) q (r .label-left) (λ y. k (r .label-is ∙ y)) (sym (r .bit-is) ∙ z))
 
-    pub enter-turn : l ≢ 2 → b ≢ 0 → (u ≡ enteredState s) × (w′ ≡ enteredArea m w s l)
+    pub enter-turn : l ≢ 2 → b ≢ 0 → (u ≡ enteredState s (c .labels)) × (w′ ≡ enteredArea m w s (c .labels))
         → Moved m bs ls w s (before c) u (record { bits = c .bits; labels = e .labels }) w′
     enter-turn k z h =
-        moved-at (before c) _ u _ _ _ w′ (h .0) (ap (λ (y : Cursor). here y) (r .moved)) (h .1 ∙ ap (enteredArea m w s) (r .label-is))
+        moved-at (before c) _ u _ _ _ w′ (h .0) (ap (λ (y : Cursor). here y) (r .moved)) (h .1)
         (entering m bs ls w s c t x p (r .bit-left) q (r .label-left) (λ y. k (r .label-is ∙ y)) (λ y. z (r .bit-is ∙ y)))
       where
         here : Cursor → Cursor
         here y = record { bits = c .bits; labels = y .labels }
 
-  pub rise-turn : (c : Cursor) → s .label ≢ 1 → length bs ≡ 2 * m → Fits m w s c → (b : ℕ) (d : Cursor) → BitRead bs c b d → b ≡ 0 → s .depth ≢ 0
-      → (u : State) (w′ : List ℕ) → (u ≡ risenState m w s) × (w′ ≡ lettered m w s 2) → Moved m bs ls w s c u d w′
-  rise-turn c t p f b d r z h u w′ x =
-      moved-at c _ u _ d _ w′ (x .0) (r .2) (x .1) (rising m bs ls w s c t (r .0) (sym (r .1) ∙ z) p f (omega arith))
+  pub rise-turn : (c : Cursor) → s .label ≢ 1 → length bs ≡ 2 * m → region (18 * m) m w ≡ ls → Fits m w s c → (b : ℕ) (d : Cursor) → BitRead bs c b d
+      → b ≡ 0 → s .depth ≢ 0 → (u : State) (w′ : List ℕ) → (u ≡ risenState m w s) × (w′ ≡ risenArea m w s) → Moved m bs ls w s c u d w′
+  rise-turn c t p y f b d r z h u w′ x =
+      moved-at c _ u _ d _ w′ (x .0) (r .2) (x .1) (rising m bs ls w s c t (r .0) (sym (r .1) ∙ z) p y f (omega arith))

@@ -1,11 +1,11 @@
-// A record's payload decoded into its contour word, in the lent work area, by a machine that reads tree bits and labels in step. It knows bits, labels
-// and letters, no rotations. With n = 2m darts: letters by position at 3n; stacks: vertices that the present one hangs from at 5n, labels of open tree
-// edges at 6n, vertices where other open edges began at 7n, their labels at 8n; the record's labels by number at 9n.
+// A record's payload decoded into the standard plan, in the lent work area, by a machine that reads tree bits and labels in step and enters each dart of
+// the traversal where the dart before it waits for its successor. With m edges: the rotation at 0; stacks: vertices that the present one hangs from at
+// 10m, open tree edges at 12m, vertices where other open edges began at 14m, those edges at 16m; the record's labels by number at 18m.
 ghost use mathlib.Core.Path.{_≡_};
 ghost use mathlib.Core.Logic.{_≢_};
 ghost use mathlib.Core.Bool.{true};
 ghost use Prim.Native.Nat.{_+_, _*_, _^_, _≤_, _<_};
-ghost use lib.ListN.{length, take, drop};
+ghost use lib.ListN.{length, set, take, drop, replicate};
 ghost use Rattle.model.specs.Numbers.{allBelow};
 ghost use Rattle.model.specs.Shelf.{kindOf, edgesOf, passes};
 ghost use Rattle.words.specs.Word.{atRoot, decodeWord};
@@ -13,9 +13,10 @@ ghost use Rattle.packing.specs.Unpack.{bits};
 ghost use Rattle.packing.specs.Unlay.{bitsIn, labelsIn, readable};
 ghost use Rattle.areas.specs.Area.{region};
 ghost use Rattle.bits.specs.Places.{labelsFrom};
-ghost use Rattle.decoder.specs.Decoded.{Head, Decoded, Answered};
-ghost use Rattle.decoder.specs.States.{nextBit, nextLabel, grouped, before, Fits, Room, Ready, Turned, Closed};
-ghost use Rattle.decoder.specs.States.{risenState, leafedState, backedState, enteredState, lettered, leafedArea, backedArea, enteredArea};
+ghost use Rattle.unpacker.specs.Unpacked.{Head};
+ghost use Rattle.decoder.specs.Decoded.{Decoded, Answered};
+ghost use Rattle.decoder.specs.States.{nextBit, nextLabel, before, Standing, Fits, Room, Ready, Turned, Closed, rootFits};
+ghost use Rattle.decoder.specs.States.{risenState, leafedState, backedState, enteredState, risenArea, leafedArea, backedArea, enteredArea};
 
 // Where the next tree bit and the next label stand.
 pub struct Cursor {
@@ -30,15 +31,15 @@ pub enum Next {
 }
 
 // The state of the machine: vertices entered, the present one, how many tree edges and how many others are open, the label of the edge that has just
-// ended, letters read, and how many of them are darts of the root.
+// ended, how many darts of the root were met, and the dart whose entry is the next dart of the traversal.
 pub struct State {
     pub n: u16,
     pub here: u16,
     pub depth: usize,
     pub opens: usize,
     pub label: u16,
-    pub read: usize,
     pub root: usize,
+    pub place: usize,
 }
 
 // What one turn comes to.
@@ -48,158 +49,19 @@ pub enum Outcome {
     Stuck,
 }
 
-// The letters by number.
-const DOWN: u16 = 1;
-
-const UP: u16 = 2;
-
-const FIRST: u16 = 3;
-
-const SECOND: u16 = 4;
-
 // The label of a leaf.
 const STAR: u16 = 2;
 
-// Where the letters, the stacks and the labels begin, in units of m.
-const LETTERS: usize = 6;
-
+// Where the stacks and the labels begin, in units of m.
 const BELOW: usize = 10;
 
-const UPS: usize = 12;
+const TREES: usize = 12;
 
 const OPENS: usize = 14;
 
 const SECONDS: usize = 16;
 
 const LABELS: usize = 18;
-
-// ---- padding bits, fill labels and groups
-
-// Every bit from place `from` up to place `to` is 0.
-fn zero_bits(bytes: &[u8], from: usize, to: usize) -> bool
-    requires { ⌜ to ≤ 8 * length (now bytes) ⌝ }
-    ensures { λ r. ⌜ r ≡ allBelow 1 (drop from (take to (bits (now (bytes .entry))))) ⌝ }
-{
-    let mut k = from;
-    while k < to {
-        let b = bits::bit_at(bytes, k);
-        if b != 0 {
-            return false;
-        }
-        k += 1;
-    }
-    true
-}
-
-// Every label of the groups from byte `from` on is 0, from number m on.
-fn zero_labels(bytes: &[u8], from: usize, m: usize) -> bool
-    requires { ⌜ (from ≤ length (now bytes)) × (length (now bytes) < 2 ^ 32) ⌝ }
-    ensures { λ r. ⌜ r ≡ allBelow 1 (drop m (labelsFrom (now (bytes .entry)) from)) ⌝ }
-{
-    let end = 5 * (bytes.len() - from);
-    let mut k = m;
-    while k < end {
-        let l = bits::label_at(bytes, from, k);
-        if l != 0 {
-            return false;
-        }
-        k += 1;
-    }
-    true
-}
-
-// No byte from place `from` on is above 242.
-fn groups_fit(bytes: &[u8], from: usize) -> bool
-    ensures { λ r. ⌜ r ≡ allBelow 243 (drop from (now (bytes .entry))) ⌝ }
-{
-    let mut k = from;
-    while k < bytes.len() {
-        let b = bytes[k];
-        if b > 242 {
-            return false;
-        }
-        k += 1;
-    }
-    true
-}
-
-// "unused low bits are 0", "the last group filled with 0", and five labels make no more than 242.
-fn clean(bytes: &[u8], kind: u16, m: usize) -> bool
-    requires { ⌜ Head (now bytes) kind m ⌝ }
-    ensures { λ r. ⌜ r ≡ readable (now (bytes .entry)) ⌝ }
-{
-    if kind == 1 {
-        return zero_bits(bytes, 48 + 3 * m, 8 * bytes.len());
-    }
-    let from = 6 + (2 * m + 7) / 8;
-    let padded = zero_bits(bytes, 48 + 2 * m, 8 * from);
-    if !padded {
-        return false;
-    }
-    let fit = groups_fit(bytes, from);
-    if !fit {
-        return false;
-    }
-    zero_labels(bytes, from, m)
-}
-
-// ---- labels by number
-
-// The labels of a record of kind 1.
-fn spread_bits(bytes: &[u8], m: usize, w: &mut [u16])
-    requires { ⌜ Head (now bytes) 1 m ⌝ }
-    requires { ⌜ 32 * m ≤ length (now w) ⌝ }
-    ensures { λ _. ⌜ region (18 * m) m (now (w .exit)) ≡ labelsIn (now (bytes .entry)) ⌝ }
-{
-    let mut i = 0;
-    while i < m {
-        let l = bits::bit_at(bytes, 48 + (2 * m + i));
-        w[LABELS * m + i] = l as u16;
-        i += 1;
-    }
-}
-
-// The five labels of a group, from place `at` on.
-fn put_group(w: &mut [u16], at: usize, group: u8)
-    requires { ⌜ at + 5 ≤ length (now w) ⌝ }
-    ensures { λ _. ⌜ now (w .exit) ≡ grouped at group (now (w .entry)) ⌝ }
-{
-    let g = group as u16;
-    w[at] = g / 81 % 3;
-    w[at + 1] = g / 27 % 3;
-    w[at + 2] = g / 9 % 3;
-    w[at + 3] = g / 3 % 3;
-    w[at + 4] = g % 3;
-}
-
-// The labels of a record of kind 2, and those that fill its last group.
-fn spread_groups(bytes: &[u8], m: usize, w: &mut [u16])
-    requires { ⌜ Head (now bytes) 2 m ⌝ }
-    requires { ⌜ 32 * m ≤ length (now w) ⌝ }
-    ensures { λ _. ⌜ region (18 * m) m (now (w .exit)) ≡ labelsIn (now (bytes .entry)) ⌝ }
-{
-    let from = 6 + (2 * m + 7) / 8;
-    let count = bytes.len() - from;
-    let mut i = 0;
-    while i < count {
-        let group = bytes[from + i];
-        put_group(w, LABELS * m + 5 * i, group);
-        i += 1;
-    }
-}
-
-// The labels are put where the cursor finds them without a division.
-fn spread(bytes: &[u8], kind: u16, m: usize, w: &mut [u16])
-    requires { ⌜ Head (now bytes) kind m ⌝ }
-    requires { ⌜ 32 * m ≤ length (now w) ⌝ }
-    ensures { λ _. ⌜ region (18 * m) m (now (w .exit)) ≡ labelsIn (now (bytes .entry)) ⌝ }
-{
-    if kind == 1 {
-        spread_bits(bytes, m, w);
-        return;
-    }
-    spread_groups(bytes, m, w);
-}
 
 // ---- the cursor
 
@@ -258,80 +120,94 @@ fn at_root(depth: usize, root: usize) -> usize
     root
 }
 
-// An edge of label 1 has ended: the last open edge outside the tree ends too, at a proper ancestor of where it began.
-fn close(w: &mut [u16], m: usize, s: State, c: Cursor) -> Outcome
-    requires { ⌜ Fits m (now w) s c × (s .label ≡ 1) ⌝ }
+// The last open edge outside the tree ends here, if this is a proper ancestor of where it began.
+fn close_last(w: &mut [u16], m: usize, s: State, c: Cursor) -> Outcome
+    requires { ⌜ Fits m (now w) s c × (s .label ≡ 1) × (0 < s .opens) ⌝ }
     ensures { λ r. ⌜ Closed m (now (w .entry)) s c r (now (w .exit)) ⌝ }
 {
     let n = s.n;
     let here = s.here;
     let depth = s.depth;
-    let opens = s.opens;
-    let read = s.read;
     let root = s.root;
-    if opens == 0 {
+    let q = s.place;
+    let top = s.opens - 1;
+    let v = w[OPENS * m + top];
+    if v <= here {
         return Outcome::Stuck;
     }
-    let top = opens - 1;
-    let v = w[OPENS * m + top];
-    if here < v {
-        let label = w[SECONDS * m + top];
-        w[LETTERS * m + read] = SECOND;
-        let count = at_root(depth, root);
-        return Outcome::Goes(
-            State {
-                n,
-                here,
-                depth,
-                opens: top,
-                label,
-                read: read + 1,
-                root: count,
-            },
-            c,
-        );
+    let e = w[SECONDS * m + top] as usize;
+    let label = w[LABELS * m + e];
+    let place = 2 * e + 1;
+    w[q] = place as u16;
+    let count = at_root(depth, root);
+    Outcome::Goes(
+        State {
+            n,
+            here,
+            depth,
+            opens: top,
+            label,
+            root: count,
+            place,
+        },
+        c,
+    )
+}
+
+// An edge of label 1 has ended: another must end here too.
+fn close(w: &mut [u16], m: usize, s: State, c: Cursor) -> Outcome
+    requires { ⌜ Fits m (now w) s c × (s .label ≡ 1) ⌝ }
+    ensures { λ r. ⌜ Closed m (now (w .entry)) s c r (now (w .exit)) ⌝ }
+{
+    let opens = s.opens;
+    if opens == 0 {
+        return Outcome::Stuck; // a label 1 is left over
     }
-    Outcome::Stuck
+    close_last(w, m, s, c)
 }
 
 // Up to the vertex that the present one hangs from.
 fn rise(w: &mut [u16], m: usize, s: State) -> State
-    requires { ⌜ (m ≤ 4096) × (32 * m ≤ length (now w)) × (s .read < 2 * m) × (s .depth ≤ m) × (0 < s .depth) ⌝ }
-    ensures { λ r. ⌜ (r ≡ risenState m (now (w .entry)) s) × (now (w .exit) ≡ lettered m (now (w .entry)) s 2) ⌝ }
+    requires { ⌜ Standing m (now w) s × (0 < s .depth) ⌝ }
+    ensures { λ r. ⌜ (r ≡ risenState m (now (w .entry)) s) × (now (w .exit) ≡ risenArea m (now (w .entry)) s) ⌝ }
 {
     let n = s.n;
     let depth = s.depth;
     let opens = s.opens;
-    let read = s.read;
     let root = s.root;
+    let q = s.place;
     let top = depth - 1;
     let here = w[BELOW * m + top];
-    let label = w[UPS * m + top];
-    w[LETTERS * m + read] = UP;
+    let e = w[TREES * m + top] as usize;
+    let label = w[LABELS * m + e];
+    let place = 2 * e;
+    w[q] = (place + 1) as u16;
     State {
         n,
         here,
         depth: top,
         opens,
         label,
-        read: read + 1,
         root,
+        place,
     }
 }
 
-// A leaf, with its saved label.
-fn leaf(w: &mut [u16], m: usize, s: State, label: u16) -> State
-    requires { ⌜ Room m (now w) s ⌝ }
-    ensures { λ r. ⌜ (r ≡ leafedState s label) × (now (w .exit) ≡ leafedArea m (now (w .entry)) s) ⌝ }
+// Edge e is a leaf's, with its saved label.
+fn leaf(w: &mut [u16], m: usize, s: State, e: usize, label: u16) -> State
+    requires { ⌜ Room m (now w) s e ⌝ }
+    ensures { λ r. ⌜ (r ≡ leafedState s e label) × (now (w .exit) ≡ leafedArea (now (w .entry)) s e) ⌝ }
 {
     let n = s.n;
     let here = s.here;
     let depth = s.depth;
     let opens = s.opens;
-    let read = s.read;
     let root = s.root;
-    w[LETTERS * m + read] = DOWN;
-    w[LETTERS * m + read + 1] = UP;
+    let q = s.place;
+    let place = 2 * e;
+    let end = place + 1;
+    w[q] = place as u16;
+    w[end] = end as u16;
     let count = at_root(depth, root);
     State {
         n: n + 1,
@@ -339,25 +215,26 @@ fn leaf(w: &mut [u16], m: usize, s: State, label: u16) -> State
         depth,
         opens,
         label,
-        read: read + 2,
         root: count,
+        place,
     }
 }
 
-// An edge outside the tree begins here.
-fn back(w: &mut [u16], m: usize, s: State, label: u16) -> State
-    requires { ⌜ Room m (now w) s ⌝ }
-    ensures { λ r. ⌜ (r ≡ backedState s) × (now (w .exit) ≡ backedArea m (now (w .entry)) s label) ⌝ }
+// Edge e, outside the tree, begins here.
+fn back(w: &mut [u16], m: usize, s: State, e: usize) -> State
+    requires { ⌜ Room m (now w) s e ⌝ }
+    ensures { λ r. ⌜ (r ≡ backedState s e) × (now (w .exit) ≡ backedArea m (now (w .entry)) s e) ⌝ }
 {
     let n = s.n;
     let here = s.here;
     let depth = s.depth;
     let opens = s.opens;
-    let read = s.read;
     let root = s.root;
-    w[LETTERS * m + read] = FIRST;
+    let q = s.place;
+    let place = 2 * e;
+    w[q] = place as u16;
     w[OPENS * m + opens] = here;
-    w[SECONDS * m + opens] = label;
+    w[SECONDS * m + opens] = e as u16;
     let count = at_root(depth, root);
     State {
         n,
@@ -365,25 +242,26 @@ fn back(w: &mut [u16], m: usize, s: State, label: u16) -> State
         depth,
         opens: opens + 1,
         label: 0,
-        read: read + 1,
         root: count,
+        place,
     }
 }
 
-// Down a tree edge.
-fn enter(w: &mut [u16], m: usize, s: State, label: u16) -> State
-    requires { ⌜ Room m (now w) s ⌝ }
-    ensures { λ r. ⌜ (r ≡ enteredState s) × (now (w .exit) ≡ enteredArea m (now (w .entry)) s label) ⌝ }
+// Down edge e, of the tree.
+fn enter(w: &mut [u16], m: usize, s: State, e: usize) -> State
+    requires { ⌜ Room m (now w) s e ⌝ }
+    ensures { λ r. ⌜ (r ≡ enteredState s e) × (now (w .exit) ≡ enteredArea m (now (w .entry)) s e) ⌝ }
 {
     let n = s.n;
     let here = s.here;
     let depth = s.depth;
     let opens = s.opens;
-    let read = s.read;
     let root = s.root;
-    w[LETTERS * m + read] = DOWN;
+    let q = s.place;
+    let x = 2 * e;
+    w[q] = x as u16;
     w[BELOW * m + depth] = here;
-    w[UPS * m + depth] = label;
+    w[TREES * m + depth] = e as u16;
     let count = at_root(depth, root);
     State {
         n: n + 1,
@@ -391,8 +269,8 @@ fn enter(w: &mut [u16], m: usize, s: State, label: u16) -> State
         depth: depth + 1,
         opens,
         label: 0,
-        read: read + 1,
         root: count,
+        place: x + 1,
     }
 }
 
@@ -403,6 +281,7 @@ fn descend(bytes: &[u8], m: usize, w: &mut [u16], s: State, c: Cursor) -> Outcom
     ensures { λ r. ⌜ Turned m (bitsIn (now (bytes .entry))) (region (18 * m) m (now (w .entry))) (now (w .entry)) s (before c) r (now (w .exit)) ⌝ }
 {
     let at = c.bits;
+    let edge = c.labels;
     match c.bit(bytes, m) {
         Next::End => {
             return Outcome::Stuck;
@@ -414,15 +293,15 @@ fn descend(bytes: &[u8], m: usize, w: &mut [u16], s: State, c: Cursor) -> Outcom
                 }
                 Next::Value(l, e) => {
                     if l == STAR {
-                        let t = leaf(w, m, s, b);
+                        let t = leaf(w, m, s, edge, b);
                         return Outcome::Goes(t, e);
                     }
                     if b == 0 {
-                        let t = back(w, m, s, l);
+                        let t = back(w, m, s, edge);
                         return Outcome::Goes(t, e);
                     }
                     let labels = e.labels;
-                    let t = enter(w, m, s, l);
+                    let t = enter(w, m, s, edge);
                     return Outcome::Goes(t, Cursor { bits: at, labels });
                 }
             }
@@ -466,10 +345,22 @@ fn turn(bytes: &[u8], m: usize, w: &mut [u16], s: State, c: Cursor) -> Outcome
     }
 }
 
-// The machine from its start until it is done or stuck. In kind 1 the root has not degree one.
+// The last dart's successor is dart 0; whether the root is as the kind wants it: in kind 1 it has not degree one.
+fn finish(w: &mut [u16], kind: u16, root: usize, place: usize) -> bool
+    requires { ⌜ place < length (now w) ⌝ }
+    ensures { λ r. ⌜ (r ≡ rootFits kind root) × (now (w .exit) ≡ set (now (w .entry)) place 0) ⌝ }
+{
+    w[place] = 0;
+    if kind != 1 {
+        return true;
+    }
+    root != 1
+}
+
+// The machine from its start until it is done or stuck.
 fn run(bytes: &[u8], kind: u16, m: usize, w: &mut [u16]) -> bool
     requires { ⌜ Head (now bytes) kind m ⌝ }
-    requires { ⌜ (32 * m ≤ length (now w)) × (region (18 * m) m (now w) ≡ labelsIn (now bytes)) ⌝ }
+    requires { ⌜ (32 * m ≤ length (now w)) × (region (18 * m) m (now w) ≡ labelsIn (now bytes)) × (region 0 (2 * m) (now w) ≡ replicate (2 * m) 0) ⌝ }
     ensures { λ r. ⌜ Answered (decodeWord kind (bitsIn (now (bytes .entry))) (labelsIn (now (bytes .entry)))) (2 * m) (now (w .entry)) r (now (w .exit)) ⌝ }
 {
     let mut s = State {
@@ -478,25 +369,20 @@ fn run(bytes: &[u8], kind: u16, m: usize, w: &mut [u16]) -> bool
         depth: 0,
         opens: 0,
         label: 0,
-        read: 0,
         root: 0,
+        place: 0,
     };
     let mut c = Cursor { bits: 0, labels: 0 };
     loop {
         let root = s.root;
+        let place = s.place;
         match turn(bytes, m, w, s, c) {
             Outcome::Goes(t, d) => {
                 s = t;
                 c = d;
             }
             Outcome::Done => {
-                if kind != 1 {
-                    return true;
-                }
-                if root == 1 {
-                    return false;
-                }
-                return true;
+                return finish(w, kind, root, place);
             }
             Outcome::Stuck => {
                 return false;
@@ -505,16 +391,17 @@ fn run(bytes: &[u8], kind: u16, m: usize, w: &mut [u16]) -> bool
     }
 }
 
-// The word of a record that passes 1, 2, 3 and 5: whether it has one, and its letters from 3n on.
+// The standard plan of a record that passes 1, 2, 3 and 5: whether there is one, and its rotation in the first 2m entries.
 pub fn decode(bytes: &[u8], kind: u16, m: usize, w: &mut [u16]) -> bool
-    requires { ⌜ (passes (now bytes) ≡ true) × (kind ≡ kindOf (now bytes)) × (m ≡ edgesOf (now bytes)) ⌝ }
+    requires { ⌜ Head (now bytes) kind m ⌝ }
     requires { ⌜ 32 * m ≤ length (now w) ⌝ }
     ensures { λ r. ⌜ Decoded (now (bytes .entry)) (now (w .entry)) r (now (w .exit)) ⌝ }
 {
-    let readable = clean(bytes, kind, m);
+    let readable = unpacker::clean(bytes, kind, m);
     if !readable {
         return false;
     }
-    spread(bytes, kind, m, w);
+    unpacker::spread(bytes, kind, m, w);
+    areas::fill(w, 0, 2 * m, 0);
     run(bytes, kind, m, w)
 }

@@ -2,7 +2,7 @@
 --
 --   Spends s t         each letter that the turn t from s gives takes one of what is left, and it gives at least one
 --   turn-spends        every turn does so
---   turn-left          the same for a turn that goes on
+--   turn-left, turn-none   the same for a turn that goes on, and for one that is done
 --   decode-fuel        fuel above what is left makes no difference
 --   run-is             so `decode` is `run` with such fuel
 --   decode-goes, decode-done, decode-stuck   one turn of `decode`, by its kind
@@ -43,6 +43,9 @@ turn-spends s = go (step s)
 
 pub turn-left : (s t : Machine) (ls : List Letter) → turn s ≡ goes ls t → (length ls + left t ≡ left s) × (0 < length ls)
 turn-left s t ls e = subst (Spends s) e (turn-spends s)
+
+pub turn-none : (s : Machine) → turn s ≡ done → left s ≡ 0
+turn-none s e = subst (Spends s) e (turn-spends s)
 
 -- ---- fuel
 

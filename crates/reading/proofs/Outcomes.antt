@@ -1,59 +1,33 @@
 -- Each way out of reading, at plain values.
 --
---   found-valid          a word that is found is valid
 --   core-refused, core-unreadable, core-read    the three ways out of reading without an output
---   buildable            the letters that the decoder leaves are such as can be built
 --   edges-room           where a plan is read, work area and output have room for it
 --   out-refused, out-read, out-not-read         the ways out of reading
 use Prim.Native.Nat.{ℕ, _*_, _≤_}
 use native.Mathlib.Omega.{arith}
-use mathlib.Core.Path.{_≡_, refl, sym, ap, subst, _∙_}
+use mathlib.Core.Path.{_≡_, refl, sym, ap, _∙_}
 use mathlib.Core.Logic.{_≢_}
-use mathlib.Core.Bool.{Bool, true, false, false≢true}
+use mathlib.Core.Bool.{Bool, true, false}
 use mathlib.Core.List.{List}
 use lib.ListN.{length}
 use Rattle.model.specs.declared.ReadBack.{ReadBack}
 use Rattle.model.specs.declared.ReadBack.the-variants as readback
 use Rattle.model.specs.Numbers.{allBelow}
-use Rattle.model.specs.Map.{Plan, isKind}
-use Rattle.model.specs.Traversal.{Letter, word}
-use Rattle.model.specs.Shelf.{kindOf, edgesOf, passes}
+use Rattle.model.specs.Map.{Plan}
+use Rattle.model.specs.Shelf.{edgesOf}
 use Rattle.model.specs.Calls.{front, readRefusal, Reads, refused, read, unreadable}
-use Rattle.words.specs.Word.{found, valid, rotationOf, planOf}
-use Rattle.words.proofs.Validity.{valid-fits, valid-nested, valid-of}
-use Rattle.decoding.proofs.Decoding.{wordIn}
-use Rattle.coding.specs.Decode.{decodeRecord}
-use Rattle.coding.proofs.FitPlans.{of-fit}
-use Rattle.coding.proofs.Records.{has-decodes, decodes-has, decodes-standard, none-has}
+use Rattle.words.specs.Word.{planOf}
+use Rattle.coding.proofs.Records.{decodes-has, decodes-standard, none-has}
 use Rattle.areas.specs.Area.{region}
-use Rattle.letters.specs.Letters.{lettersIn}
-use Rattle.letters.proofs.Word.{letters-code}
 use Rattle.decoder.specs.Decoded.{Decoded}
-use Rattle.builder.specs.Built.{Built}
 use Rattle.reading.specs.ReadCall.{Planned, Core}
 use Rattle.reading.specs.ReadCall as call
 use Rattle.reading.proofs.Answers.{edgesRead, not-both}
 use Rattle.reading.proofs.Checks.{early-facts, core-none, core-room}
 
--- ---- the word that is found
-
--- a word that is valid for a kind is valid for kind 2
-valid-two : (k : ℕ) (v : List Letter) → valid k v ≡ true → valid 2 v ≡ true
-unfolding isKind
-valid-two k v e = valid-of 2 v refl (valid-fits k v e) (valid-nested k v e) (λ z. absurd (false≢true z)) refl
-
-module _ (r : List ℕ) (v : List Letter) (pass : passes r ≡ true) (bytes : allBelow 256 r ≡ true) (e : decodeRecord r ≡ found v) where
-  found-word : word (planOf v) ≡ v
-  found-word = ap wordIn (sym (has-decodes r (planOf v) (decodes-has r v pass bytes e)) ∙ e)
-
-  pub found-valid : valid 2 v ≡ true
-  found-valid =
-      valid-two (kindOf r) v
-      (subst (λ (u : List Letter). valid (kindOf r) u ≡ true) found-word (of-fit (kindOf r) (planOf v) (decodes-has r v pass bytes e .0) .proper))
-
 -- ---- without an output
 
--- r is the record, w the work area that the call is handed, x the one that the decoder leaves
+-- r is the record, w the work area that the call is handed, x the one that decoding leaves
 module _ (r w : List ℕ) where
   pub core-refused : (e : ℕ) → e ≡ readRefusal r (length w) 8192 → e ≢ 0 → Core r w (readback.Refused e) w
   core-refused e q d =
@@ -67,29 +41,16 @@ module _ (r w : List ℕ) where
       kept = decoded .kept;
     }
 
-    module _ (bytes : allBelow 256 r ≡ true) (m : ℕ) (m-is : m ≡ edgesOf r) (yes-found : b ≡ true) where
-      abbrev v : List Letter
-      v = decoded .word-found yes-found .0
-
-      letters-are : lettersIn (2 * m) x ≡ v
-      letters-are = ap (λ (j : ℕ). lettersIn (2 * j) x) m-is ∙ letters-code (2 * edgesOf r) x v (decoded .word-found yes-found .2)
-
-      passed : passes r ≡ true
-      passed = early-facts r (length w) 8192 early .passed
-
-      pub buildable : valid 2 (lettersIn (2 * m) x) ≡ true
-      buildable = subst (λ (u : List Letter). valid 2 u ≡ true) (sym letters-are) (found-valid r v passed bytes (decoded .word-found yes-found .1))
-
-      pub core-read : (w′ : List ℕ) → Built (2 * m) x w′ → Core r w (readback.Edges m) w′
-      unfolding planOf
-      core-read w′ built =
-          let e = decoded .word-found yes-found .1 in
-          record {
-            outcome = call.read (core-none r (length w) 8192 early) (planOf v) (decodes-has r v passed bytes e) (ap readback.Edges m-is)
-                (ap (λ (k : ℕ). region 0 (2 * k) w′) (sym m-is) ∙ built .rotation ∙ ap rotationOf letters-are
-                ∙ ap (λ (p : Plan). p .rotation) (sym (decodes-standard r v passed bytes e)));
-            kept = built .kept ∙ decoded .kept;
-          }
+    pub core-read : allBelow 256 r ≡ true → (m : ℕ) → m ≡ edgesOf r → b ≡ true → Core r w (readback.Edges m) x
+    unfolding planOf
+    core-read bytes m m-is yes-found =
+        let passed = early-facts r (length w) 8192 early .passed in
+        let f = decoded .word-found yes-found in
+        record {
+          outcome = call.read (core-none r (length w) 8192 early) (planOf (f .0)) (decodes-has r (f .0) passed bytes (f .1)) (ap readback.Edges m-is)
+              (f .2 ∙ ap (λ (p : Plan). p .rotation) (sym (decodes-standard r (f .0) passed bytes (f .1))));
+          kept = decoded .kept;
+        }
 
 -- ---- with an output
 

@@ -1,5 +1,5 @@
-// Reading, the call: any bytes come back as the plan in its standard numbering, or as one refusal. It puts the head checks, the decoder and the builder in
-// order and clears the work area; how a payload is decoded and a plan built is not known here.
+// Reading, the call: any bytes come back as the plan in its standard numbering, or as one refusal. It puts the head checks and the decoder in
+// order and clears the work area; how a payload is decoded is not known here.
 ghost use mathlib.Core.Path.{_≡_};
 ghost use Rattle.model.specs.Calls.{readRefusal, Reads};
 ghost use lib.ListN.{length};
@@ -39,7 +39,6 @@ pub fn read_core(record: &[u8], w: &mut [u16]) -> ReadBack
     let m = heads::field(record, 4);
     let found = decoder::decode(record, kind, m as usize, w);
     if found {
-        builder::build(w, 2 * (m as usize));
         return ReadBack::Edges(m);
     }
     ReadBack::Refused(13)
@@ -55,7 +54,7 @@ fn read_out(record: &[u8], work: &mut [u16], out: &mut [u16]) -> ReadBack
     }
     match read_core(record, work) {
         ReadBack::Edges(m) => {
-            builder::copy_front(work, 2 * (m as usize), out);
+            areas::copy_front(work, 2 * (m as usize), out);
             return ReadBack::Edges(m);
         }
         ReadBack::Refused(r) => {

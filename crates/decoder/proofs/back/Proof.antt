@@ -5,39 +5,45 @@ use lib.ListN.{length-set}
 use borrow.Author.Needs.{needs}
 use Rattle.decoder.proofs.back.Statement.{statement}
 use Rattle.decoder.proofs.back.Tie as tie
+use Rattle.decoder.proofs.back.Reads as reads
+use Rattle.decoder.proofs.back.Lts as lts
+use Rattle.decoder.proofs.at_root.Reads as at-root-reads
+
+mul-place : tie.Need-mul-place
+mul-place c = search needs
+
+cast-w : tie.Need-cast-w
+cast-w c = search needs
 
 mul-w : tie.Need-mul-w
 mul-w c = search needs
 
-add-w : tie.Need-add-w
-add-w c = search needs
+slice-write-w : tie.Need-slice-write-w
+slice-write-w c = search needs
 
 mul-w-2 : tie.Need-mul-w-2
 mul-w-2 c = search needs
 
-slice-write-w : tie.Need-slice-write-w
-slice-write-w c = search needs
+add-w : tie.Need-add-w
+add-w c = search needs
 
 mul-w-3 : tie.Need-mul-w-3
 mul-w-3 c = search needs
 
-add-w-2 : tie.Need-add-w-2
-add-w-2 c = search needs
+slice-write-w-2 : tie.Need-slice-write-w-2
+slice-write-w-2 c = simp length-set (omega arith)
+
+cast-w-2 : tie.Need-cast-w-2
+cast-w-2 c = search needs
 
 mul-w-4 : tie.Need-mul-w-4
 mul-w-4 c = search needs
 
-slice-write-w-2 : tie.Need-slice-write-w-2
-slice-write-w-2 c = simp length-set (omega arith)
+add-w-2 : tie.Need-add-w-2
+add-w-2 c = search needs
 
 mul-w-5 : tie.Need-mul-w-5
 mul-w-5 c = search needs
-
-add-w-3 : tie.Need-add-w-3
-add-w-3 c = search needs
-
-mul-w-6 : tie.Need-mul-w-6
-mul-w-6 c = search needs
 
 slice-write-w-3 : tie.Need-slice-write-w-3
 slice-write-w-3 c = simp length-set (omega arith)
@@ -45,11 +51,8 @@ slice-write-w-3 c = simp length-set (omega arith)
 at-root-requires : tie.Need-at-root-requires
 at-root-requires c κs = search needs
 
-add-t12 : tie.Need-add-t12
-add-t12 c = search needs
-
-add-t14 : tie.Need-add-t14
-add-t14 c = search needs
+add-t17 : tie.Need-add-t17
+add-t17 c = search needs
 
 same-length : tie.Need-same-length
 same-length c = search needs
@@ -61,20 +64,20 @@ pub back-spec : {M : Type 1} → statement M
 back-spec =
     tie.close
     (tie.spec
+    mul-place
+    cast-w
     mul-w
-    add-w
-    mul-w-2
     slice-write-w
+    mul-w-2
+    add-w
     mul-w-3
-    add-w-2
-    mul-w-4
     slice-write-w-2
+    cast-w-2
+    mul-w-4
+    add-w-2
     mul-w-5
-    add-w-3
-    mul-w-6
     slice-write-w-3
     at-root-requires
-    add-t12
-    add-t14
+    add-t17
     same-length
     returns)

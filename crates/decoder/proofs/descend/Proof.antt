@@ -11,7 +11,7 @@ use Rattle.decoder.specs.States.{Room, Turned}
 use Rattle.decoder.proofs.Cursors.{bit-end, Read, both-read, label-missing}
 use Rattle.decoder.proofs.Moves.{no-bit, no-label, room-left}
 use Rattle.decoder.proofs.Turning.{leaf-turn, back-turn, enter-turn}
-use Rattle.decoder.proofs.Payload.{sizes}
+use Rattle.unpacker.proofs.Payload.{sizes}
 use borrow.Author.Needs.{needs}
 use Rattle.decoder.proofs.descend.Statement.{statement}
 use Rattle.decoder.proofs.descend.Tie as tie
@@ -20,7 +20,7 @@ bit-count : (c : tie.Start) → length (bitsIn (c .args .bytes .now)) ≡ 2 * c 
 bit-count c = sizes _ (kindOf (c .args .bytes .now)) _ (c .pre .0 .0, refl, c .pre .0 .1) .bit-count
 
 label-count : (c : tie.Start) → length (region (18 * c .args .m) (c .args .m) (c .args .w .now)) ≡ c .args .m
-label-count c = length-region _ _ _ (let r = c .pre .1 .0 .fits .room in omega arith)
+label-count c = length-region _ _ _ (let r = c .pre .1 .0 .fits .stands .room in omega arith)
 
 reading : (c : tie.After-known-told2) →
     let a = c .before .before .before .before .before .before .before .before .before .before .before .args in
@@ -35,7 +35,7 @@ reading c =
 
 room : (c : tie.After-known-told2) →
     let a = c .before .before .before .before .before .before .before .before .before .before .before .args in
-    Room (a .m) (a .w .now) (a .s)
+    Room (a .m) (a .w .now) (a .s) (a .c .labels)
 room c =
     let st = c .before .before .before .before .before .before .before .before .before .before .before in
     let r = reading c in

@@ -1,12 +1,14 @@
 -- `run`: the machine from its start until it is done or stuck. Assumes nothing.
-use Prim.Native.Nat.{_-_, _*_}
+use Prim.Native.Nat.{ℕ, _+_, _-_}
 use native.Mathlib.Omega.{arith}
-use borrow.Author.Tests.{eq-eqb, ne-eqb}
+use mathlib.Core.Path.{ap, _∙_}
+use mathlib.Core.List.{List}
+use lib.ListN.{length, set}
 use Rattle.packing.specs.Unlay.{bitsIn, labelsIn}
+use Rattle.unpacker.proofs.Payload.{sizes}
 use Rattle.decoder.specs.States.{Moved}
-use Rattle.decoder.proofs.Payload.{sizes}
-use Rattle.decoder.proofs.Runs.{Running, running-start, running-on, turned-goes, turned-done, turned-stuck}
-use Rattle.decoder.proofs.Runs.{answer-stuck, answer-root, answer-word}
+use Rattle.decoder.proofs.Runs.{Running, running-start, running-on, running-less, turned-goes, turned-done, turned-stuck}
+use Rattle.decoder.proofs.Runs.{answer-stuck, answer-done}
 use borrow.Author.Needs.{needs}
 use Rattle.decoder.proofs.run.Statement.{statement}
 use Rattle.decoder.proofs.run.Tie as tie
@@ -15,7 +17,7 @@ abbrev Inv-loop : tie.InvT-loop
 Inv-loop bytes kind m w₀ s₀ c₀ w s c = Running m (bitsIn bytes) (labelsIn bytes) w₀ w s c
 
 abbrev μ-loop : tie.MeasureT-loop
-μ-loop bytes kind m w₀ s₀ c₀ w s c = 2 * m - s .read
+μ-loop bytes kind m w₀ s₀ c₀ w s c = length (bitsIn bytes) - c .bits + s .opens
 
 moved : (c : tie.After-known-told Inv-loop μ-loop) →
     let a = c .before .before .before .before .before .before .before .before .before .before .args in
@@ -29,7 +31,10 @@ moved c =
     turned-goes _ _ _ _ _ _ (v .result) _ (i .labelled) (v .ensures) _ _ (c .before .t .given .1)
 
 loop-holds : tie.Need-loop-holds Inv-loop μ-loop
-loop-holds c = running-start _ _ _ _ (sizes _ _ _ (c .before .before .pre .0) .few-edges) (c .before .before .pre .1 .0) (c .before .before .pre .1 .1)
+loop-holds c =
+    let p = c .before .before .pre in
+    let z = sizes _ _ _ (p .0) in
+    running-start _ _ _ _ (z .some-edge) (z .few-edges) (p .1 .0) (p .1 .1)
 
 turn-requires : tie.Need-turn-requires Inv-loop μ-loop
 turn-requires c κs = let h = c .before .before .before .before .pre .0 in ((h .0, h .2), c .before .loop .inv .fits)
@@ -38,7 +43,7 @@ enum-known-t : tie.Need-enum-known-t Inv-loop μ-loop
 enum-known-t c = search needs
 
 loop-less : tie.Need-loop-less Inv-loop μ-loop
-loop-less c = let x = moved c in let f = x .further in let k = x .fits .letters in let i = x .fits .bits-in in omega arith
+loop-less c = running-less _ _ _ _ _ _ _ (c .before .before .before .before .before .before .before .loop .inv) _ _ _ (moved c)
 
 loop-again : tie.Need-loop-again Inv-loop μ-loop
 loop-again c = running-on _ _ _ _ _ _ _ (c .before .before .before .before .before .before .before .loop .inv) _ _ _ (moved c)
@@ -46,44 +51,34 @@ loop-again c = running-on _ _ _ _ _ _ _ (c .before .before .before .before .befo
 enum-told : tie.Need-enum-told Inv-loop μ-loop
 enum-told c = search needs
 
+finish-requires : tie.Need-finish-requires Inv-loop μ-loop
+finish-requires c κs =
+    let g = c .before .before .before .before .before .before .before .loop .inv .fits .stands in
+    let p = g .place-in in let r = g .room in
+    let k = c .before .before .before .before .before .turn .kept .1 .1 .0 in
+    omega arith
+
 same-length : tie.Need-same-length Inv-loop μ-loop
 same-length c = search needs
 
 returns : tie.Need-returns Inv-loop μ-loop
 returns c =
-    let v = c .before .before .before .before .before .turn in
-    let i = c .before .before .before .before .before .before .before .loop .inv in
-    let d = turned-done _ _ _ _ _ _ (v .result) _ (i .labelled) (v .ensures) (c .before .enum-told .given .1) in
-    answer-word _ _ _ _ _ _ _ i _ _ (d .0) (d .1) (d .2) (simp (ne-eqb _ _ (c .if1 .taken)))
+    let p = c .before .before .before .before .before .before .before .before .before .before .before .before .before .pre in
+    let v = c .before .before .before .before .before .before .before .before .turn in
+    let at = c .before .before .before .before .before .before .before .before .before .before .loop in
+    let i = at .inv in
+    let d = turned-done _ _ _ _ _ _ (v .result) _ (i .labelled) (v .ensures) (c .before .before .before .before .enum-told .given .1) in
+    let f = c .before .before .finish .ensures in
+    answer-done _ _ _ _ _ _ _ i _ _ (sizes _ _ _ (p .0) .bit-count) (p .1 .2) (d .0) (f .1 ∙ ap (λ (x : List ℕ). set x (at .s .place) 0) (d .1)) _ (f .0)
+
+enum-told-2 : tie.Need-enum-told-2 Inv-loop μ-loop
+enum-told-2 c = search needs
 
 same-length-2 : tie.Need-same-length-2 Inv-loop μ-loop
 same-length-2 c = search needs
 
 returns-2 : tie.Need-returns-2 Inv-loop μ-loop
 returns-2 c =
-    let v = c .before .before .before .before .before .before .turn in
-    let i = c .before .before .before .before .before .before .before .before .loop .inv in
-    let d = turned-done _ _ _ _ _ _ (v .result) _ (i .labelled) (v .ensures) (c .before .before .enum-told .given .1) in
-    answer-root _ _ _ _ _ _ _ i _ _ (d .0) (d .1) (d .2) (c .before .if1 .left) (c .if2 .taken)
-
-same-length-3 : tie.Need-same-length-3 Inv-loop μ-loop
-same-length-3 c = search needs
-
-returns-3 : tie.Need-returns-3 Inv-loop μ-loop
-returns-3 c =
-    let v = c .before .before .before .before .before .before .turn in
-    let i = c .before .before .before .before .before .before .before .before .loop .inv in
-    let d = turned-done _ _ _ _ _ _ (v .result) _ (i .labelled) (v .ensures) (c .before .before .enum-told .given .1) in
-    answer-word _ _ _ _ _ _ _ i _ _ (d .0) (d .1) (d .2) (simp (eq-eqb _ _ (c .before .if1 .left), ne-eqb _ _ (c .if2 .left)))
-
-enum-told-2 : tie.Need-enum-told-2 Inv-loop μ-loop
-enum-told-2 c = search needs
-
-same-length-4 : tie.Need-same-length-4 Inv-loop μ-loop
-same-length-4 c = search needs
-
-returns-4 : tie.Need-returns-4 Inv-loop μ-loop
-returns-4 c =
     let v = c .before .before .before .before .turn in
     let i = c .before .before .before .before .before .before .loop .inv in
     let d = turned-stuck _ _ _ _ _ _ (v .result) _ (i .labelled) (v .ensures) (c .enum-told2 .given .1) in
@@ -101,12 +96,9 @@ run-spec =
     loop-less
     loop-again
     enum-told
+    finish-requires
     same-length
     returns
-    same-length-2
-    returns-2
-    same-length-3
-    returns-3
     enum-told-2
-    same-length-4
-    returns-4)
+    same-length-2
+    returns-2)

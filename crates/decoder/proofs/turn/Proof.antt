@@ -12,7 +12,7 @@ use Rattle.decoder.specs.States.{Turned}
 use Rattle.decoder.proofs.Cursors.{BitRead, bit-read, bit-end}
 use Rattle.decoder.proofs.Moves.{open-left, label-left, finishing, at-root}
 use Rattle.decoder.proofs.Turning.{before-moved, ready, rise-turn}
-use Rattle.decoder.proofs.Payload.{sizes}
+use Rattle.unpacker.proofs.Payload.{sizes}
 use borrow.Author.Needs.{needs}
 use Rattle.decoder.proofs.turn.Statement.{statement}
 use Rattle.decoder.proofs.turn.Tie as tie
@@ -21,7 +21,7 @@ bit-count : (c : tie.Start) → length (bitsIn (c .args .bytes .now)) ≡ 2 * c 
 bit-count c = sizes _ (kindOf (c .args .bytes .now)) _ (c .pre .0 .0, refl, c .pre .0 .1) .bit-count
 
 label-count : (c : tie.Start) → length (region (18 * c .args .m) (c .args .m) (c .args .w .now)) ≡ c .args .m
-label-count c = length-region _ _ _ (let r = c .pre .1 .room in omega arith)
+label-count c = length-region _ _ _ (let r = c .pre .1 .stands .room in omega arith)
 
 one-read : (c : tie.After-known-told) →
     let a = c .before .before .before .before .before .before .before .args in
@@ -41,7 +41,7 @@ same-length : tie.Need-same-length
 same-length c = search needs
 
 returns : tie.Need-returns
-returns c = c .before .before .close .ensures _ _
+returns c = c .before .before .close .ensures _
 
 bit-requires : tie.Need-bit-requires
 bit-requires c κs = search needs
@@ -68,9 +68,8 @@ unfolding Turned
 returns-4 c =
     let st = c .before .before .before .before .before .before .before .before in
     let z = bit-count st in let y = label-count st in
-    let f = c .before .before .before .before .before .before .before .before .pre .1 in
     let q = none-left (c .before .before) in
-    (finishing _ _ _ _ _ _ (c .before .before .before .before .before .if1 .left) q (omega arith) (omega arith) (omega arith), omega arith, refl)
+    (finishing _ _ _ _ _ _ (c .before .before .before .before .before .if1 .left) q (omega arith) (omega arith) (omega arith), refl)
 
 enum-known-b : tie.Need-enum-known-b
 enum-known-b c = search needs
@@ -101,11 +100,7 @@ returns-6 c =
     (at-root _ _ _ _ _ _ t (r .0) (sym (r .1) ∙ c .before .if4 .left) (c .if5 .taken), refl)
 
 rise-requires : tie.Need-rise-requires
-rise-requires c κs =
-    let z = bit-count (c .before .before .before .before .before .before .before .before .before .before) in
-    let f = c .before .before .before .before .before .before .before .before .before .before .pre .1 in
-    let r = one-read (c .before .before .before) in
-    (f .few-edges, f .room, omega arith, omega arith, omega arith)
+rise-requires c κs = (c .before .before .before .before .before .before .before .before .before .before .pre .1 .stands, omega arith)
 
 same-length-3 : tie.Need-same-length-3
 same-length-3 c = search needs
@@ -117,7 +112,7 @@ returns-7 c =
     let z = bit-count st in
     let t = c .before .before .before .before .before .before .before .before .before .before .if1 .left in
     let r = one-read (c .before .before .before .before .before .before) in
-    rise-turn _ _ _ _ _ _ t z (st .pre .1) _ _ r (c .before .before .before .before .before .if4 .left) (c .before .before .before .before .if5 .left) _ _
+    rise-turn _ _ _ _ _ _ t z refl (st .pre .1) _ _ r (c .before .before .before .before .before .if4 .left) (c .before .before .before .before .if5 .left) _ _
     (c .before .before .rise .ensures)
 
 pub turn-spec : {M : Type 1} → statement M

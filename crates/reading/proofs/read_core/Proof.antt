@@ -1,4 +1,4 @@
--- `read_core`: the checks, the word of the record, and the plan that it builds.
+-- `read_core`: the checks, and the plan that the decoder leaves.
 use mathlib.Core.Path.{_≡_, sym, _∙_}
 use mathlib.Core.Bool.{true}
 use native.Mathlib.Omega.{arith}
@@ -8,7 +8,7 @@ use Rattle.model.specs.Calls.{readRefusal}
 use Rattle.packing.proofs.Below.{at-below}
 use Rattle.packing.proofs.Head.{passes-facts}
 use Rattle.reading.proofs.Checks.{Early, early-facts}
-use Rattle.reading.proofs.Outcomes.{core-refused, core-unreadable, buildable, core-read}
+use Rattle.reading.proofs.Outcomes.{core-refused, core-unreadable, core-read}
 use borrow.Author.Needs.{needs}
 use Rattle.reading.proofs.read_core.Statement.{statement}
 use Rattle.reading.proofs.read_core.Tie as tie
@@ -43,29 +43,14 @@ decode-requires c κs =
     let e = checked at in
     ((e .passed, c .before .before .field .ensures, c .before .field2 .ensures), omega arith)
 
-cast-build : tie.Need-cast-build
-cast-build c = search needs
-
-mul-build : tie.Need-mul-build
-mul-build c = search needs
-
-build-requires : tie.Need-build-requires
-build-requires c κs =
-    let d = c .before .before .before .before in
-    let at = d .before .before .before .before in
-    let e = checked at in
-    (buildable _ _ (clear at) _ _ (d .decode .ensures) (bytes at) _ (d .before .before .field2 .ensures) (c .before .if2 .taken), omega arith)
-
 same-length : tie.Need-same-length
 same-length c = search needs
 
 returns-2 : tie.Need-returns-2
 returns-2 c =
-    let taken = c .before .before .before .before in
-    let d = taken .before .before .before in
+    let d = c .before .before .before in
     let at = d .before .before .before .before in
-    core-read _ _ (clear at) _ _ (d .decode .ensures) (bytes at) _ (d .before .before .field2 .ensures) (taken .if2 .taken) _
-    (c .before .before .build .ensures)
+    core-read _ _ (clear at) _ _ (d .decode .ensures) (bytes at) _ (d .before .before .field2 .ensures) (c .if2 .taken)
 
 same-length-2 : tie.Need-same-length-2
 same-length-2 c = search needs
@@ -85,9 +70,6 @@ read-core-spec =
     field-requires-2
     cast-decode
     decode-requires
-    cast-build
-    mul-build
-    build-requires
     same-length
     returns-2
     same-length-2

@@ -3,7 +3,7 @@ use mathlib.Core.Path.{refl, _∙_}
 use native.Mathlib.Omega.{arith}
 use Rattle.model.specs.Shelf.{kindOf}
 use Rattle.decoder.proofs.Cursors.{bit-next, bit-none}
-use Rattle.decoder.proofs.Payload.{Sizes, sizes, bit-at-place}
+use Rattle.unpacker.proofs.Payload.{Sizes, sizes, bit-at-place}
 use borrow.Author.Needs.{needs}
 use Rattle.decoder.proofs.Cursor.bit.Statement.{statement}
 use Rattle.decoder.proofs.Cursor.bit.Tie as tie

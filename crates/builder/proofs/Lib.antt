@@ -1,4 +1,0 @@
-pub mod Balance
-pub mod Stacks
-pub mod Steps
-pub mod Ends

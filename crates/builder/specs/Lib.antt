@@ -1,2 +1,0 @@
-pub mod Built
-pub mod Course
