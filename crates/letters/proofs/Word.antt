@@ -6,7 +6,7 @@
 --   is-down, is-up, is-first, is-second   which letter a code stands for
 --   length-letters     as many letters as darts
 --   letters-from       the word from position i on begins with the letter at i
---   letters-set        a store below 3n leaves the word
+--   letters-set, letters-set-behind   a store below 3n leaves the word, and one from 4n on
 use mathlib.Core.Path.{_≡_, refl, ap, _∙_}
 use mathlib.Core.List.{List, [], _∷_, map}
 use mathlib.Core.Logic.{_≢_}
@@ -69,3 +69,7 @@ module _ (n : ℕ) (w : List ℕ) where
   pub letters-set : (i x : ℕ) → i < 3 * n → lettersIn n (set w i x) ≡ lettersIn n w
   unfolding lettersIn
   letters-set i x h = ap (map toLetter) (region-set-other (3 * n) n w i x (λ g. absurd (omega arith)))
+
+  pub letters-set-behind : (i x : ℕ) → 4 * n ≤ i → lettersIn n (set w i x) ≡ lettersIn n w
+  unfolding lettersIn
+  letters-set-behind i x h = ap (map toLetter) (region-set-other (3 * n) n w i x (λ g. omega arith))

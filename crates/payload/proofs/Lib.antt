@@ -1,6 +1,3 @@
-pub mod Placing
-pub mod Numerals
-pub mod Parts
 pub mod Suffixes
 pub mod Letters
 pub mod Stacks

@@ -4,13 +4,13 @@ use mathlib.Core.Path.{_≡_, sym, _∙_}
 use lib.ListN.{length, drop, length-set}
 use Rattle.model.specs.Record.{pack as packed}
 use Rattle.areas.specs.Area.{region, placed}
-use Rattle.payload.proofs.Numerals.{group-fits, all-group, pack-start, pack-again, pack-end}
+use Rattle.laying.proofs.Numerals.{group-fits, all-group, pack-start, pack-again, pack-end}
 use borrow.Author.Needs.{needs}
-use Rattle.payload.proofs.pack.Statement.{statement}
-use Rattle.payload.proofs.pack.Tie as tie
-use Rattle.payload.proofs.pack.Reads as reads
-use Rattle.payload.proofs.pack.Lts as lts
-use Rattle.payload.proofs.digits.Reads as digits-reads
+use Rattle.laying.proofs.pack.Statement.{statement}
+use Rattle.laying.proofs.pack.Tie as tie
+use Rattle.laying.proofs.pack.Reads as reads
+use Rattle.laying.proofs.pack.Lts as lts
+use Rattle.laying.proofs.digits.Reads as digits-reads
 
 abbrev Inv-loop : tie.InvT-loop
 Inv-loop w a e base width out₀ at count i₀ out i = (i ≤ count) × (length out ≡ length out₀)

@@ -1,11 +1,11 @@
 use native.Mathlib.Omega.{arith}
-use Rattle.payload.proofs.Parts.{head-placed}
+use Rattle.laying.proofs.Parts.{head-placed}
 use borrow.Author.Needs.{needs}
-use Rattle.payload.proofs.put_head.Statement.{statement}
-use Rattle.payload.proofs.put_head.Tie as tie
-use Rattle.payload.proofs.put_head.Reads as reads
-use Rattle.payload.proofs.put_head.Lts as lts
-use Rattle.payload.proofs.put16.Reads as put16-reads
+use Rattle.laying.proofs.put_head.Statement.{statement}
+use Rattle.laying.proofs.put_head.Tie as tie
+use Rattle.laying.proofs.put_head.Reads as reads
+use Rattle.laying.proofs.put_head.Lts as lts
+use Rattle.laying.proofs.put16.Reads as put16-reads
 
 -- src/lib.rt:87:5
 put16-requires : tie.Need-put16-requires

@@ -5,29 +5,28 @@
 --   one-run, bits-run, labels-run   which entries of the work area are tree bits and labels
 --   all-one-run, all-bits-run, all-labels-run   they are small
 --   plain-placed, starred-placed   the payload, by its groups
---   length-one, length-two   the length of a record of kind 1, and of another kind
---   short              a record's length fits in two bytes, and the head in its length
 --   kind-two, kind-bound   a kind but 1 is 2; the bound of the labels, by kind
 --   laid-out           head and payload are the record
-use Prim.Native.Nat.{ℕ, suc, _+_, _-_, _*_, _/_, _%_, _^_, _≤_, _<_}
+use Prim.Native.Nat.{ℕ, suc, _+_, _-_, _*_, _/_, _%_, _≤_}
 use native.Mathlib.Omega.{arith}
 use native.Mathlib.Numerals.{add-one}
 use mathlib.Core.Path.{_≡_, sym, ap, ap₂, _∙_, subst}
 use mathlib.Core.Logic.{_≢_}
-use mathlib.Core.Bool.{Bool, true, false, cond}
+use mathlib.Core.Bool.{true}
 use mathlib.Core.List.{List, [], _∷_, _++_}
-use lib.Dec.{eqb}
 use lib.ListN.{length, set, length-set}
-use borrow.Author.Tests.{eq-eqb, ne-eqb, eqb-true}
+use borrow.Author.Tests.{ne-eqb, eqb-true}
 use Rattle.model.specs.Numbers.{allBelow}
 use Rattle.model.specs.Map.{isKind}
 use Rattle.model.specs.Record.{pack, le16, bytesFor, recordLength, payload, layOut}
+use Rattle.model.proofs.Below.{below-append}
 use Rattle.areas.specs.Area.{region, placed}
 use Rattle.areas.proofs.Regions.{region-split, placed-none}
-use Rattle.decoding.proofs.Bounds.{all-cons, all-head, all-tail}
-use Rattle.payload.specs.Payload.{bitsIn, labelsIn, LaidOut}
-use Rattle.payload.proofs.Placing.{placed-cons, placed-next, front-placed}
-use Rattle.payload.proofs.Numerals.{length-pack}
+use Rattle.packing.proofs.Packed.{pack-length}
+use Rattle.packing.proofs.Head.{recordLength-range}
+use Rattle.letters.specs.Letters.{bitsIn, labelsIn}
+use Rattle.laying.specs.Laying.{LaidOut}
+use Rattle.laying.proofs.Placing.{placed-cons, placed-next, front-placed}
 
 pub two-bytes : (at x : ℕ) (out : List ℕ) → at + 2 ≤ length out → set (set out at (x % 256)) (at + 1) (x / 256 % 256) ≡ placed at (le16 x) out
 unfolding le16
@@ -65,13 +64,9 @@ module _ (m : ℕ) (w : List ℕ) where
       ap (λ (k : ℕ). region (8 * (2 * m)) k w) e ∙ region-split (8 * (2 * m)) (2 * m) (2 * m / 2) w
       ∙ ap (λ (a : ℕ). region (8 * (2 * m)) (2 * m) w ++ region a (2 * m / 2) w) f
 
-all-append : (b : ℕ) (xs ys : List ℕ) → allBelow b xs ≡ true → allBelow b ys ≡ true → allBelow b (xs ++ ys) ≡ true
-all-append b [] ys h k = k
-all-append b (x ∷ xs) ys h k = all-cons b x (xs ++ ys) (all-head b x xs h) (all-append b xs ys (all-tail b x xs h) k)
-
 pub all-one-run : (m : ℕ) (w : List ℕ) → allBelow 2 (bitsIn (2 * m) w) ≡ true → allBelow 2 (labelsIn (2 * m) w) ≡ true
     → allBelow 2 (region (8 * (2 * m)) (9 * (2 * m) + m - 8 * (2 * m)) w) ≡ true
-all-one-run m w h k = rw (one-run m w) (all-append 2 (bitsIn (2 * m) w) (labelsIn (2 * m) w) h k)
+all-one-run m w h k = rw (one-run m w) (below-append 2 (bitsIn (2 * m) w) (labelsIn (2 * m) w) h k)
 
 pub all-bits-run : (m : ℕ) (w : List ℕ) → allBelow 2 (bitsIn (2 * m) w) ≡ true
     → allBelow 2 (region (8 * (2 * m)) (9 * (2 * m) - 8 * (2 * m)) w) ≡ true
@@ -97,7 +92,7 @@ unfolding payload
 starred-placed m bytes count w out mid out′ e f h p q =
     let bits = pack 2 8 bytes (bitsIn (2 * m) w) in
     let labels = pack 3 5 count (labelsIn (2 * m) w) in
-    let l = length-pack 2 8 bytes (bitsIn (2 * m) w) in
+    let l = pack-length 2 8 bytes (bitsIn (2 * m) w) in
     q ∙ ap₂ (λ (r s : List ℕ). placed (6 + bytes) (pack 3 5 count r) s)
     (labels-run m w) (p ∙ ap (λ (r : List ℕ). placed 6 (pack 2 8 bytes r) out) (bits-run m w))
     ∙ ap (λ (k : ℕ). placed (6 + k) labels (placed 6 bits out)) (sym l)
@@ -105,22 +100,6 @@ starred-placed m bytes count w out mid out′ e f h p q =
     ∙ ap₂ (λ (j k : ℕ). placed 6 (pack 2 8 j (bitsIn (2 * m) w) ++ pack 3 5 k (labelsIn (2 * m) w)) out) e f
 
 -- ---- the whole record
-
-pub length-one : (k m : ℕ) → k ≡ 1 → 6 + bytesFor (3 * m) 8 ≡ recordLength k m
-unfolding recordLength
-length-one k m e = rw (eq-eqb k 1 e)
-
-pub length-two : (k m : ℕ) → k ≢ 1 → 6 + bytesFor (2 * m) 8 + bytesFor m 5 ≡ recordLength k m
-unfolding recordLength
-length-two k m e = rw (ne-eqb k 1 e)
-
-pub short : (k m : ℕ) → m ≤ 4096 → (recordLength k m < 2 ^ 16) × (6 ≤ recordLength k m)
-unfolding recordLength
-short k m h = go (eqb k 1)
-  where
-    go : (b : Bool) → let r = cond b (6 + bytesFor (3 * m) 8) (6 + bytesFor (2 * m) 8 + bytesFor m 5) in (r < 2 ^ 16) × (6 ≤ r)
-    go true = (omega arith, omega arith)
-    go false = (omega arith, omega arith)
 
 pub kind-two : (k : ℕ) → isKind k ≡ true → k ≢ 1 → k ≡ 2
 unfolding isKind
@@ -130,13 +109,13 @@ pub kind-bound : (k j : ℕ) (xs : List ℕ) → k ≡ j → allBelow (1 + k) xs
 kind-bound k j xs e h = subst (λ (b : ℕ). allBelow (1 + b) xs ≡ true) e h
 
 -- the payload is that of kind j, which is k
-pub laid-out : (k j m total : ℕ) (w out mid out′ : List ℕ) → k ≡ j → total ≡ recordLength k m → m ≤ 4096 → recordLength k m ≤ length out
+pub laid-out : (k j m total : ℕ) (w out mid out′ : List ℕ) → k ≡ j → total ≡ recordLength k m → 1 ≤ m → m ≤ 4096 → recordLength k m ≤ length out
     → mid ≡ placed 0 (le16 total ++ (le16 k ++ le16 m)) out → out′ ≡ placed 6 (payload j m (bitsIn (2 * m) w) (labelsIn (2 * m) w)) mid
     → LaidOut k m w out total out′
 unfolding layOut le16
-laid-out k j m total w out mid out′ e t h l p q =
+laid-out k j m total w out mid out′ e t o h l p q =
     let tail = payload k m (bitsIn (2 * m) w) (labelsIn (2 * m) w) in
-    let s = short k m h in
+    let s = recordLength-range k m o h in
     record {
       answered = t;
       filled =

@@ -1,11 +1,11 @@
 use native.Mathlib.Omega.{arith}
 use lib.ListN.{length-set}
-use Rattle.payload.proofs.Parts.{two-bytes}
+use Rattle.laying.proofs.Parts.{two-bytes}
 use borrow.Author.Needs.{needs}
-use Rattle.payload.proofs.put16.Statement.{statement}
-use Rattle.payload.proofs.put16.Tie as tie
-use Rattle.payload.proofs.put16.Reads as reads
-use Rattle.payload.proofs.put16.Lts as lts
+use Rattle.laying.proofs.put16.Statement.{statement}
+use Rattle.laying.proofs.put16.Tie as tie
+use Rattle.laying.proofs.put16.Reads as reads
+use Rattle.laying.proofs.put16.Lts as lts
 
 -- src/lib.rt:58:15
 cast-out : tie.Need-cast-out

@@ -6,7 +6,6 @@
 --   digits-start, digits-again, digits-end   no digit is read; one digit more; none is left
 --   group-fits             a group lies within the groups
 --   all-group              the digits of a group are small where all are
---   length-pack            as many bytes as groups
 --   pack-start, pack-again, pack-end   no group is written; one group more; none is left
 use Prim.Native.Nat.{ℕ, zero, suc, _+_, _-_, _*_, _^_, _≤_, _<_}
 use native.Mathlib.Nat.{suc-mul, zero-mul, mul-assoc, mul-comm, mul-le-mul-left, mul-le-mul-right, one-le-pow, pow-suc}
@@ -18,13 +17,13 @@ use mathlib.Core.Path.{_≡_, refl, sym, ap, _∙_, subst}
 use mathlib.Core.Bool.{true}
 use mathlib.Core.List.{List, [], _∷_}
 use lib.ListN.{length, getD, set, take, drop, List·getD-eq-default, drop-of-length-le}
-use lib.Seq.{drop-at, drop-drop}
+use lib.Seq.{drop-at, drop-drop, getD-drop}
 use Rattle.model.specs.Numbers.{allBelow}
 use Rattle.model.specs.Record.{digitsFrom, digits, pack}
+use Rattle.model.proofs.Below.{below-head, below-tail, below-drop}
 use Rattle.areas.specs.Area.{region, placed}
 use Rattle.areas.proofs.Regions.{length-region, getD-region, region-split, placed-none}
-use Rattle.decoding.proofs.Bounds.{all-head, all-tail}
-use Rattle.payload.proofs.Placing.{placed-cons}
+use Rattle.laying.proofs.Placing.{placed-cons}
 
 -- ---- the digits from a to e
 
@@ -62,13 +61,8 @@ module _ (a e : ℕ) (w : List ℕ) where
 
 pub digit-below : (base : ℕ) (ds : List ℕ) (i : ℕ) → 1 ≤ base → allBelow base ds ≡ true → getD ds i 0 < base
 digit-below base [] i h e = h
-digit-below base (d ∷ ds) zero h e = all-head base d ds e
-digit-below base (d ∷ ds) (suc i) h e = digit-below base ds i h (all-tail base d ds e)
-
-all-later : (base : ℕ) (ds : List ℕ) (j : ℕ) → allBelow base ds ≡ true → allBelow base (drop j ds) ≡ true
-all-later base ds zero e = e
-all-later base [] (suc j) e = e
-all-later base (d ∷ ds) (suc j) e = all-later base ds j (all-tail base d ds e)
+digit-below base (d ∷ ds) zero h e = below-head base d ds e
+digit-below base (d ∷ ds) (suc i) h e = digit-below base ds i h (below-tail base d ds e)
 
 digits-one : (base x k : ℕ) (ds : List ℕ) → digitsFrom base x (suc k) ds ≡ digitsFrom base (x * base + getD ds 0 0) k (drop 1 ds)
 unfolding digitsFrom
@@ -80,14 +74,8 @@ digits-turn : (base x width i : ℕ) (ds : List ℕ) → i < width
 digits-turn base x width i ds h =
     let z : width - i ≡ suc (width - (i + 1)) = omega arith in
     sym (ap (λ (k : ℕ). digitsFrom base x k (drop i ds)) z ∙ digits-one base x (width - (i + 1)) (drop i ds)
-    ∙ ap (λ (d : ℕ). digitsFrom base (x * base + d) (width - (i + 1)) (drop 1 (drop i ds))) (getD-drop-zero i ds)
+    ∙ ap (λ (d : ℕ). digitsFrom base (x * base + d) (width - (i + 1)) (drop 1 (drop i ds))) (getD-drop i ds 0 0 ∙ ap (λ (k : ℕ). getD ds k 0) (add-zero i))
     ∙ ap (digitsFrom base (x * base + getD ds i 0) (width - (i + 1))) (drop-drop 1 i ds))
-  where
-    getD-drop-zero : (i : ℕ) (ds : List ℕ) → getD (drop i ds) 0 0 ≡ getD ds i 0
-    getD-drop-zero zero [] = refl
-    getD-drop-zero zero (d ∷ ds) = refl
-    getD-drop-zero (suc i) [] = refl
-    getD-drop-zero (suc i) (d ∷ ds) = getD-drop-zero i ds
 
 -- how many numbers the digits that are left can make, the greatest of them, is at most 256
 abbrev pub Bound : ℕ → ℕ → ℕ → Type 0
@@ -138,12 +126,7 @@ group-fits width count i h = let l = mul-le-mul-right width h in let e = suc-mul
 
 pub all-group : (base a e j : ℕ) (w : List ℕ) → e ≤ length w → allBelow base (region a (e - a) w) ≡ true
     → allBelow base (region (a + j) (e - (a + j)) w) ≡ true
-all-group base a e j w f h = subst (λ (ds : List ℕ). allBelow base ds ≡ true) (sym (later a e w f j)) (all-later base (region a (e - a) w) j h)
-
-pub length-pack : (base width count : ℕ) (ds : List ℕ) → length (pack base width count ds) ≡ count
-unfolding pack
-length-pack base width zero ds = refl
-length-pack base width (suc count) ds = ap suc (length-pack base width count (drop width ds))
+all-group base a e j w f h = subst (λ (ds : List ℕ). allBelow base ds ≡ true) (sym (later a e w f j)) (below-drop base j (region a (e - a) w) h)
 
 pack-turn : (base width count at i x : ℕ) (ds out : List ℕ) → i < count → at + i < length out → x ≡ digits base width (drop (i * width) ds)
     → placed (at + (i + 1)) (pack base width (count - (i + 1)) (drop ((i + 1) * width) ds)) (set out (at + i) x)

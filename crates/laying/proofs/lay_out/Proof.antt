@@ -1,14 +1,20 @@
 use native.Mathlib.Omega.{arith}
-use Rattle.payload.proofs.Parts.{short, length-one, length-two, kind-two, kind-bound, laid-out}
+use Rattle.packing.proofs.Head.{recordLength-range}
+use Rattle.heads.proofs.Head.{kind-one, kind-other}
+use Rattle.laying.proofs.Parts.{kind-two, kind-bound, laid-out}
 use borrow.Author.Needs.{needs}
-use Rattle.payload.proofs.lay_out.Statement.{statement}
-use Rattle.payload.proofs.lay_out.Tie as tie
-use Rattle.payload.proofs.lay_out.Reads as reads
-use Rattle.payload.proofs.lay_out.Lts as lts
-use Rattle.payload.proofs.put_head.Reads as put-head-reads
-use Rattle.payload.proofs.put_plain.Reads as put-plain-reads
-use Rattle.payload.proofs.put_starred.Reads as put-starred-reads
-use Rattle.payload.proofs.record_length.Reads as record-length-reads
+use Rattle.laying.proofs.lay_out.Statement.{statement}
+use Rattle.laying.proofs.lay_out.Tie as tie
+use Rattle.laying.proofs.lay_out.Reads as reads
+use Rattle.laying.proofs.lay_out.Lts as lts
+use Rattle.laying.proofs.put_head.Reads as put-head-reads
+use Rattle.laying.proofs.put_plain.Reads as put-plain-reads
+use Rattle.laying.proofs.put_starred.Reads as put-starred-reads
+use Rattle.heads.proofs.record_length.Reads as record-length-reads
+
+-- src/lib.rt:120:17
+cast-edges : tie.Need-cast-edges
+cast-edges c = search needs
 
 -- src/lib.rt:122:18
 record-length-requires : tie.Need-record-length-requires
@@ -18,17 +24,13 @@ record-length-requires c κs = search needs
 cast-length : tie.Need-cast-length
 cast-length c =
     let st = c .before .before .before in
-    let s = short (st .args .kind) _ (st .pre .2) in omega (arith, c .record-length .ensures)
-
--- src/lib.rt:123:33
-cast-put-head : tie.Need-cast-put-head
-cast-put-head c = search needs
+    let s = recordLength-range (st .args .kind) _ (st .pre .1) (st .pre .2) in omega (arith, c .record-length .ensures)
 
 -- src/lib.rt:123:5
 put-head-requires : tie.Need-put-head-requires
 put-head-requires c κs =
     let st = c .before .before .before .before in
-    let s = short (st .args .kind) _ (st .pre .2) in omega (arith, st .pre)
+    let s = recordLength-range (st .args .kind) _ (st .pre .1) (st .pre .2) in omega (arith, st .pre)
 
 -- src/lib.rt:125:9
 put-plain-requires : tie.Need-put-plain-requires
@@ -36,7 +38,7 @@ put-plain-requires c κs =
     let st = c .before .before .before .before .before .before .before .before .before in
     let pre = st .pre in
     let e = c .before .if1 .taken in
-    let l = length-one (st .args .kind) (st .args .m) e in
+    let l = kind-one (st .args .kind) (st .args .m) e in
     let k = c .before .before .before .before .put-head .kept .0 in
     (pre .2, pre .3, omega (arith, pre), pre .5, kind-bound _ 1 _ e (pre .6))
 
@@ -50,7 +52,7 @@ returns c =
     let b = c .before .before .before .before in
     let h = b .before .before .before in
     let st = h .before .before .before .before .before in
-    laid-out _ 1 (st .args .m) _ _ _ _ _ (b .if1 .taken) (h .before .before .record-length .ensures) (st .pre .2) (st .pre .4)
+    laid-out _ 1 (st .args .m) _ _ _ _ _ (b .if1 .taken) (h .before .before .record-length .ensures) (st .pre .1) (st .pre .2) (st .pre .4)
     (h .put-head .ensures) (c .before .before .put-plain .ensures)
 
 -- src/lib.rt:128:5
@@ -59,7 +61,7 @@ put-starred-requires c κs =
     let st = c .before .before .before .before .before .before .before .before .before in
     let pre = st .pre in
     let e = c .before .if1 .left in
-    let l = length-two (st .args .kind) (st .args .m) e in
+    let l = kind-other (st .args .kind) (st .args .m) e in
     let k = c .before .before .before .before .put-head .kept .0 in
     (pre .2, pre .3, omega (arith, pre), pre .5, kind-bound _ 2 _ (kind-two _ (pre .0) e) (pre .6))
 
@@ -73,16 +75,16 @@ returns-2 c =
     let b = c .before .before .before .before in
     let h = b .before .before .before in
     let st = h .before .before .before .before .before in
-    laid-out _ 2 (st .args .m) _ _ _ _ _ (kind-two _ (st .pre .0) (b .if1 .left)) (h .before .before .record-length .ensures) (st .pre .2) (st .pre .4)
+    laid-out _ 2 (st .args .m) _ _ _ _ _ (kind-two _ (st .pre .0) (b .if1 .left)) (h .before .before .record-length .ensures) (st .pre .1) (st .pre .2) (st .pre .4)
     (h .put-head .ensures) (c .before .before .put-starred .ensures)
 
 pub lay-out-spec : {M : Type 1} → statement M
 lay-out-spec =
     tie.close
     (tie.spec
+    cast-edges
     record-length-requires
     cast-length
-    cast-put-head
     put-head-requires
     put-plain-requires
     same-length

@@ -5,13 +5,13 @@ use lib.ListN.{drop}
 use Rattle.model.specs.Record.{digitsFrom}
 use Rattle.model.specs.Record.{digits as digitsOf}
 use Rattle.areas.specs.Area.{region}
-use Rattle.payload.proofs.Numerals.{Bound, bound-start, bound-end, in-byte, digit-below, digits-start, digits-again, digits-end}
+use Rattle.laying.proofs.Numerals.{Bound, bound-start, bound-end, in-byte, digit-below, digits-start, digits-again, digits-end}
 use borrow.Author.Needs.{needs}
-use Rattle.payload.proofs.digits.Statement.{statement}
-use Rattle.payload.proofs.digits.Tie as tie
-use Rattle.payload.proofs.digits.Reads as reads
-use Rattle.payload.proofs.digits.Lts as lts
-use Rattle.payload.proofs.digit.Reads as digit-reads
+use Rattle.laying.proofs.digits.Statement.{statement}
+use Rattle.laying.proofs.digits.Tie as tie
+use Rattle.laying.proofs.digits.Reads as reads
+use Rattle.laying.proofs.digits.Lts as lts
+use Rattle.laying.proofs.digit.Reads as digit-reads
 
 abbrev Inv-loop : tie.InvT-loop
 Inv-loop w a e base width x₀ i₀ x i = (i ≤ width) × Bound base x (width - i)

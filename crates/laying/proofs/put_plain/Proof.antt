@@ -1,13 +1,13 @@
 use native.Mathlib.Omega.{arith}
 use lib.Dec.{lit≤}
-use Rattle.payload.proofs.Parts.{all-one-run, plain-placed}
+use Rattle.laying.proofs.Parts.{all-one-run, plain-placed}
 use borrow.Author.Needs.{needs}
-use Rattle.payload.proofs.put_plain.Statement.{statement}
-use Rattle.payload.proofs.put_plain.Tie as tie
-use Rattle.payload.proofs.put_plain.Reads as reads
-use Rattle.payload.proofs.put_plain.Lts as lts
-use Rattle.payload.proofs.groups.Reads as groups-reads
-use Rattle.payload.proofs.pack.Reads as pack-reads
+use Rattle.laying.proofs.put_plain.Statement.{statement}
+use Rattle.laying.proofs.put_plain.Tie as tie
+use Rattle.laying.proofs.put_plain.Reads as reads
+use Rattle.laying.proofs.put_plain.Lts as lts
+use Rattle.laying.proofs.groups.Reads as groups-reads
+use Rattle.laying.proofs.pack.Reads as pack-reads
 
 -- src/lib.rt:98:13
 mul-n : tie.Need-mul-n

@@ -1,11 +1,11 @@
 use native.Mathlib.Omega.{arith}
 use mathlib.Core.Path.{sym}
-use Rattle.payload.proofs.Numerals.{entry, entry-past}
+use Rattle.laying.proofs.Numerals.{entry, entry-past}
 use borrow.Author.Needs.{needs}
-use Rattle.payload.proofs.digit.Statement.{statement}
-use Rattle.payload.proofs.digit.Tie as tie
-use Rattle.payload.proofs.digit.Reads as reads
-use Rattle.payload.proofs.digit.Lts as lts
+use Rattle.laying.proofs.digit.Statement.{statement}
+use Rattle.laying.proofs.digit.Tie as tie
+use Rattle.laying.proofs.digit.Reads as reads
+use Rattle.laying.proofs.digit.Lts as lts
 
 -- src/lib.rt:18:8
 add-if1 : tie.Need-add-if1
