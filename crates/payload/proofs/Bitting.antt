@@ -16,15 +16,16 @@ use lib.ListN.{length, getD, set, drop, length-set}
 use lib.Seq.{getD-drop}
 use Rattle.model.specs.Traversal.{Letter, down, up, first, second}
 use Rattle.words.specs.Word.{valid, startsSecond, wordBits}
+use Rattle.words.specs.Entered.{isDown}
 use Rattle.areas.specs.Area.{region}
 use Rattle.areas.proofs.Regions.{length-region, region-set-other}
 use Rattle.decoding.proofs.Sizes.{bits-length}
-use Rattle.letters.specs.Letters.{toLetter, lettersIn}
-use Rattle.payload.specs.Payload.{bitsIn, labelsIn, BitsPut}
-use Rattle.payload.specs.Passes.{isDown, downBefore, bitsFrom, Bitted, BitStepped}
+use Rattle.letters.specs.Letters.{toLetter, lettersIn, bitsIn, labelsIn}
+use Rattle.letters.proofs.Word.{is-down, is-up, is-first, is-second, length-letters, letters-set-behind}
+use Rattle.payload.specs.Payload.{BitsPut}
+use Rattle.payload.specs.Passes.{downBefore, bitsFrom, Bitted, BitStepped}
 use Rattle.payload.proofs.Suffixes.{bits-shrink}
-use Rattle.payload.proofs.Letters.{length-letters, letters-at, letters-end, letters-set, small-word, region-front}
-use Rattle.payload.proofs.Letters.{code-down, code-up, code-first, code-second, not-down}
+use Rattle.payload.proofs.Letters.{letters-at, letters-end, small-word, region-front, not-down}
 
 -- ---- the letter before a position
 
@@ -50,8 +51,7 @@ module _ (n : ℕ) (w : List ℕ) (room : 16 * n ≤ length w) where
 
       pub before-down : getD w (3 * n + (i - 1)) 0 ≡ 1
           → startsSecond (drop (i + 1) (lettersIn n w)) ≡ cond (downBefore i (lettersIn n w)) (startsSecond (drop (i + 1) (lettersIn n w))) 0
-      unfolding isDown
-      before-down e = rw (before, code-down _ e)
+      before-down e = rw (before, is-down _ e)
 
       pub before-other : getD w (3 * n + (i - 1)) 0 ≢ 1
           → 0 ≡ cond (downBefore i (lettersIn n w)) (startsSecond (drop (i + 1) (lettersIn n w))) 0
@@ -71,7 +71,7 @@ bits-start n w v room = record {
 }
 
 all-bits : (n : ℕ) (w : List ℕ) → valid 2 (lettersIn n w) ≡ true → 16 * n ≤ length w → length (wordBits false (lettersIn n w)) ≡ n
-all-bits n w v room = bits-length 2 (lettersIn n w) v ∙ length-letters n w room
+all-bits n w v room = bits-length 2 (lettersIn n w) v ∙ length-letters n w (omega arith)
 
 bits-are : (n i t : ℕ) (w : List ℕ) → Bitted n w i t → n - t ≡ length (bitsFrom i (lettersIn n w))
 bits-are n i t w at =
@@ -122,24 +122,24 @@ module _ (n i t : ℕ) (w : List ℕ) (h : i < n) (at : Bitted n w (i + 1) t) wh
 
   -- the bits of each letter, before those that are put
   down-more : getD w (3 * n + i) 0 ≡ 1 → bitsFrom i (lettersIn n w) ≡ 1 ∷ region (8 * n + t) (n - t) w
-  unfolding wordBits isDown
-  down-more c = these down (code-down _ c) ∙ ap (λ (r : List ℕ). 1 ∷ r) (sym (at .put ∙ others down (code-down _ c)))
+  unfolding wordBits
+  down-more c = these down (is-down _ c) ∙ ap (λ (r : List ℕ). 1 ∷ r) (sym (at .put ∙ others down (is-down _ c)))
 
   up-more : getD w (3 * n + i) 0 ≡ 2
       → bitsFrom i (lettersIn n w) ≡ cond (downBefore i (lettersIn n w)) (startsSecond (drop (i + 1) (lettersIn n w))) 0 ∷ region (8 * n + t) (n - t) w
-  unfolding wordBits isDown
-  up-more c = these up (code-up _ c)
+  unfolding wordBits
+  up-more c = these up (is-up _ c)
       ∙ ap (λ (r : List ℕ). cond (downBefore i (lettersIn n w)) (startsSecond (drop (i + 1) (lettersIn n w))) 0 ∷ r)
-      (sym (at .put ∙ others up (code-up _ c)))
+      (sym (at .put ∙ others up (is-up _ c)))
 
   first-more : getD w (3 * n + i) 0 ≡ 3 → bitsFrom i (lettersIn n w) ≡ 1 ∷ 0 ∷ region (8 * n + t) (n - t) w
-  unfolding wordBits isDown
-  first-more c = these first (code-first _ c) ∙ ap (λ (r : List ℕ). 1 ∷ 0 ∷ r) (sym (at .put ∙ others first (code-first _ c)))
+  unfolding wordBits
+  first-more c = these first (is-first _ c) ∙ ap (λ (r : List ℕ). 1 ∷ 0 ∷ r) (sym (at .put ∙ others first (is-first _ c)))
 
   second-more : getD w (3 * n + i) 0 ≢ 1 → getD w (3 * n + i) 0 ≢ 2 → getD w (3 * n + i) 0 ≢ 3
       → bitsFrom i (lettersIn n w) ≡ region (8 * n + t) (n - t) w
-  unfolding wordBits isDown
-  second-more a b c = these second (code-second _ a b c) ∙ sym (at .put ∙ others second (code-second _ a b c))
+  unfolding wordBits
+  second-more a b c = these second (is-second _ a b c) ∙ sym (at .put ∙ others second (is-second _ a b c))
 
   size : length (region (8 * n + t) (n - t) w) ≡ n - t
   size = let r = at .room in let b = at .bits-left in length-region (8 * n + t) (n - t) w (omega arith)
@@ -191,7 +191,7 @@ module _ (n i t : ℕ) (w : List ℕ) (h : i < n) where
       → BitStepped n w (set w (8 * n + t) x) i t
   one-bit t′ x e at more =
       let b = at .bits-left in
-      advance n i t′ w h at (set w (8 * n + t) x) t (omega arith) (letters-set n w (8 * n + t) x (omega arith))
+      advance n i t′ w h at (set w (8 * n + t) x) t (omega arith) (letters-set-behind n w (8 * n + t) x (omega arith))
       (labels-beside n (8 * n + t) x w (omega arith)) (length-set w (8 * n + t) x)
       (bit-put n t x w (at .room) (omega arith) ∙ ap (λ (k : ℕ). x ∷ region (8 * n + k) (n - k) w) (sym e) ∙ sym more)
 
@@ -211,7 +211,7 @@ module _ (n i t : ℕ) (w : List ℕ) (h : i < n) where
       let l = length-set w (8 * n + t + 1) 0 in
       let place : 8 * n + t + 1 ≡ 8 * n + suc t = omega arith in
       advance n i t′ w h at (set v (8 * n + t) 1) t (omega arith)
-      (letters-set n v (8 * n + t) 1 (omega arith) ∙ letters-set n w (8 * n + t + 1) 0 (omega arith))
+      (letters-set-behind n v (8 * n + t) 1 (omega arith) ∙ letters-set-behind n w (8 * n + t + 1) 0 (omega arith))
       (labels-beside n (8 * n + t) 1 v (omega arith) ∙ labels-beside n (8 * n + t + 1) 0 w (omega arith))
       (length-set v (8 * n + t) 1 ∙ l)
       (bit-put n t 1 v (omega arith) (omega arith)

@@ -14,19 +14,21 @@ use mathlib.Core.List.{List, [], _∷_}
 use lib.ListN.{length, getD, set, drop, length-set}
 use Rattle.model.specs.Traversal.{Letter, down, up, first, second}
 use Rattle.words.specs.Word.{valid, Ends, endsOne, ends, startsUp, startsSecond, wordLabels}
-use Rattle.areas.specs.Area.{region}
+use Rattle.areas.specs.Area.{region, stack}
 use Rattle.areas.proofs.Regions.{length-region}
+use Rattle.areas.proofs.Stacks.{length-stack}
 use Rattle.decoding.proofs.Validity.{valid-nested}
 use Rattle.decoding.proofs.Sizes.{letters-length}
-use Rattle.letters.specs.Letters.{toLetter, lettersIn}
-use Rattle.payload.specs.Payload.{labelsIn, LabelsPut}
-use Rattle.payload.specs.Passes.{tops, held, Scanned, Stepped}
+use Rattle.letters.specs.Letters.{toLetter, lettersIn, labelsIn}
+use Rattle.letters.proofs.Word.{is-down, is-up, is-first, is-second, length-letters, letters-set-behind}
+use Rattle.payload.specs.Payload.{LabelsPut}
+use Rattle.payload.specs.Passes.{held, Scanned, Stepped}
 use Rattle.payload.proofs.Suffixes.{Goes, suffix, down-waits, first-waits, labels-shrink}
-use Rattle.payload.proofs.Letters.{length-letters, letters-at, letters-end, letters-set, small-word, code-down, code-up, code-first, code-second}
-use Rattle.payload.proofs.Stacks.{length-tops, held-down, held-up, held-first, held-second}
+use Rattle.payload.proofs.Letters.{letters-at, letters-end, small-word}
+use Rattle.payload.proofs.Stacks.{held-down, held-up, held-first, held-second}
 
 pub scan-start : (n : ℕ) (w : List ℕ) → valid 2 (lettersIn n w) ≡ true → 16 * n ≤ length w → Scanned n w n (n / 2) 0 0
-unfolding held tops region ends
+unfolding held stack region ends
 scan-start n w v room = record {
   word = v;
   room = room;
@@ -40,7 +42,7 @@ scan-start n w v room = record {
 
 half : (n : ℕ) (w : List ℕ) → valid 2 (lettersIn n w) ≡ true → 16 * n ≤ length w → length (ends (lettersIn n w) .labels) ≡ n / 2
 unfolding wordLabels
-half n w v room = let l = length-letters n w room in let h = letters-length 2 (lettersIn n w) v in omega arith
+half n w v room = let l = length-letters n w (omega arith) in let h = letters-length 2 (lettersIn n w) v in omega arith
 
 module _ (n i e u s : ℕ) (w : List ℕ) (at : Scanned n w i e u s) where
   labels-are : n / 2 - e ≡ length (ends (drop i (lettersIn n w)) .labels)
@@ -52,11 +54,11 @@ module _ (n i e u s : ℕ) (w : List ℕ) (at : Scanned n w i e u s) where
 
   ups-are : u ≡ length (ends (drop i (lettersIn n w)) .ups)
   unfolding held
-  ups-are = sym (length-tops (5 * n) u w) ∙ ap (λ (x : Ends). length (x .ups)) (at .ended)
+  ups-are = sym (length-stack (5 * n) u w) ∙ ap (λ (x : Ends). length (x .ups)) (at .ended)
 
   seconds-are : s ≡ length (ends (drop i (lettersIn n w)) .seconds)
   unfolding held
-  seconds-are = sym (length-tops (6 * n) s w) ∙ ap (λ (x : Ends). length (x .seconds)) (at .ended)
+  seconds-are = sym (length-stack (6 * n) s w) ∙ ap (λ (x : Ends). length (x .seconds)) (at .ended)
 
 -- a letter is left
 pub scan-next : (n i e u s : ℕ) (w : List ℕ) → 0 < i → Scanned n w i e u s → (i - 1 < n) × Scanned n w (i - 1 + 1) e u s
@@ -99,9 +101,9 @@ module _ (n i e u s : ℕ) (w : List ℕ) (h : i < n) (at : Scanned n w (i + 1) 
   pub down-room : getD w (3 * n + i) 0 ≡ 1 → (0 < e) × (0 < u)
   unfolding ends endsOne
   down-room c =
-      let a = shrunk down (code-down _ c) in
+      let a = shrunk down (is-down _ c) in
       let b = labels-are n (i + 1) e u s w at in
-      let f = down-waits (drop (i + 1) (lettersIn n w)) (goes down (code-down _ c)) in
+      let f = down-waits (drop (i + 1) (lettersIn n w)) (goes down (is-down _ c)) in
       let g = ups-are n (i + 1) e u s w at in
       let l = at .labels-left in
       (omega arith, omega arith)
@@ -109,9 +111,9 @@ module _ (n i e u s : ℕ) (w : List ℕ) (h : i < n) (at : Scanned n w (i + 1) 
   pub first-room : getD w (3 * n + i) 0 ≡ 3 → (0 < e) × (0 < s)
   unfolding ends endsOne
   first-room c =
-      let a = shrunk first (code-first _ c) in
+      let a = shrunk first (is-first _ c) in
       let b = labels-are n (i + 1) e u s w at in
-      let f = first-waits (drop (i + 1) (lettersIn n w)) (goes first (code-first _ c)) in
+      let f = first-waits (drop (i + 1) (lettersIn n w)) (goes first (is-first _ c)) in
       let g = seconds-are n (i + 1) e u s w at in
       let l = at .labels-left in
       (omega arith, omega arith)
@@ -121,7 +123,7 @@ module _ (n i e u s : ℕ) (w : List ℕ) (h : i < n) (at : Scanned n w (i + 1) 
       → held n (set w p x) e′ u′ s′ ≡ endsOne l (drop (i + 1) (lettersIn n w)) (held n w e u s) → Stepped n w (set w p x) i e′ u′ s′
   unfolding ends
   advance l p x e′ u′ s′ c b f g j k =
-      let same = letters-set n w p x b in
+      let same = letters-set-behind n w p x b in
       let size = length-set w p x in
       let r = at .room in
       record {
@@ -148,7 +150,7 @@ module _ (n i e u s x : ℕ) (w : List ℕ) (h : i < n) where
       let g = at .seconds-fit in
       let f = at .labels-left in
       let word = drop (i + 1) (lettersIn n w) in
-      advance n i e u s w h at up (5 * n + u) x e (u + 1) s (code-up _ c) (omega arith) f (omega arith) (omega arith)
+      advance n i e u s w h at up (5 * n + u) x e (u + 1) s (is-up _ c) (omega arith) f (omega arith) (omega arith)
       (ap (λ (k : ℕ). held n (set w (5 * n + u) x) e k s) (add-one u) ∙ held-up n e u s x w word (at .room) (omega arith) (omega arith) d)
 
   pub second-step : Scanned n w (i + 1) e u s → getD w (3 * n + i) 0 ≢ 1 → getD w (3 * n + i) 0 ≢ 2 → getD w (3 * n + i) 0 ≢ 3
@@ -158,7 +160,7 @@ module _ (n i e u s x : ℕ) (w : List ℕ) (h : i < n) where
       let g = at .seconds-fit in
       let f = at .labels-left in
       let word = drop (i + 1) (lettersIn n w) in
-      advance n i e u s w h at second (6 * n + s) x e u (s + 1) (code-second _ c₁ c₂ c₃) (omega arith) f (omega arith) (omega arith)
+      advance n i e u s w h at second (6 * n + s) x e u (s + 1) (is-second _ c₁ c₂ c₃) (omega arith) f (omega arith) (omega arith)
       (ap (λ (k : ℕ). held n (set w (6 * n + s) x) e u k) (add-one s) ∙ held-second n e u s x w word (at .room) (omega arith) (omega arith) d)
 
   pub down-step : (e′ u′ : ℕ) → e′ ≡ suc e → u′ ≡ suc u → Scanned n w (i + 1) e′ u′ s → getD w (3 * n + i) 0 ≡ 1
@@ -168,7 +170,7 @@ module _ (n i e u s x : ℕ) (w : List ℕ) (h : i < n) where
       let g = at .seconds-fit in
       let f = at .labels-left in
       let word = drop (i + 1) (lettersIn n w) in
-      advance n i e′ u′ s w h at down (9 * n + e) x e u s (code-down _ c) (omega arith) (omega arith) (omega arith) (omega arith)
+      advance n i e′ u′ s w h at down (9 * n + e) x e u s (is-down _ c) (omega arith) (omega arith) (omega arith) (omega arith)
       (rw (p, q) (held-down n e u s x w word (at .room) (omega arith) (omega arith) (omega arith) d))
 
   pub first-step : (e′ s′ : ℕ) → e′ ≡ suc e → s′ ≡ suc s → Scanned n w (i + 1) e′ u s′ → getD w (3 * n + i) 0 ≡ 3
@@ -178,5 +180,5 @@ module _ (n i e u s x : ℕ) (w : List ℕ) (h : i < n) where
       let g = at .seconds-fit in
       let f = at .labels-left in
       let word = drop (i + 1) (lettersIn n w) in
-      advance n i e′ u s′ w h at first (9 * n + e) x e u s (code-first _ c) (omega arith) (omega arith) (omega arith) (omega arith)
+      advance n i e′ u s′ w h at first (9 * n + e) x e u s (is-first _ c) (omega arith) (omega arith) (omega arith) (omega arith)
       (rw (p, q) (held-first n e u s x w word (at .room) (omega arith) (omega arith) (omega arith) d))

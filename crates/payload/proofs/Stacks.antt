@@ -1,42 +1,20 @@
--- Stacks in the work area, and what they hold together with the labels.
+-- What the labels in the work area and the two stacks hold.
 --
---   length-tops            a stack's size
---   tops-set               a store beside a stack
---   tops-push              a store on top of it
 --   held-down, held-up, held-first, held-second   one store and one letter
-use Prim.Native.Nat.{ℕ, zero, suc, _+_, _-_, _*_, _/_, _≤_, _<_}
+use Prim.Native.Nat.{ℕ, suc, _+_, _-_, _*_, _/_, _≤_, _<_}
 use native.Mathlib.Nat.{add-suc}
 use native.Mathlib.Omega.{arith}
-use mathlib.Core.Path.{_≡_, refl, sym, ap, ap₂, _∙_}
+use mathlib.Core.Path.{_≡_, refl, sym, ap, _∙_}
 use mathlib.Core.Bool.{cond}
 use mathlib.Core.List.{List, _∷_}
 use lib.ListN.{length, getD, set}
-use lib.Seq.{getD-set-same, getD-set-other}
 use Rattle.model.specs.Traversal.{Letter, down, up, first, second}
 use Rattle.words.specs.Word.{Ends, endsOne, startsUp, startsSecond}
-use Rattle.areas.specs.Area.{region}
+use Rattle.areas.specs.Area.{region, stack}
 use Rattle.areas.proofs.Regions.{region-set-other}
-use Rattle.payload.specs.Passes.{tops, held}
+use Rattle.areas.proofs.Stacks.{stack-set, stack-push}
+use Rattle.payload.specs.Passes.{held}
 use Rattle.payload.proofs.Letters.{region-front}
-
-pub length-tops : (a k : ℕ) (w : List ℕ) → length (tops a k w) ≡ k
-unfolding tops
-length-tops a zero w = refl
-length-tops a (suc k) w = ap suc (length-tops a k w)
-
-pub tops-set : (a k : ℕ) (w : List ℕ) (p x : ℕ) → (a ≤ p → a + k ≤ p) → tops a k (set w p x) ≡ tops a k w
-unfolding tops
-tops-set a zero w p x out = refl
-tops-set a (suc k) w p x out =
-    ap₂ (λ (y : ℕ) (r : List ℕ). y ∷ r) (getD-set-other w p (a + k) x 0 (λ e. let h = out (omega arith) in omega arith))
-    (tops-set a k w p x (λ l. let h = out l in omega arith))
-
-pub tops-push : (a k : ℕ) (w : List ℕ) (x : ℕ) → a + k < length w → tops a (suc k) (set w (a + k) x) ≡ x ∷ tops a k w
-unfolding tops
-tops-push a k w x h =
-    ap₂ (λ (y : ℕ) (r : List ℕ). y ∷ r) (getD-set-same w (a + k) x 0 h) (tops-set a k w (a + k) x (λ l. omega arith))
-
--- ---- one letter
 
 three : (a b : List ℕ) (c d : List ℕ) (e f : List ℕ) → a ≡ b → c ≡ d → e ≡ f
     → _≡_ {A = Ends} (record { labels = a; ups = c; seconds = e }) (record { labels = b; ups = d; seconds = f })
@@ -51,29 +29,29 @@ module _ (n e u s x : ℕ) (w : List ℕ) (word : List Letter) (room : 16 * n �
 
   held-begin : suc e ≤ n / 2 → u ≤ n → s ≤ n
       → held n (set w (9 * n + e) x) e u s
-      ≡ record { labels = x ∷ region (9 * n + suc e) (n / 2 - suc e) w; ups = tops (5 * n) u w; seconds = tops (6 * n) s w }
+      ≡ record { labels = x ∷ region (9 * n + suc e) (n / 2 - suc e) w; ups = stack (5 * n) u w; seconds = stack (6 * n) s w }
   unfolding held
   held-begin l b c =
-      three _ _ _ _ _ _ (label-put l) (tops-set (5 * n) u w (9 * n + e) x (λ h. omega arith)) (tops-set (6 * n) s w (9 * n + e) x (λ h. omega arith))
+      three _ _ _ _ _ _ (label-put l) (stack-set (5 * n) u w (9 * n + e) x (λ h. omega arith)) (stack-set (6 * n) s w (9 * n + e) x (λ h. omega arith))
 
   pub held-down : suc e ≤ n / 2 → u ≤ n → s ≤ n → x ≡ cond (startsUp word) 2 (getD w (5 * n + u) 0)
       → held n (set w (9 * n + e) x) e u s ≡ endsOne down word (held n w (suc e) (suc u) s)
-  unfolding held endsOne tops
+  unfolding held endsOne stack
   held-down l b c d = held-begin l b c ∙ three _ _ _ _ _ _ (ap (λ (y : ℕ). y ∷ region (9 * n + suc e) (n / 2 - suc e) w) d) refl refl
 
   pub held-first : suc e ≤ n / 2 → u ≤ n → s ≤ n → x ≡ getD w (6 * n + s) 0
       → held n (set w (9 * n + e) x) e u s ≡ endsOne first word (held n w (suc e) u (suc s))
-  unfolding held endsOne tops
+  unfolding held endsOne stack
   held-first l b c d = held-begin l b c ∙ three _ _ _ _ _ _ (ap (λ (y : ℕ). y ∷ region (9 * n + suc e) (n / 2 - suc e) w) d) refl refl
 
   pub held-up : u < n → s ≤ n → x ≡ startsSecond word → held n (set w (5 * n + u) x) e (suc u) s ≡ endsOne up word (held n w e u s)
   unfolding held endsOne
   held-up b c d =
       three _ _ _ _ _ _ (region-set-other (9 * n + e) (n / 2 - e) w (5 * n + u) x (λ h. omega arith))
-      (tops-push (5 * n) u w x (omega arith) ∙ ap (λ (y : ℕ). y ∷ tops (5 * n) u w) d) (tops-set (6 * n) s w (5 * n + u) x (λ h. omega arith))
+      (stack-push (5 * n) u w x (omega arith) ∙ ap (λ (y : ℕ). y ∷ stack (5 * n) u w) d) (stack-set (6 * n) s w (5 * n + u) x (λ h. omega arith))
 
   pub held-second : u ≤ n → s < n → x ≡ startsSecond word → held n (set w (6 * n + s) x) e u (suc s) ≡ endsOne second word (held n w e u s)
   unfolding held endsOne
   held-second b c d =
       three _ _ _ _ _ _ (region-set-other (9 * n + e) (n / 2 - e) w (6 * n + s) x (λ h. omega arith))
-      (tops-set (5 * n) u w (6 * n + s) x (λ h. omega arith)) (tops-push (6 * n) s w x (omega arith) ∙ ap (λ (y : ℕ). y ∷ tops (6 * n) s w) d)
+      (stack-set (5 * n) u w (6 * n + s) x (λ h. omega arith)) (stack-push (6 * n) s w x (omega arith) ∙ ap (λ (y : ℕ). y ∷ stack (6 * n) s w) d)

@@ -1,30 +1,25 @@
 -- What the two passes over the word keep true. They go from right to left: the letters from position i on are done.
 --
---   tops a k w             the k entries from place a on, the last first: a stack
 --   held n w e u s         the labels from index e on, and the stacks with u labels of tree edges and s of other edges
 --   Scanned, Stepped       what the pass for labels keeps true, and what one letter changes
---   isDown, downBefore i w   the letter before position i is down
+--   downBefore i w         the letter before position i is down
 --   bitsFrom i w           the tree bits of the letters from position i on
 --   Bitted, BitStepped     what the pass for tree bits keeps true, and what one letter changes
 use Prim.Native.Nat.{ℕ, zero, suc, _+_, _-_, _*_, _/_, _≤_}
 use mathlib.Core.Path.{_≡_}
 use mathlib.Core.Bool.{Bool, true, false}
-use mathlib.Core.List.{List, [], _∷_}
+use mathlib.Core.List.{List}
 use lib.ListN.{length, getD, drop}
-use Rattle.model.specs.Traversal.{Letter, down, up, first, second}
+use Rattle.model.specs.Traversal.{Letter, up}
 use Rattle.words.specs.Word.{valid, Ends, ends, wordBits}
-use Rattle.areas.specs.Area.{region}
-use Rattle.letters.specs.Letters.{lettersIn}
-use Rattle.payload.specs.Payload.{labelsIn}
+use Rattle.words.specs.Entered.{isDown}
+use Rattle.areas.specs.Area.{region, stack}
+use Rattle.letters.specs.Letters.{lettersIn, labelsIn}
 
 -- ---- labels
 
-unfoldable pub tops : ℕ → ℕ → List ℕ → List ℕ
-tops a zero w = []
-tops a (suc k) w = getD w (a + k) 0 ∷ tops a k w
-
 unfoldable pub held : ℕ → List ℕ → ℕ → ℕ → ℕ → Ends
-held n w e u s = record { labels = region (9 * n + e) (n / 2 - e) w; ups = tops (5 * n) u w; seconds = tops (6 * n) s w }
+held n w e u s = record { labels = region (9 * n + e) (n / 2 - e) w; ups = stack (5 * n) u w; seconds = stack (6 * n) s w }
 
 pub record Scanned (n : ℕ) (w : List ℕ) (i e u s : ℕ) : Type 0 where
   pub word : valid 2 (lettersIn n w) ≡ true
@@ -42,12 +37,6 @@ pub record Stepped (n : ℕ) (w w′ : List ℕ) (i e u s : ℕ) : Type 0 where
   pub kept : length w′ ≡ length w
 
 -- ---- tree bits
-
-unfoldable pub isDown : Letter → Bool
-isDown down = true
-isDown up = false
-isDown first = false
-isDown second = false
 
 unfoldable pub downBefore : ℕ → List Letter → Bool
 downBefore zero w = false

@@ -1,7 +1,7 @@
 -- The record of a plan that fits, from the word in the work area.
 --
 --   valid-two            a word that is valid for a kind is valid for kind 2
---   labels-asked, bits-asked, bytes-asked   what the three passes of the payload ask
+--   labels-asked, bits-asked, bytes-asked   what the two passes and the laying out ask
 --   laid                 what they leave
 use Prim.Native.Nat.{ℕ, _+_, _*_, _/_, _%_, _≤_, _<_}
 use native.Mathlib.Omega.{arith}
@@ -21,8 +21,9 @@ use Rattle.words.specs.Word.{nested, bareLeaf, rootDegree, valid, wordBits, wor
 use Rattle.decoding.proofs.Sizes.{labels-bound}
 use Rattle.decoding.proofs.Bounds.{bits-below}
 use Rattle.letters.proofs.Word.{length-letters}
-use Rattle.letters.specs.Letters.{lettersIn}
-use Rattle.payload.specs.Payload.{bitsIn, labelsIn, LabelsPut, BitsPut, LaidOut}
+use Rattle.letters.specs.Letters.{lettersIn, bitsIn, labelsIn}
+use Rattle.payload.specs.Payload.{LabelsPut, BitsPut}
+use Rattle.laying.specs.Laying.{LaidOut}
 use Rattle.packing.proofs.Head.{kind-cases}
 use Rattle.writing.specs.Early.{Ready, Laid}
 

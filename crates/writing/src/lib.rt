@@ -47,7 +47,7 @@ fn laid_out(w: &mut [u16], n: usize, kind: u16, out: &mut [u8]) -> u16
 {
     payload::put_labels(w, n);
     payload::put_bits(w, n);
-    payload::lay_out(w, kind, n / 2, out)
+    laying::lay_out(w, kind, n / 2, out)
 }
 
 fn made(order: &[u16], root: u16, kind: u16, w: &mut [u16], out: &mut [u8]) -> Written

@@ -1,8 +1,7 @@
 use native.Mathlib.Omega.{arith}
 use mathlib.Core.Path.{_≡_, refl, _∙_}
 use lib.ListN.{length}
-use Rattle.letters.specs.Letters.{lettersIn}
-use Rattle.payload.specs.Payload.{labelsIn}
+use Rattle.letters.specs.Letters.{lettersIn, labelsIn}
 use Rattle.payload.specs.Passes.{Bitted}
 use Rattle.payload.proofs.Bitting.{bits-start, bits-next, bits-end}
 use borrow.Author.Needs.{needs}
