@@ -5,7 +5,7 @@
 --   down-place, up-place, first-place   the bits of a letter have their places
 --   down-bit, up-bit, first-bits, second-bits   what each letter does
 use Prim.Native.Nat.{ℕ, suc, _+_, _-_, _*_, _/_, _≤_, _<_}
-use native.Mathlib.Nat.{sub-self, add-zero, sub-zero, add-suc}
+use native.Mathlib.Nat.{sub-self, add-zero, sub-zero}
 use native.Mathlib.Omega.{arith}
 use native.Mathlib.Numerals.{add-one}
 use mathlib.Core.Path.{_≡_, refl, sym, ap, _∙_, subst}
@@ -25,7 +25,7 @@ use Rattle.letters.proofs.Word.{is-down, is-up, is-first, is-second, length-let
 use Rattle.payload.specs.Payload.{BitsPut}
 use Rattle.payload.specs.Passes.{downBefore, bitsFrom, Bitted, BitStepped}
 use Rattle.payload.proofs.Suffixes.{bits-shrink}
-use Rattle.payload.proofs.Letters.{letters-at, letters-end, small-word, region-front, not-down}
+use Rattle.payload.proofs.Letters.{letters-at, letter-is, letters-end, small-word, region-front, not-down}
 
 -- ---- the letter before a position
 
@@ -113,8 +113,7 @@ module _ (n i t : ℕ) (w : List ℕ) (h : i < n) (at : Bitted n w (i + 1) t) wh
   these : (l : Letter) → toLetter (getD w (3 * n + i) 0) ≡ l
       → bitsFrom i (lettersIn n w) ≡ wordBits (downBefore i (lettersIn n w)) (l ∷ drop (i + 1) (lettersIn n w))
   unfolding bitsFrom
-  these l c = ap (wordBits (downBefore i (lettersIn n w)))
-      (letters-at n w (at .room) i h ∙ ap (λ (k : Letter). k ∷ drop (i + 1) (lettersIn n w)) c)
+  these l c = ap (wordBits (downBefore i (lettersIn n w))) (letter-is n w (at .room) i h l c)
 
   others : (l : Letter) → toLetter (getD w (3 * n + i) 0) ≡ l → bitsFrom (i + 1) (lettersIn n w) ≡ wordBits (isDown l) (drop (i + 1) (lettersIn n w))
   unfolding bitsFrom
@@ -174,17 +173,10 @@ module _ (n i t : ℕ) (w : List ℕ) (h : i < n) (at : Bitted n w (i + 1) t) wh
         kept = kept;
       }
 
--- a store among the bits, right before those that are put
+-- a store among the bits
 labels-beside : (n p x : ℕ) (w : List ℕ) → p < 9 * n → labelsIn n (set w p x) ≡ labelsIn n w
 unfolding labelsIn
 labels-beside n p x w h = region-set-other (9 * n) (n / 2) w p x (λ l. omega arith)
-
-bit-put : (n t x : ℕ) (w : List ℕ) → 16 * n ≤ length w → suc t ≤ n
-    → region (8 * n + t) (n - t) (set w (8 * n + t) x) ≡ x ∷ region (8 * n + suc t) (n - suc t) w
-bit-put n t x w room l =
-    let z : n - t ≡ suc (n - suc t) = omega arith in
-    ap (λ (k : ℕ). region (8 * n + t) k (set w (8 * n + t) x)) z ∙ region-front (8 * n + t) (n - suc t) x w (omega arith)
-    ∙ ap (λ (a : ℕ). x ∷ region a (n - suc t) w) (sym (add-suc (8 * n) t))
 
 module _ (n i t : ℕ) (w : List ℕ) (h : i < n) where
   one-bit : (t′ x : ℕ) → t′ ≡ suc t → (at : Bitted n w (i + 1) t′) → bitsFrom i (lettersIn n w) ≡ x ∷ region (8 * n + t′) (n - t′) w
@@ -193,7 +185,7 @@ module _ (n i t : ℕ) (w : List ℕ) (h : i < n) where
       let b = at .bits-left in
       advance n i t′ w h at (set w (8 * n + t) x) t (omega arith) (letters-set-behind n w (8 * n + t) x (omega arith))
       (labels-beside n (8 * n + t) x w (omega arith)) (length-set w (8 * n + t) x)
-      (bit-put n t x w (at .room) (omega arith) ∙ ap (λ (k : ℕ). x ∷ region (8 * n + k) (n - k) w) (sym e) ∙ sym more)
+      (region-front (8 * n) n t x w (omega arith) (let r = at .room in omega arith) ∙ ap (λ (k : ℕ). x ∷ region (8 * n + k) (n - k) w) (sym e) ∙ sym more)
 
   pub down-bit : (t′ : ℕ) → t′ ≡ suc t → Bitted n w (i + 1) t′ → getD w (3 * n + i) 0 ≡ 1 → BitStepped n w (set w (8 * n + t) 1) i t
   down-bit t′ e at c = one-bit t′ 1 e at (down-more n i t′ w h at c)
@@ -214,9 +206,9 @@ module _ (n i t : ℕ) (w : List ℕ) (h : i < n) where
       (letters-set-behind n v (8 * n + t) 1 (omega arith) ∙ letters-set-behind n w (8 * n + t + 1) 0 (omega arith))
       (labels-beside n (8 * n + t) 1 v (omega arith) ∙ labels-beside n (8 * n + t + 1) 0 w (omega arith))
       (length-set v (8 * n + t) 1 ∙ l)
-      (bit-put n t 1 v (omega arith) (omega arith)
+      (region-front (8 * n) n t 1 v (omega arith) (omega arith)
       ∙ ap (λ (p : ℕ). 1 ∷ region (8 * n + suc t) (n - suc t) (set w p 0)) place
-      ∙ ap (λ (r : List ℕ). 1 ∷ r) (bit-put n (suc t) 0 w room (omega arith))
+      ∙ ap (λ (r : List ℕ). 1 ∷ r) (region-front (8 * n) n (suc t) 0 w (omega arith) (omega arith))
       ∙ ap (λ (k : ℕ). 1 ∷ 0 ∷ region (8 * n + k) (n - k) w) (sym e) ∙ sym (first-more n i t′ w h at c))
 
   pub second-bits : Bitted n w (i + 1) t → getD w (3 * n + i) 0 ≢ 1 → getD w (3 * n + i) 0 ≢ 2 → getD w (3 * n + i) 0 ≢ 3 → BitStepped n w w i t

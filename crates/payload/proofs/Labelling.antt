@@ -24,7 +24,7 @@ use Rattle.letters.proofs.Word.{is-down, is-up, is-first, is-second, length-let
 use Rattle.payload.specs.Payload.{LabelsPut}
 use Rattle.payload.specs.Passes.{held, Scanned, Stepped}
 use Rattle.payload.proofs.Suffixes.{Goes, suffix, down-waits, first-waits, labels-shrink}
-use Rattle.payload.proofs.Letters.{letters-at, letters-end, small-word}
+use Rattle.payload.proofs.Letters.{letter-is, letters-end, small-word}
 use Rattle.payload.proofs.Stacks.{held-down, held-up, held-first, held-second}
 
 pub scan-start : (n : ℕ) (w : List ℕ) → valid 2 (lettersIn n w) ≡ true → 16 * n ≤ length w → Scanned n w n (n / 2) 0 0
@@ -88,7 +88,7 @@ scan-end n i e u s w₀ w done scanned l k =
 
 module _ (n i e u s : ℕ) (w : List ℕ) (h : i < n) (at : Scanned n w (i + 1) e u s) where
   here : (l : Letter) → toLetter (getD w (3 * n + i) 0) ≡ l → drop i (lettersIn n w) ≡ l ∷ drop (i + 1) (lettersIn n w)
-  here l c = letters-at n w (at .room) i h ∙ ap (λ (k : Letter). k ∷ drop (i + 1) (lettersIn n w)) c
+  here = letter-is n w (at .room) i h
 
   goes : (l : Letter) → toLetter (getD w (3 * n + i) 0) ≡ l → Goes (l ∷ drop (i + 1) (lettersIn n w))
   goes l c = subst Goes (here l c) (suffix i (lettersIn n w)

@@ -1,12 +1,13 @@
 -- The word in the work area, letter by letter.
 --
---   letters-at             the letter at position i, and what follows it
+--   letters-at, letter-is  the letter at position i, and what follows it
 --   letters-end            nothing follows the last
 --   small-word             a valid word has at most 8192 letters
---   region-front           a store right before a region
+--   region-front           a store right before the entries from place t to c of a part that begins at a
 --   not-down               a code but 1 is not that of down
 --   second-past, up-past, second-here, no-second-here, up-here   whether second or up stands at a position
-use Prim.Native.Nat.{ℕ, suc, _+_, _*_, _≤_, _<_}
+use Prim.Native.Nat.{ℕ, suc, _+_, _-_, _*_, _≤_, _<_}
+use native.Mathlib.Nat.{add-suc}
 use native.Mathlib.Omega.{arith}
 use native.Mathlib.Numerals.{add-one}
 use mathlib.Core.Path.{_≡_, refl, sym, ap, _∙_, subst}
@@ -31,6 +32,9 @@ module _ (n : ℕ) (w : List ℕ) (room : 16 * n ≤ length w) where
   pub letters-at : (i : ℕ) → i < n → drop i (lettersIn n w) ≡ toLetter (getD w (3 * n + i) 0) ∷ drop (i + 1) (lettersIn n w)
   letters-at i h = rw (add-one i) (letters-from n w i (omega arith) h)
 
+  pub letter-is : (i : ℕ) → i < n → (l : Letter) → toLetter (getD w (3 * n + i) 0) ≡ l → drop i (lettersIn n w) ≡ l ∷ drop (i + 1) (lettersIn n w)
+  letter-is i h l e = letters-at i h ∙ ap (λ (k : Letter). k ∷ drop (i + 1) (lettersIn n w)) e
+
   pub letters-end : (i : ℕ) → i ≡ n → drop i (lettersIn n w) ≡ []
   letters-end i e = ap (λ (k : ℕ). drop k (lettersIn n w)) (e ∙ sym (length-letters n w (omega arith))) ∙ drop-length (lettersIn n w)
 
@@ -38,12 +42,18 @@ module _ (n : ℕ) (w : List ℕ) (room : 16 * n ≤ length w) where
   small-word v =
       subst (λ (k : ℕ). k ≤ 8192) (length-letters n w (omega arith)) (count-parts (length (lettersIn n w)) (valid-fits 2 (lettersIn n w) v) .2)
 
-pub region-front : (a k x : ℕ) (w : List ℕ) → a < length w → region a (suc k) (set w a x) ≡ x ∷ region (suc a) k w
+front : (a k x : ℕ) (w : List ℕ) → a < length w → region a (suc k) (set w a x) ≡ x ∷ region (suc a) k w
 unfolding region
-region-front a k x w h =
+front a k x w h =
     ap (take (suc k)) (drop-cons (set w a x) a 0 (lt-length-set w a x h))
     ∙ ap (λ (y : ℕ). y ∷ take k (drop (suc a) (set w a x))) (getD-set-same w a x 0 h)
     ∙ ap (λ (r : List ℕ). x ∷ take k r) (drop-set-lt (suc a) w a x (omega arith))
+
+pub region-front : (a c t x : ℕ) (w : List ℕ) → t < c → a + t < length w
+    → region (a + t) (c - t) (set w (a + t) x) ≡ x ∷ region (a + suc t) (c - suc t) w
+region-front a c t x w l h =
+    let z : c - t ≡ suc (c - suc t) = omega arith in
+    ap (λ (k : ℕ). region (a + t) k (set w (a + t) x)) z ∙ front (a + t) (c - suc t) x w h ∙ ap (λ (p : ℕ). x ∷ region p (c - suc t) w) (sym (add-suc a t))
 
 pub not-down : (x : ℕ) → x ≢ 1 → isDown (toLetter x) ≡ false
 unfolding toLetter
@@ -67,7 +77,7 @@ module _ (n : ℕ) (w : List ℕ) (room : 16 * n ≤ length w) (i : ℕ) where
 
   module _ (h : i < n) (x : ℕ) (at : getD w (3 * n + i) 0 ≡ x) where
     starts : (l : Letter) → toLetter x ≡ l → drop i (lettersIn n w) ≡ l ∷ drop (i + 1) (lettersIn n w)
-    starts l e = letters-at n w room i h ∙ ap (λ (k : Letter). k ∷ drop (i + 1) (lettersIn n w)) (ap toLetter at ∙ e)
+    starts l e = letter-is n w room i h l (ap toLetter at ∙ e)
 
     pub second-here : x ≢ 1 → x ≢ 2 → x ≢ 3 → 1 ≡ startsSecond (drop i (lettersIn n w))
     unfolding startsSecond

@@ -2,7 +2,6 @@
 --
 --   held-down, held-up, held-first, held-second   one store and one letter
 use Prim.Native.Nat.{ℕ, suc, _+_, _-_, _*_, _/_, _≤_, _<_}
-use native.Mathlib.Nat.{add-suc}
 use native.Mathlib.Omega.{arith}
 use mathlib.Core.Path.{_≡_, refl, sym, ap, _∙_}
 use mathlib.Core.Bool.{cond}
@@ -21,18 +20,12 @@ three : (a b : List ℕ) (c d : List ℕ) (e f : List ℕ) → a ≡ b → c ≡
 three a b c d e f p q r = rw (p, q, r)
 
 module _ (n e u s x : ℕ) (w : List ℕ) (word : List Letter) (room : 16 * n ≤ length w) where
-  label-put : suc e ≤ n / 2 → region (9 * n + e) (n / 2 - e) (set w (9 * n + e) x) ≡ x ∷ region (9 * n + suc e) (n / 2 - suc e) w
-  label-put l =
-      let z : n / 2 - e ≡ suc (n / 2 - suc e) = omega arith in
-      ap (λ (k : ℕ). region (9 * n + e) k (set w (9 * n + e) x)) z ∙ region-front (9 * n + e) (n / 2 - suc e) x w (omega arith)
-      ∙ ap (λ (a : ℕ). x ∷ region a (n / 2 - suc e) w) (sym (add-suc (9 * n) e))
-
   held-begin : suc e ≤ n / 2 → u ≤ n → s ≤ n
       → held n (set w (9 * n + e) x) e u s
       ≡ record { labels = x ∷ region (9 * n + suc e) (n / 2 - suc e) w; ups = stack (5 * n) u w; seconds = stack (6 * n) s w }
   unfolding held
   held-begin l b c =
-      three _ _ _ _ _ _ (label-put l) (stack-set (5 * n) u w (9 * n + e) x (λ h. omega arith)) (stack-set (6 * n) s w (9 * n + e) x (λ h. omega arith))
+      three _ _ _ _ _ _ (region-front (9 * n) (n / 2) e x w l (omega arith)) (stack-set (5 * n) u w (9 * n + e) x (λ h. omega arith)) (stack-set (6 * n) s w (9 * n + e) x (λ h. omega arith))
 
   pub held-down : suc e ≤ n / 2 → u ≤ n → s ≤ n → x ≡ cond (startsUp word) 2 (getD w (5 * n + u) 0)
       → held n (set w (9 * n + e) x) e u s ≡ endsOne down word (held n w (suc e) (suc u) s)

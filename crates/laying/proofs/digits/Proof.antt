@@ -20,13 +20,11 @@ Inv-loop w a e base width x₀ i₀ x i = (i ≤ width) × Bound base x (width -
 abbrev μ-loop : tie.MeasureT-loop
 μ-loop w a e base width x₀ i₀ x i = width - i
 
--- src/lib.rt:32:5
 loop-holds : tie.Need-loop-holds Inv-loop μ-loop
 loop-holds c =
     let pre = c .before .pre in
     (search needs, bound-start _ _ (pre .3), digits-start _ _ _)
 
--- src/lib.rt:33:13
 mul-x : tie.Need-mul-x Inv-loop μ-loop
 mul-x c =
     let at = c .before .loop in
@@ -34,11 +32,9 @@ mul-x c =
     let b = in-byte _ (at .x) _ _ _ (omega arith) (omega arith) (digit-below _ _ (at .i) (omega arith) (st .pre .4)) (at .inv .1) in
     omega arith
 
--- src/lib.rt:33:24
 digit-requires : tie.Need-digit-requires Inv-loop μ-loop
 digit-requires c κs = search needs
 
--- src/lib.rt:33:13
 add-x : tie.Need-add-x Inv-loop μ-loop
 add-x c =
     let at = c .before .before .loop in
@@ -47,15 +43,12 @@ add-x c =
     let b = in-byte _ (at .x) _ _ _ (omega arith) (omega arith) (digit-below _ _ (at .i) (omega arith) (st .pre .4)) (at .inv .1) in
     omega arith
 
--- src/lib.rt:34:9
 add-i : tie.Need-add-i Inv-loop μ-loop
 add-i c = search needs
 
--- src/lib.rt:32:5
 loop-less : tie.Need-loop-less Inv-loop μ-loop
 loop-less c = search needs
 
--- src/lib.rt:32:5
 loop-again : tie.Need-loop-again Inv-loop μ-loop
 loop-again c =
     let at = c .before .before .loop in
@@ -63,7 +56,6 @@ loop-again c =
     let next = digits-again _ _ _ (at .i) _ _ (omega arith) (omega arith) (st .pre .4) (c .digit .ensures) (at .inv .1) (at .inv .2) in
     (search needs, next .0, next .1)
 
--- src/lib.rt:25:1
 returns : tie.Need-returns Inv-loop μ-loop
 returns c =
     let at = c .before .loop in

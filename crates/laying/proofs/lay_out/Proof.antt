@@ -12,27 +12,22 @@ use Rattle.laying.proofs.put_plain.Reads as put-plain-reads
 use Rattle.laying.proofs.put_starred.Reads as put-starred-reads
 use Rattle.heads.proofs.record_length.Reads as record-length-reads
 
--- src/lib.rt:120:17
 cast-edges : tie.Need-cast-edges
 cast-edges c = search needs
 
--- src/lib.rt:122:18
 record-length-requires : tie.Need-record-length-requires
 record-length-requires c κs = search needs
 
--- src/lib.rt:122:18
 cast-length : tie.Need-cast-length
 cast-length c =
     let st = c .before .before .before in
     let s = recordLength-range (st .args .kind) _ (st .pre .1) (st .pre .2) in omega (arith, c .record-length .ensures)
 
--- src/lib.rt:123:5
 put-head-requires : tie.Need-put-head-requires
 put-head-requires c κs =
     let st = c .before .before .before .before in
     let s = recordLength-range (st .args .kind) _ (st .pre .1) (st .pre .2) in omega (arith, st .pre)
 
--- src/lib.rt:125:9
 put-plain-requires : tie.Need-put-plain-requires
 put-plain-requires c κs =
     let st = c .before .before .before .before .before .before .before .before .before in
@@ -42,11 +37,9 @@ put-plain-requires c κs =
     let k = c .before .before .before .before .put-head .kept .0 in
     (pre .2, pre .3, omega (arith, pre), pre .5, kind-bound _ 1 _ e (pre .6))
 
--- src/lib.rt:126:9
 same-length : tie.Need-same-length
 same-length c = search needs
 
--- src/lib.rt:126:9
 returns : tie.Need-returns
 returns c =
     let b = c .before .before .before .before in
@@ -55,7 +48,6 @@ returns c =
     laid-out _ 1 (st .args .m) _ _ _ _ _ (b .if1 .taken) (h .before .before .record-length .ensures) (st .pre .1) (st .pre .2) (st .pre .4)
     (h .put-head .ensures) (c .before .before .put-plain .ensures)
 
--- src/lib.rt:128:5
 put-starred-requires : tie.Need-put-starred-requires
 put-starred-requires c κs =
     let st = c .before .before .before .before .before .before .before .before .before in
@@ -65,11 +57,9 @@ put-starred-requires c κs =
     let k = c .before .before .before .before .put-head .kept .0 in
     (pre .2, pre .3, omega (arith, pre), pre .5, kind-bound _ 2 _ (kind-two _ (pre .0) e) (pre .6))
 
--- src/lib.rt:117:1
 same-length-2 : tie.Need-same-length-2
 same-length-2 c = search needs
 
--- src/lib.rt:117:1
 returns-2 : tie.Need-returns-2
 returns-2 c =
     let b = c .before .before .before .before in

@@ -20,51 +20,41 @@ Inv-loop w a e base width out₀ at count i₀ out i = (i ≤ count) × (length 
 abbrev μ-loop : tie.MeasureT-loop
 μ-loop w a e base width out₀ at count i₀ out i = count - i
 
--- src/lib.rt:46:5
 loop-holds : tie.Need-loop-holds Inv-loop μ-loop
 loop-holds c =
     (search needs, search needs, pack-start _ _ _ _ _ _)
 
--- src/lib.rt:47:31
 mul-digits : tie.Need-mul-digits Inv-loop μ-loop
 mul-digits c =
     let g = group-fits (c .before .before .before .before .args .width) _ (c .before .loop .i) (c .loop-test .taken) in omega arith
 
--- src/lib.rt:47:27
 add-digits : tie.Need-add-digits Inv-loop μ-loop
 add-digits c =
     let g = group-fits (c .before .before .before .before .args .width) _ (c .before .loop .i) (c .loop-test .taken) in omega arith
 
--- src/lib.rt:47:13
 digits-requires : tie.Need-digits-requires Inv-loop μ-loop
 digits-requires c κs =
     let g = group-fits (c .before .before .before .before .args .width) _ (c .before .loop .i) (c .loop-test .taken) in
     let pre = c .before .before .before .before .pre in
     (search needs, omega arith, search needs, search needs, all-group _ _ _ _ _ (pre .0) (pre .4))
 
--- src/lib.rt:48:23
 cast-out : tie.Need-cast-out Inv-loop μ-loop
 cast-out c = search needs
 
--- src/lib.rt:48:13
 add-out : tie.Need-add-out Inv-loop μ-loop
 add-out c = search needs
 
--- src/lib.rt:48:9
 slice-write-out : tie.Need-slice-write-out Inv-loop μ-loop
 slice-write-out c =
     let at = c .before .before .loop in
     omega (arith, at .inv, c .before .loop-test .taken)
 
--- src/lib.rt:49:9
 add-i : tie.Need-add-i Inv-loop μ-loop
 add-i c = search needs
 
--- src/lib.rt:46:5
 loop-less : tie.Need-loop-less Inv-loop μ-loop
 loop-less c = search needs
 
--- src/lib.rt:46:5
 loop-again : tie.Need-loop-again Inv-loop μ-loop
 loop-again c =
     let at = c .before .before .loop in
@@ -75,11 +65,9 @@ loop-again c =
           (c .digits .ensures .0) ∙ at .inv .2,
     )
 
--- src/lib.rt:40:1
 same-length : tie.Need-same-length Inv-loop μ-loop
 same-length c = c .before .loop .inv .1
 
--- src/lib.rt:40:1
 returns : tie.Need-returns Inv-loop μ-loop
 returns c =
     let at = c .before .loop in

@@ -7,31 +7,24 @@ use Rattle.laying.proofs.put16.Tie as tie
 use Rattle.laying.proofs.put16.Reads as reads
 use Rattle.laying.proofs.put16.Lts as lts
 
--- src/lib.rt:58:15
 cast-out : tie.Need-cast-out
 cast-out c = search needs
 
--- src/lib.rt:58:5
 slice-write-out : tie.Need-slice-write-out
 slice-write-out c = search needs
 
--- src/lib.rt:59:19
 cast-out-2 : tie.Need-cast-out-2
 cast-out-2 c = search needs
 
--- src/lib.rt:59:9
 add-out : tie.Need-add-out
 add-out c = search needs
 
--- src/lib.rt:59:5
 slice-write-out-2 : tie.Need-slice-write-out-2
 slice-write-out-2 c = simp length-set (omega arith)
 
--- src/lib.rt:54:1
 same-length : tie.Need-same-length
 same-length c = search needs
 
--- src/lib.rt:54:1
 returns : tie.Need-returns
 returns c = two-bytes _ _ _ (c .pre .0)
 

@@ -7,23 +7,18 @@ use Rattle.laying.proofs.put_head.Reads as reads
 use Rattle.laying.proofs.put_head.Lts as lts
 use Rattle.laying.proofs.put16.Reads as put16-reads
 
--- src/lib.rt:87:5
 put16-requires : tie.Need-put16-requires
 put16-requires c κs = search needs
 
--- src/lib.rt:88:5
 put16-requires-2 : tie.Need-put16-requires-2
 put16-requires-2 c κs = search needs
 
--- src/lib.rt:89:5
 put16-requires-3 : tie.Need-put16-requires-3
 put16-requires-3 c κs = search needs
 
--- src/lib.rt:83:1
 same-length : tie.Need-same-length
 same-length c = search needs
 
--- src/lib.rt:83:1
 returns : tie.Need-returns
 returns c =
     let b = c .before .before .before .before .before .before in

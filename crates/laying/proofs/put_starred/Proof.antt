@@ -9,50 +9,39 @@ use Rattle.laying.proofs.put_starred.Lts as lts
 use Rattle.laying.proofs.groups.Reads as groups-reads
 use Rattle.laying.proofs.pack.Reads as pack-reads
 
--- src/lib.rt:109:13
 mul-n : tie.Need-mul-n
 mul-n c = search needs
 
--- src/lib.rt:110:9
 groups-requires : tie.Need-groups-requires
 groups-requires c κs = search needs
 
--- src/lib.rt:111:9
 groups-requires-2 : tie.Need-groups-requires-2
 groups-requires-2 c κs = search needs
 
--- src/lib.rt:112:13
 mul-pack : tie.Need-mul-pack
 mul-pack c = search needs
 
--- src/lib.rt:112:20
 mul-pack-2 : tie.Need-mul-pack-2
 mul-pack-2 c = search needs
 
--- src/lib.rt:112:5
 pack-requires : tie.Need-pack-requires
 pack-requires c κs =
     let pre = c .before .before .before .before .before .pre in
     let g = c .before .before .groups .ensures in
     (omega (arith, pre), omega (arith, pre), lit≤ tt, lit≤ tt, all-bits-run _ _ (pre .3), omega (arith, pre), omega (arith, pre), lit≤ tt)
 
--- src/lib.rt:113:13
 mul-pack-3 : tie.Need-mul-pack-3
 mul-pack-3 c = search needs
 
--- src/lib.rt:113:20
 mul-pack-4 : tie.Need-mul-pack-4
 mul-pack-4 c = search needs
 
--- src/lib.rt:113:20
 add-pack : tie.Need-add-pack
 add-pack c = search needs
 
--- src/lib.rt:113:42
 add-pack-2 : tie.Need-add-pack-2
 add-pack-2 c = search needs
 
--- src/lib.rt:113:5
 pack-requires-2 : tie.Need-pack-requires-2
 pack-requires-2 c κs =
     let st = c .before .before .before .before .before .before .before .before .before in
@@ -62,11 +51,9 @@ pack-requires-2 c κs =
     let k = c .before .before .before .pack .kept .1 .1 .1 .1 .1 .0 in
     (omega (arith, pre), omega (arith, pre), lit≤ tt, lit≤ tt, all-labels-run 3 _ _ (pre .4), omega (arith, pre), omega (arith, pre), omega (arith, pre))
 
--- src/lib.rt:104:1
 same-length : tie.Need-same-length
 same-length c = search needs
 
--- src/lib.rt:104:1
 returns : tie.Need-returns
 returns c =
     let b = c .before .before .before .before .before .before in

@@ -17,38 +17,31 @@ Inv-loop w₀ n t₀ i₀ w t i = Bitted n w i t × (lettersIn n w ≡ lettersIn
 abbrev μ-loop : tie.MeasureT-loop
 μ-loop w₀ n t₀ i₀ w t i = i
 
--- src/lib.rt:151:5
 loop-holds : tie.Need-loop-holds Inv-loop μ-loop
 loop-holds c =
     let pre = c .before .pre in
     (bits-start _ _ (pre .0) (pre .1), refl, refl, refl)
 
--- src/lib.rt:152:9
 sub-i : tie.Need-sub-i Inv-loop μ-loop
 sub-i c = search needs
 
--- src/lib.rt:153:9
 bits-one-requires : tie.Need-bits-one-requires Inv-loop μ-loop
 bits-one-requires c κs =
     let at = c .before .before .loop in
     bits-next _ (at .i) _ _ (c .before .loop-test .taken) (at .inv .0)
 
--- src/lib.rt:151:5
 loop-less : tie.Need-loop-less Inv-loop μ-loop
 loop-less c = search needs
 
--- src/lib.rt:151:5
 loop-again : tie.Need-loop-again Inv-loop μ-loop
 loop-again c =
     let step = c .before .before .bits-one .ensures in
     let inv = c .before .before .before .before .before .loop .inv in
     (step .bitted, step .letters ∙ inv .1, step .labels ∙ inv .2, step .kept ∙ inv .3)
 
--- src/lib.rt:145:1
 same-length : tie.Need-same-length Inv-loop μ-loop
 same-length c = c .before .loop .inv .3
 
--- src/lib.rt:145:1
 returns : tie.Need-returns Inv-loop μ-loop
 returns c =
     let at = c .before .loop in

@@ -9,59 +9,46 @@ use Rattle.payload.proofs.scan_one.Lts as lts
 use Rattle.payload.proofs.second_at.Reads as second-at-reads
 use Rattle.payload.proofs.tree_label.Reads as tree-label-reads
 
--- src/lib.rt:72:15
 mul-l : tie.Need-mul-l
 mul-l c = omega arith
 
--- src/lib.rt:72:15
 add-l : tie.Need-add-l
 add-l c = omega arith
 
--- src/lib.rt:72:13
 mul-l-2 : tie.Need-mul-l-2
 mul-l-2 c = omega arith
 
--- src/lib.rt:72:13
 slice-read-l : tie.Need-slice-read-l
 slice-read-l c = omega arith
 
--- src/lib.rt:74:17
 sub-e : tie.Need-sub-e
 sub-e c =
     let pre = c .before .before .before .pre in
     down-room _ _ _ _ _ _ (pre .0) (pre .1) (c .if1 .taken) .0
 
--- src/lib.rt:75:19
 sub-top : tie.Need-sub-top
 sub-top c =
     let pre = c .before .before .before .pre in
     down-room _ _ _ _ _ _ (pre .0) (pre .1) (c .if1 .taken) .1
 
--- src/lib.rt:76:24
 tree-label-requires : tie.Need-tree-label-requires
 tree-label-requires c κs = omega arith
 
--- src/lib.rt:76:11
 mul-w : tie.Need-mul-w
 mul-w c = omega arith
 
--- src/lib.rt:76:11
 add-w : tie.Need-add-w
 add-w c = omega arith
 
--- src/lib.rt:76:9
 mul-w-2 : tie.Need-mul-w-2
 mul-w-2 c = omega arith
 
--- src/lib.rt:76:9
 slice-write-w : tie.Need-slice-write-w
 slice-write-w c = omega arith
 
--- src/lib.rt:77:9
 same-length : tie.Need-same-length
 same-length c = search needs
 
--- src/lib.rt:77:9
 returns : tie.Need-returns
 returns c =
     let pre = c .before .before .before .before .before .pre in
@@ -69,93 +56,72 @@ returns c =
     let r = down-room _ _ _ _ _ _ (pre .0) (pre .1) one in
     down-step _ _ _ _ _ _ _ (pre .0) _ _ (omega (arith, r)) (omega (arith, r)) (pre .1) one (c .tree-label .ensures)
 
--- src/lib.rt:84:42
 add-second-at : tie.Need-add-second-at
 add-second-at c = omega arith
 
--- src/lib.rt:84:26
 second-at-requires : tie.Need-second-at-requires
 second-at-requires c κs = omega arith
 
--- src/lib.rt:84:11
 mul-w-3 : tie.Need-mul-w-3
 mul-w-3 c = omega arith
 
--- src/lib.rt:84:11
 add-w-2 : tie.Need-add-w-2
 add-w-2 c = omega arith
 
--- src/lib.rt:84:9
 mul-w-4 : tie.Need-mul-w-4
 mul-w-4 c = omega arith
 
--- src/lib.rt:84:9
 slice-write-w-2 : tie.Need-slice-write-w-2
 slice-write-w-2 c = omega arith
 
--- src/lib.rt:87:18
 add-t29 : tie.Need-add-t29
 add-t29 c = omega arith
 
--- src/lib.rt:85:9
 same-length-2 : tie.Need-same-length-2
 same-length-2 c = search needs
 
--- src/lib.rt:85:9
 returns-2 : tie.Need-returns-2
 returns-2 c =
     let pre = c .before .before .before .before .before .before .pre in
     up-step _ _ _ _ _ _ _ (pre .0) (pre .1) (c .before .before .if2 .taken) (c .second-at .ensures)
 
--- src/lib.rt:92:17
 sub-e-2 : tie.Need-sub-e-2
 sub-e-2 c =
     let pre = c .before .before .before .before .before .pre in
     first-room _ _ _ _ _ _ (pre .0) (pre .1) (c .if3 .taken) .0
 
--- src/lib.rt:93:19
 sub-top-2 : tie.Need-sub-top-2
 sub-top-2 c =
     let pre = c .before .before .before .before .before .pre in
     first-room _ _ _ _ _ _ (pre .0) (pre .1) (c .if3 .taken) .1
 
--- src/lib.rt:94:26
 mul-w-5 : tie.Need-mul-w-5
 mul-w-5 c = omega arith
 
--- src/lib.rt:94:26
 add-w-3 : tie.Need-add-w-3
 add-w-3 c = omega arith
 
--- src/lib.rt:94:24
 mul-w-6 : tie.Need-mul-w-6
 mul-w-6 c = omega arith
 
--- src/lib.rt:94:24
 slice-read-w : tie.Need-slice-read-w
 slice-read-w c = omega arith
 
--- src/lib.rt:94:11
 mul-w-7 : tie.Need-mul-w-7
 mul-w-7 c = omega arith
 
--- src/lib.rt:94:11
 add-w-4 : tie.Need-add-w-4
 add-w-4 c = omega arith
 
--- src/lib.rt:94:9
 mul-w-8 : tie.Need-mul-w-8
 mul-w-8 c = omega arith
 
--- src/lib.rt:94:9
 slice-write-w-3 : tie.Need-slice-write-w-3
 slice-write-w-3 c = omega arith
 
--- src/lib.rt:95:9
 same-length-3 : tie.Need-same-length-3
 same-length-3 c = search needs
 
--- src/lib.rt:95:9
 returns-3 : tie.Need-returns-3
 returns-3 c =
     let pre = c .before .before .before .before .before .before .pre in
@@ -163,39 +129,30 @@ returns-3 c =
     let r = first-room _ _ _ _ _ _ (pre .0) (pre .1) one in
     first-step _ _ _ _ _ _ _ (pre .0) _ _ (omega (arith, r)) (omega (arith, r)) (pre .1) one refl
 
--- src/lib.rt:101:42
 add-second-at-2 : tie.Need-add-second-at-2
 add-second-at-2 c = omega arith
 
--- src/lib.rt:101:26
 second-at-requires-2 : tie.Need-second-at-requires-2
 second-at-requires-2 c κs = omega arith
 
--- src/lib.rt:101:7
 mul-w-9 : tie.Need-mul-w-9
 mul-w-9 c = omega arith
 
--- src/lib.rt:101:7
 add-w-5 : tie.Need-add-w-5
 add-w-5 c = omega arith
 
--- src/lib.rt:101:5
 mul-w-10 : tie.Need-mul-w-10
 mul-w-10 c = omega arith
 
--- src/lib.rt:101:5
 slice-write-w-4 : tie.Need-slice-write-w-4
 slice-write-w-4 c = omega arith
 
--- src/lib.rt:105:18
 add-t13 : tie.Need-add-t13
 add-t13 c = omega arith
 
--- src/lib.rt:65:1
 same-length-4 : tie.Need-same-length-4
 same-length-4 c = search needs
 
--- src/lib.rt:65:1
 returns-4 : tie.Need-returns-4
 returns-4 c =
     let b = c .before .before in

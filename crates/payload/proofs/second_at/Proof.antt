@@ -7,28 +7,22 @@ use Rattle.payload.proofs.second_at.Tie as tie
 use Rattle.payload.proofs.second_at.Reads as reads
 use Rattle.payload.proofs.second_at.Lts as lts
 
--- src/lib.rt:23:9
 returns : tie.Need-returns
 returns c =
     second-past _ _ (c .before .pre .2) _ (c .if1 .taken)
 
--- src/lib.rt:25:15
 mul-l : tie.Need-mul-l
 mul-l c = search needs
 
--- src/lib.rt:25:15
 add-l : tie.Need-add-l
 add-l c = search needs
 
--- src/lib.rt:25:13
 mul-l-2 : tie.Need-mul-l-2
 mul-l-2 c = search needs
 
--- src/lib.rt:25:13
 shared-slice-read-l : tie.Need-shared-slice-read-l
 shared-slice-read-l c = search needs
 
--- src/lib.rt:27:9
 returns-2 : tie.Need-returns-2
 returns-2 c =
     let st = c .before .before .before in
@@ -36,14 +30,12 @@ returns-2 c =
     second-here _ _ (st .pre .2) (st .args .i) (omega (arith, st .pre, c .before .before .if1 .left)) _ refl
     (λ z. omega arith) (λ z. omega arith) (λ z. omega arith)
 
--- src/lib.rt:30:9
 returns-3 : tie.Need-returns-3
 returns-3 c =
     let st = c .before .before .before .before in
     no-second-here _ _ (st .pre .2) (st .args .i) (omega (arith, st .pre, c .before .before .before .if1 .left)) _ refl
     (omega (arith, c .before .if2 .left)) (c .if3 .taken)
 
--- src/lib.rt:18:1
 returns-4 : tie.Need-returns-4
 returns-4 c =
     let st = c .before .before .before .before in

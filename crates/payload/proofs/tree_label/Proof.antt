@@ -6,36 +6,28 @@ use Rattle.payload.proofs.tree_label.Reads as reads
 use Rattle.payload.proofs.tree_label.Lts as lts
 use Rattle.payload.proofs.up_at.Reads as up-at-reads
 
--- src/lib.rt:51:20
 add-up-at : tie.Need-add-up-at
 add-up-at c = search needs
 
--- src/lib.rt:51:8
 up-at-requires : tie.Need-up-at-requires
 up-at-requires c κs = search needs
 
--- src/lib.rt:52:9
 returns : tie.Need-returns
 returns c =
     rw (sym (c .before .up-at .ensures), c .if1 .taken)
 
--- src/lib.rt:54:7
 mul-result : tie.Need-mul-result
 mul-result c = search needs
 
--- src/lib.rt:54:7
 add-result : tie.Need-add-result
 add-result c = search needs
 
--- src/lib.rt:54:5
 mul-result-2 : tie.Need-mul-result-2
 mul-result-2 c = search needs
 
--- src/lib.rt:54:5
 shared-slice-read-result : tie.Need-shared-slice-read-result
 shared-slice-read-result c = search needs
 
--- src/lib.rt:47:1
 returns-2 : tie.Need-returns-2
 returns-2 c =
     rw (sym (c .before .before .up-at .ensures), c .before .if1 .left)

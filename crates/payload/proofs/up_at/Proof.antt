@@ -7,28 +7,22 @@ use Rattle.payload.proofs.up_at.Tie as tie
 use Rattle.payload.proofs.up_at.Reads as reads
 use Rattle.payload.proofs.up_at.Lts as lts
 
--- src/lib.rt:41:9
 returns : tie.Need-returns
 returns c =
     up-past _ _ (c .before .pre .2) _ (c .if1 .taken)
 
--- src/lib.rt:43:7
 mul-result : tie.Need-mul-result
 mul-result c = search needs
 
--- src/lib.rt:43:7
 add-result : tie.Need-add-result
 add-result c = search needs
 
--- src/lib.rt:43:5
 mul-result-2 : tie.Need-mul-result-2
 mul-result-2 c = search needs
 
--- src/lib.rt:43:5
 shared-slice-read-result : tie.Need-shared-slice-read-result
 shared-slice-read-result c = search needs
 
--- src/lib.rt:36:1
 returns-2 : tie.Need-returns-2
 returns-2 c =
     let st = c .before .before in

@@ -8,47 +8,37 @@ use Rattle.payload.proofs.up_bit.Reads as reads
 use Rattle.payload.proofs.up_bit.Lts as lts
 use Rattle.payload.proofs.second_at.Reads as second-at-reads
 
--- src/lib.rt:112:9
 returns : tie.Need-returns
 returns c =
     before-first _ _ (c .before .before .pre .2) _ (c .if1 .taken)
 
--- src/lib.rt:114:15
 mul-l : tie.Need-mul-l
 mul-l c = search needs
 
--- src/lib.rt:114:24
 sub-l : tie.Need-sub-l
 sub-l c = search needs
 
--- src/lib.rt:114:15
 add-l : tie.Need-add-l
 add-l c = search needs
 
--- src/lib.rt:114:13
 mul-l-2 : tie.Need-mul-l-2
 mul-l-2 c = search needs
 
--- src/lib.rt:114:13
 shared-slice-read-l : tie.Need-shared-slice-read-l
 shared-slice-read-l c = search needs
 
--- src/lib.rt:116:32
 add-second-at : tie.Need-add-second-at
 add-second-at c = search needs
 
--- src/lib.rt:116:9
 second-at-requires : tie.Need-second-at-requires
 second-at-requires c κs = search needs
 
--- src/lib.rt:116:9
 returns-2 : tie.Need-returns-2
 returns-2 c =
     let st = c .before .before .before .before .before in
     c .second-at .ensures ∙ before-down _ _ (st .pre .2) _ (omega (arith, c .before .before .before .if1 .left)) (omega (arith, st .pre))
     (c .before .if2 .taken)
 
--- src/lib.rt:107:1
 returns-3 : tie.Need-returns-3
 returns-3 c =
     let st = c .before .before .before .before in
