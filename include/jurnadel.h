@@ -15,7 +15,8 @@
  *   - each pointer is valid for as many entries as its number says, and aligned; where
  *     the number is 0 it need not point at anything, but must not be null;
  *   - each out-number's pointer is valid;
- *   - no buffer or out-number that a call writes overlaps another one of that call.
+ *   - no buffer or out-number that a call writes overlaps another one of that call;
+ *   - nothing else writes any of them while the call runs.
  * The content of buffers is free: every call is total, on any content and any lengths.
  *
  * Answers. Each call but the sizes and jurnadel_walk_step returns 0 (done) or the number
@@ -26,7 +27,8 @@
  *
  * What is proved. For each exported function, machine-checked: it ends, stays within what
  * is lent, and its returned number, out-numbers, output, shelf and work area are those of
- * the definitions in crates/model/specs, for every input. docs/PROOF.md lists the theorems.
+ * the definitions, for every input: crates/jurnadel/specs and those that it names, most of
+ * them in crates/model/specs. docs/PROOF.md lists the theorems.
  * What is not proved: the compiler's back end (LLVM) and the assembler, that these C
  * declarations agree with the Rattle functions (tests/ runs all of them), and the
  * caller's side of "Lent buffers" above.
@@ -101,8 +103,9 @@ enum {
  *   length               the record's length; 0 if refused
  *   characteristic       of refusal 10: junctions minus trails plus areas; else 0
  *
- * Refusals: 2, 3, 4, 6, 7, 8, 9, 10, 11, 12. Two plans get equal bytes in one kind exactly
- * when one is the other with its darts renumbered, start to start.
+ * Refusals: 2, 3, 4, 6, 7, 8, 9, 10, 11, 12. Two plans that are not refused get equal bytes
+ * in one kind exactly when one is the other with its darts renumbered: start to start, opposite
+ * ends to opposite ends, turning order to turning order.
  */
 uint16_t jurnadel_write(const uint16_t *order, size_t darts, uint16_t start, uint16_t kind,
                         uint16_t *work, size_t work_len, uint8_t *output, size_t output_len,

@@ -7,11 +7,13 @@
 --   writtenOutput         the output after writing
 --   Wrote                 all that writing promises
 --   readRefusal           the first of reading's refusals but 13; 0 if none
+--   HasRecord r p         p is fit for the kind that r names, and r is its record
 --   Reads                 what reading answers and the output after it
 --   shelveRefusal, shelveAnswer, shelvedBytes   shelving: first refusal, answer, the shelf afterwards
+--   Stored                all that shelving promises
 --   fetchRefusal, fetched fetching: the number that is set, and the part that is returned
---   stepped               one step of a walk over the shelf
---   numberOf..            the paper's number and values for each case of an answer
+--   Fetched               all that fetching promises
+--   numberOf.., lengthOf.., characteristicOf..   the paper's number and values for each case of an answer
 use Prim.Native.Nat.{ℕ, zero, suc, _+_, _-_, _*_, _<_}
 use mathlib.Core.Path.{_≡_}
 use mathlib.Core.Bool.{Bool, true, false, not, _&&_, _||_, cond}
