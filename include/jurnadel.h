@@ -12,8 +12,9 @@
  *
  * Lent buffers. A list or a run of bytes is handed over as a pointer and a number of
  * entries. A caller must see to this, since nothing checks it:
- *   - each pointer is valid for as many entries as its number says, and aligned; where
- *     the number is 0 it need not point at anything, but must not be null;
+ *   - each pointer is valid for as many entries as its number says, PTRDIFF_MAX bytes at
+ *     most, and aligned; where the number is 0 it need not point at anything, but must
+ *     not be null;
  *   - each out-number's pointer is valid;
  *   - no buffer or out-number that a call writes overlaps another one of that call;
  *   - nothing else writes any of them while the call runs.
