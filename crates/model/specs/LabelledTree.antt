@@ -1,13 +1,19 @@
 -- The labelled tree of a plan, as document 01 sets it down: one edge for each edge of the map, with a label.
 --
---   codes p              the code of each dart's letter
+--   codes p              the code of each dart's letter; codesOf, from a list of visits
 --   Labels               the labels of the tree edges and of the cut edges, and which cut edges are removed; each by edge
+--   unlabelled m         all of them 0
 --   isUpper codes d      at d's place stands a cut edge: d is an upper end
 --   gone codes s d       the edge at d's place is removed
 --   before rot codes s n d   the place before d at its vertex, among those whose edge is present
 --   labelOne codes s d   the edge at d's place gets label 1
+--   removeCut s e        the steps (2) and (3) for edge e
 --   takeLeaf             the three steps for a leaf with a cut edge
+--   takeOne              the same at a visit, if a leaf with a cut edge is met there
 --   takeLeaves           the leaves from left to right
+--   treeLabels p         the tree edges' labels at the end, by edge
+--   labelOf, bitsOf      the label and the tree bits that a visit gives
+--   along f vs           what f gives at each visit, one after the other
 --   labels p             the labels in the order of going down; a star is 2
 --   treeBits p           the tree bits
 use Prim.Native.Nat.{ℕ, zero, suc, _/_}

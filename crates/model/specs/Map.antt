@@ -8,9 +8,11 @@
 --   faceOf rot d         d's face, named by its least dart
 --   edges, vertices, faces rot   how many there are
 --   degreeOne rot d      d is alone at its vertex
+--   spread, spreads      one round of marks that spread by opposites and entries, and so many rounds
 --   reached rot          the darts reached from dart 0, as 0/1 marks
 --   connected rot        every dart is reached
 --   characteristic rot   vertices minus edges plus faces, a signed number
+--   is z n               the integer z is the number n
 --   planar rot           the characteristic is 2
 --   hasLoop rot          some edge has both darts at one vertex
 --   hasDegreeOne rot     some vertex has degree one

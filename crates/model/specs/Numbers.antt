@@ -1,6 +1,6 @@
 -- Counts, permutations and their cycles, on numbers and lists: what the definitions of maps and records are made of.
 --
---   count f n           how many i < n pass the test f
+--   count f n           how many i < n pass the test f; tick counts one more
 --   some f n            some i < n passes the test f
 --   elem x xs           x is an entry of xs
 --   distinct xs         no two entries of xs are equal
@@ -9,8 +9,9 @@
 --   position x xs       the first place where x stands in xs; its length if it does not
 --   iter p j x          p applied j times to x
 --   least p n x         the least of x, p x, .., pⁿ x: the name of x's cycle, for a permutation p below n
+--   isLeast p n x       x is the least of its cycle
 --   cycles p n          how many cycles p has below n, counted by their least elements
---   Refusal             a refusal's number with its condition
+--   Refusal             a refusal's number with its condition; refuse makes one
 --   firstRefusal rs     the number of the first refusal whose condition holds; 0 if none does
 use Prim.Native.Nat.{ℕ, zero, suc, min}
 use mathlib.Core.Bool.{Bool, true, false, not, _&&_, _||_, cond}

@@ -1,6 +1,6 @@
 -- The bytes of a record.
 --
---   digits base w ds      the number whose w digits are the first of ds, highest first, filled up with 0
+--   digits base w ds      the number whose w digits are the first of ds, highest first, filled up with 0; digitsFrom, behind a number
 --   pack base w n ds      n such numbers: ds in groups of w
 --   bytesFor n w          how many groups of w hold n digits
 --   le16 n                n in two bytes, the low one first

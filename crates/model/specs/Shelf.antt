@@ -1,9 +1,11 @@
 -- Heads of records, and a shelf: records end to end.
 --
 --   word16 bs i           the little-endian 16-bit field at place i
+--   kindOf r, edgesOf r   the kind and m that the bytes r name
 --   headRefusal r         the first of 1, 2, 3, 5 that concerns the bytes r; 0 if none does
 --   passes r              r passes 1, 2, 3 and 5
---   recordsIn bs          the bytes cut into records by their length fields
+--   recordsIn bs          the bytes cut into records by their length fields; cutInto, at most so many
+--   allPass rs            each of them passes
 --   endToEnd bs           the bytes are records end to end that each pass
 --   same r s              equal bytes
 --   firstEqual r rs       the number of the first record equal to r; how many there are if none is

@@ -5,10 +5,13 @@
 --   Visit                a dart and its letter
 --   letterAt             the letter of a dart, from what is met and seen so far
 --   onward rot l d       the dart after d
+--   seenAfter            the vertices seen after d is met
 --   walk                 the visits from a dart on, until the walk is back at the root
 --   visits p             the whole walk
 --   word p               its letters
---   standardNumbers p    for each dart its standard number
+--   opens l              at this letter an edge is met first
+--   standardNumbers p    for each dart its standard number; number, from a list of visits
+--   renumbered           a rotation in new numbers
 --   standardPlan p       the plan in standard numbers, root 0
 use Prim.Native.Nat.{ℕ, zero, suc, _+_, _*_}
 use mathlib.Core.Bool.{Bool, true, false, cond}

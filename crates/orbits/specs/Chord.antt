@@ -1,5 +1,13 @@
 -- An involution μ on the positions below N, read as a chord diagram: a fixed point is a tree position, any other position is the opening or the
 -- closing end of a chord. The faces are the cycles of φ, which crosses the chord and then goes one position on. All of it computes. Assumes nothing.
+--
+--   Involution N μ   μ stays below N and undoes itself there
+--   opener μ a       a chord opens at a
+--   chords μ N       how many chords there are
+--   next N i         one position on, round the circle of N
+--   φ μ N i          one step of a face
+--   faces μ N        how many faces there are
+--   Nested μ N       what lies under a chord is matched under that chord
 use Prim.Native.Nat.{ℕ, zero, suc, _<_}
 use mathlib.Core.Path.{_≡_}
 use mathlib.Core.Bool.{Bool, cond}

@@ -1,5 +1,12 @@
 -- A map on the darts below N: σ turns about a vertex, α crosses an edge. A set of edges, `tree`, and a tour that crosses just these edges and
 -- goes through all the darts: `pos d` is when dart d comes, `dart` its inverse. Assumes nothing.
+--
+--   face σ α         the face permutation of the map
+--   onward           one step of the tour
+--   chord α tree d   the other dart of an edge outside the tree; d itself where its edge is in the tree
+--   Tour             the tour crosses just the tree's edges and goes through all the darts
+--   diagram          the chord diagram that it makes of the edges outside the tree
+--   rest tree        the edges outside the tree
 use Prim.Native.Nat.{ℕ, _<_}
 use mathlib.Core.Path.{_≡_}
 use mathlib.Core.Bool.{Bool, not, cond}
