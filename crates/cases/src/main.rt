@@ -1,5 +1,5 @@
 // Writes the plans that document 01 leaves to a run, plans at its limits and plans that are refused, and prints each answer on a line: the refusal, or the
-// record's length and a checksum of its bytes. The file stdout has what it must write.
+// record's length and its bytes, of a long record a checksum. The file stdout has what it must write; tests/cases.py holds it to the second coder.
 ghost use Prim.Native.Nat.{_≤_, _<_};
 ghost use lib.ListN.{length};
 use model::Written;
@@ -22,23 +22,60 @@ fn checksum(bytes: &[u8], n: usize) -> u32 {
     sum
 }
 
+fn digit(x: u8) -> u8
+    requires { ⌜ x < 16 ⌝ }
+{
+    if x < 10 {
+        return 48 + x;
+    }
+    55 + x
+}
+
+// The first n bytes, two digits each.
+fn print_bytes(bytes: &[u8], n: usize) {
+    let mut i = 0;
+    while i < n && i < bytes.len() {
+        let b = bytes[i];
+        io::write_all(1, &[32, digit(b / 16 % 16), digit(b % 16)]);
+        i += 1;
+    }
+}
+
+fn show_record(n: usize, out: &[u8]) {
+    io::write_all(1, b": length ");
+    io::print_decimal(1, n as u64);
+    if n <= 16 {
+        io::write_all(1, b", bytes");
+        print_bytes(out, n);
+        return;
+    }
+    io::write_all(1, b", checksum ");
+    io::print_decimal(1, checksum(out, n) as u64);
+}
+
+fn show_characteristic(x: i32) {
+    io::write_all(1, b": refusal 10, characteristic ");
+    if x == 0 {
+        io::write_all(1, b"0");
+        return;
+    }
+    io::write_all(1, b"not 0");
+}
+
 fn show(name: &[u8], kind: u16, answer: Written, out: &[u8]) {
     io::write_all(1, name);
     io::write_all(1, b", kind ");
     io::print_decimal(1, kind as u64);
     match answer {
         Written::Length(n) => {
-            io::write_all(1, b": length ");
-            io::print_decimal(1, n as u64);
-            io::write_all(1, b", checksum ");
-            io::print_decimal(1, checksum(out, n as usize) as u64);
+            show_record(n as usize, out);
         }
         Written::Refused(number) => {
             io::write_all(1, b": refusal ");
             io::print_decimal(1, number as u64);
         }
         Written::NotPlanar(x) => {
-            io::write_all(1, b": refusal 10");
+            show_characteristic(x);
         }
     }
     io::write_all(1, b"\n");

@@ -4,15 +4,12 @@
 ghost use mathlib.Core.Path.{_≡_};
 ghost use mathlib.Core.Logic.{_≢_};
 ghost use mathlib.Core.Bool.{true};
-ghost use Prim.Native.Nat.{_+_, _*_, _^_, _≤_, _<_};
-ghost use lib.ListN.{length, set, take, drop, replicate};
-ghost use Rattle.model.specs.Numbers.{allBelow};
-ghost use Rattle.model.specs.Shelf.{kindOf, edgesOf, passes};
+ghost use Prim.Native.Nat.{_*_, _^_, _≤_, _<_};
+ghost use lib.ListN.{length, set, replicate};
+ghost use Rattle.model.specs.Shelf.{edgesOf, passes};
 ghost use Rattle.words.specs.Word.{atRoot, decodeWord};
-ghost use Rattle.packing.specs.Unpack.{bits};
-ghost use Rattle.packing.specs.Unlay.{bitsIn, labelsIn, readable};
+ghost use Rattle.packing.specs.Unlay.{bitsIn, labelsIn};
 ghost use Rattle.areas.specs.Area.{region};
-ghost use Rattle.bits.specs.Places.{labelsFrom};
 ghost use Rattle.unpacker.specs.Unpacked.{Head};
 ghost use Rattle.decoder.specs.Decoded.{Decoded, Answered};
 ghost use Rattle.decoder.specs.States.{nextBit, nextLabel, before, Standing, Fits, Room, Ready, Turned, Closed, rootFits};
@@ -274,7 +271,7 @@ fn enter(w: &mut [u16], m: usize, s: State, e: usize) -> State
     }
 }
 
-// A bit that is not 0 was read up to c: a bit and a label more say what begins.
+// A bit that is not 0 was read up to c: a bit and a label more say what begins. Where a tree edge begins, that bit is the next to be read.
 fn descend(bytes: &[u8], m: usize, w: &mut [u16], s: State, c: Cursor) -> Outcome
     requires { ⌜ (passes (now bytes) ≡ true) × (m ≡ edgesOf (now bytes)) ⌝ }
     requires { ⌜ Ready m (bitsIn (now bytes)) (now w) s c × (s .label ≢ 1) ⌝ }
