@@ -1,7 +1,7 @@
 #!/usr/bin/env python3
-"""Makes the planar_code files of this folder, each from a drawing, and beside those that are to be taken the plan that a
-drawing has: its entries counterclockwise, its start the first neighbour that the code lists. Nothing here is shared with
-the tool; the files are kept, so that the tests need not run this."""
+"""Makes the planar_code files of this folder but planarg's own (planarg-*.pc), each from a drawing, and beside those that
+are to be taken the plan that a drawing has: its entries counterclockwise, its start the first neighbour that the code
+lists. Nothing here is shared with the tool; the files are kept, so that the tests need not run this."""
 import math
 import os
 

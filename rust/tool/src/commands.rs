@@ -235,6 +235,11 @@ fn import(words: &[String], report: &mut Report) -> Done {
 
 /// Makes the plan file of a graph that was found at this place, with its name as a comment.
 fn import_one(graph: &Graph, place: &str, name: &str, plan: &Path, force: bool) -> Done {
+    // Too many trails are refused before the parallel ones are joined, which would take long.
+    let darts: usize = graph.iter().map(Vec::len).sum();
+    if darts > 2 * usize::from(jurnadel::MOST_TRAILS) {
+        jurnadel::record_of(&vec![0; darts], 0, 2).map_err(|refusal| Problem::refused(place, refusal))?;
+    }
     let order = planar_code::turning_order(graph).map_err(|untaken| match untaken {
         Untaken::Loop(u) => Problem::Refused(format!("{place}: a loop at junction {}, which no kind takes (refusal 11)", u + 1)),
         Untaken::OneSided(u, v) => {
@@ -245,7 +250,6 @@ fn import_one(graph: &Graph, place: &str, name: &str, plan: &Path, force: bool) 
             format!("planar_code leaves open how the parallel trails of junctions {} and {} are joined", u + 1, v + 1),
         ),
     })?;
-    // A graph too large for 16-bit darts is too large for a plan (refusal 3) all the same.
     let order: Vec<u16> = order.iter().map(|&dart| u16::try_from(dart).unwrap_or(u16::MAX)).collect();
     jurnadel::record_of(&order, 0, 2).map_err(|refusal| Problem::refused(place, refusal))?;
     let comment = format!("{name}: {}, {}", counted(graph.len(), "junction"), counted(order.len() / 2, "trail"));

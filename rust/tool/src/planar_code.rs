@@ -2,7 +2,9 @@
 //!
 //! A header `>>planar_code<<`, `>>planar_code le<<` or `>>planar_code be<<`, then graph after graph: the number of
 //! vertices, then for each vertex its neighbours (numbered from 1) in clockwise order and a 0. Numbers are bytes; a graph that
-//! begins with a byte 0 has two-byte numbers after it, in the header's byte order (`le` where it says none).
+//! begins with a byte 0 has two-byte numbers after it, in the header's byte order. Where the header says none, writers differ
+//! (planarg puts the high byte first): it is the one in which the file can be read. Neighbour 255, which every such graph
+//! has, is above the number of vertices in the wrong order.
 //!
 //! A trail plan turns counterclockwise, so the lists are taken backwards. Edges are numbered as first listed; dart 0, the
 //! start, is the first neighbour of the first vertex.
@@ -20,14 +22,22 @@ pub type Graph = Vec<Vec<usize>>;
 
 /// The graphs of a planar_code file, or what is wrong. Without `header` the bytes begin with the first graph.
 pub fn graphs(bytes: &[u8], header: bool) -> Result<Vec<Graph>, String> {
-    let headers: [(&[u8], bool); 3] =
-        [(b">>planar_code<<", false), (b">>planar_code le<<", false), (b">>planar_code be<<", true)];
-    let (mut rest, big) = if header {
+    let headers: [(&[u8], Option<bool>); 3] =
+        [(b">>planar_code<<", None), (b">>planar_code le<<", Some(false)), (b">>planar_code be<<", Some(true))];
+    let (rest, big) = if header {
         let found = headers.iter().find_map(|&(text, big)| Some((bytes.strip_prefix(text)?, big)));
         found.ok_or("not planar_code: no header >>planar_code<<; see --no-header")?
     } else {
-        (bytes, false)
+        (bytes, None)
     };
+    match big {
+        Some(big) => graphs_in(rest, big),
+        None => graphs_in(rest, true).or_else(|what| graphs_in(rest, false).map_err(|_| what)),
+    }
+}
+
+/// The graphs after a header, two-byte numbers with the high byte first if `big`.
+fn graphs_in(mut rest: &[u8], big: bool) -> Result<Vec<Graph>, String> {
     let mut graphs = Vec::new();
     while !rest.is_empty() {
         let number = graphs.len() + 1;
@@ -210,6 +220,22 @@ mod tests {
         assert!(graphs(&bytes, true).is_err());
         assert!(graphs(&code(&bytes[..9]), true).is_err());
         assert!(graphs(&code(&[2, 3, 0, 1, 0]), true).is_err());
+    }
+
+    #[test]
+    fn either_byte_order_where_the_header_says_none() {
+        // A star of 300 vertices: the first lists all others.
+        let star: Vec<u16> = [300].into_iter().chain(2..=300).chain([0]).chain((2..=300).flat_map(|_| [1, 0])).collect();
+        let numbers = |bytes: fn(u16) -> [u8; 2]| star.iter().flat_map(|&number| bytes(number)).collect::<Vec<u8>>();
+        let (big, little) = (numbers(u16::to_be_bytes), numbers(u16::to_le_bytes));
+        let file = |header: &[u8], numbers: &[u8]| graphs(&[header, &[0], numbers].concat(), true);
+        let wanted = file(b">>planar_code be<<", &big);
+        assert!(wanted.is_ok());
+        assert_eq!(file(b">>planar_code le<<", &little), wanted);
+        assert_eq!(file(b">>planar_code<<", &big), wanted);
+        assert_eq!(file(b">>planar_code<<", &little), wanted);
+        assert!(file(b">>planar_code le<<", &big).is_err());
+        assert_eq!(file(b">>planar_code<<", &big[..big.len() - 1]).unwrap_err(), "graph 1: the file ends within a graph");
     }
 
     #[test]
