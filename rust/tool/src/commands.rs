@@ -4,7 +4,7 @@ use crate::options::{number, Options};
 use crate::plan_file::{self, bytes_of, Plan};
 use crate::planar_code::{self, Graph, Untaken};
 use crate::record_file;
-use crate::report::{Problem, Report};
+use crate::report::{complain, Problem, Report};
 use crate::shelf_file::{self, ShelfFile};
 use std::collections::HashMap;
 use std::io::{IsTerminal as _, Write as _};
@@ -123,7 +123,7 @@ fn shelve(words: &[String], report: &mut Report) -> Done {
             report.flush();
             saved = Instant::now();
             if asked || terminal && !last {
-                eprintln!("{path}: {count} of {}", counted(files.len(), "file"));
+                complain(format!("{path}: {count} of {}", counted(files.len(), "file")));
             }
         }
     }

@@ -52,6 +52,6 @@ fn say(text: &str) -> ExitCode {
 }
 
 fn usage(text: &str) -> ExitCode {
-    eprintln!("jurnadel: {text}; see jurnadel --help");
+    report::complain(format!("jurnadel: {text}; see jurnadel --help"));
     ExitCode::from(report::USAGE)
 }

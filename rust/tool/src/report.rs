@@ -35,6 +35,11 @@ impl Problem {
     }
 }
 
+/// Prints a line to standard error. If that cannot take it the work goes on, and the exit status tells.
+pub fn complain(line: impl Display) {
+    let _ = writeln!(io::stderr(), "{line}");
+}
+
 /// Standard output and the worst status so far.
 pub struct Report {
     output: io::BufWriter<io::Stdout>,
@@ -67,7 +72,7 @@ impl Report {
             Problem::Usage(text) => (text, USAGE),
             Problem::File(text) => (text, FILE),
         };
-        eprintln!("{text}");
+        complain(text);
         self.status = self.status.max(status);
     }
 
@@ -87,7 +92,7 @@ impl Report {
         if let Err(error) = done {
             self.closed = true;
             if error.kind() != io::ErrorKind::BrokenPipe {
-                eprintln!("standard output: {error}");
+                complain(format!("standard output: {error}"));
                 self.status = self.status.max(FILE);
             }
         }

@@ -4,7 +4,7 @@
 //! shelves holds a lock on `SHELF.lock` from before it reads the file until it ends; the lock goes with the process, the
 //! empty lock file stays. Runs that only read need no lock: they find the old file or the new one.
 
-use crate::report::Problem;
+use crate::report::{complain, Problem};
 use jurnadel::Refusal;
 use std::fs::{self, File, TryLockError};
 use std::io::{self, Write as _};
@@ -72,7 +72,7 @@ fn lock(path: &Path) -> io::Result<File> {
     match file.try_lock() {
         Ok(()) => {}
         Err(TryLockError::WouldBlock) => {
-            eprintln!("{}: waiting for another run to end", path.display());
+            complain(format!("{}: waiting for another run to end", path.display()));
             file.lock()?;
         }
         Err(TryLockError::Error(error)) => return Err(error),
