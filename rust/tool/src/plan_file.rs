@@ -1,9 +1,11 @@
 //! Plan files: a plan as text.
 //!
 //! One line `start: DART` and one line of entries, the turning order; `#` begins a comment, blank lines are skipped.
+//! Comments may be in any encoding that has ASCII's bytes.
 
 use crate::report::Problem;
 use jurnadel::Refusal;
+use std::borrow::Cow;
 use std::fmt::Write as _;
 use std::io::Read as _;
 
@@ -20,7 +22,7 @@ impl Plan {
     /// The plan of a file, `-` for standard input.
     pub fn load(path: &str) -> Result<Plan, Problem> {
         let bytes = bytes_of(path)?;
-        let text = String::from_utf8(bytes).map_err(|_| Problem::file(path, "not a plan file: not text"))?;
+        let text = text_of(&bytes).ok_or_else(|| Problem::file(path, "not a plan file: not text"))?;
         Plan::parse(&text).map_err(|(line, what)| Problem::file(format!("{path}:{line}"), what))
     }
 
@@ -28,7 +30,7 @@ impl Plan {
     pub fn parse(text: &str) -> Result<Plan, (usize, String)> {
         let mut start = None;
         let mut order = None;
-        let mut last = 0;
+        let mut last = 1;
         for (number, line) in (1..).zip(text.lines()) {
             last = number;
             let line = line.split('#').next().unwrap_or("").trim();
@@ -75,9 +77,15 @@ impl Plan {
 /// A dart's number. No plan has a dart 65,535, so a larger number is taken as that one: it is refused for the same reason.
 fn entry(word: &str) -> Result<u16, String> {
     if word.is_empty() || !word.bytes().all(|byte| byte.is_ascii_digit()) {
-        return Err(format!("not a number: '{word}'"));
+        return Err(format!("not a number: '{}'", shown(word)));
     }
     Ok(word.parse().unwrap_or(u16::MAX))
+}
+
+/// The beginning of a word of a file, as a terminal can take it.
+fn shown(word: &str) -> String {
+    let more = if word.chars().nth(20).is_some() { ".." } else { "" };
+    format!("{}{more}", word.chars().take(20).flat_map(char::escape_debug).collect::<String>())
 }
 
 /// The text of a plan file, with a comment on its first line.
@@ -88,6 +96,13 @@ pub fn text(comment: &str, order: &[u16], start: u16) -> String {
     }
     text.push('\n');
     text
+}
+
+/// The text of a file's bytes, without a byte order mark, or nothing if they are none. What isn't UTF-8 becomes a character
+/// that no plan or record has, so it can stand in comments.
+pub fn text_of(bytes: &[u8]) -> Option<Cow<'_, str>> {
+    let bytes = bytes.strip_prefix("\u{FEFF}".as_bytes()).unwrap_or(bytes);
+    (!bytes.contains(&0)).then(|| String::from_utf8_lossy(bytes))
 }
 
 /// The bytes of a file, `-` for standard input.
@@ -125,7 +140,20 @@ mod tests {
         assert_eq!(wrong("start:\n0 1\n"), (1, String::from("not a number: ''")));
         assert_eq!(wrong("start: 0\nstart: 0\n0 1\n"), (2, String::from("a second line of start")));
         assert_eq!(wrong("start: 0\n0\n1\n"), (3, String::from("a second line of entries")));
-        assert_eq!(wrong(""), (0, String::from("no line 'start: DART'")));
+        assert_eq!(wrong(""), (1, String::from("no line 'start: DART'")));
+        assert_eq!(wrong("start: \u{1b}[7m\n").1, "not a number: '\\u{1b}[7m'");
+        assert_eq!(wrong(&"x".repeat(1000)).1, format!("not a number: '{}..'", "x".repeat(20)));
+    }
+
+    #[test]
+    fn texts() {
+        let plan = |bytes: &[u8]| Plan::parse(&text_of(bytes).unwrap()).map(|plan| (plan.start, plan.order));
+        let pair = Ok((0, vec![3, 2, 1, 0]));
+        assert_eq!(plan(b"start: 0\r\n3 2 1 0\r\n"), pair);
+        assert_eq!(plan(b"\xEF\xBB\xBFstart: 0\n3 2 1 0"), pair);
+        assert_eq!(plan(b"# S\xFCd, S\xC3\xBCd\nstart: 0\n3 2 1 0 # \xFF\n"), pair);
+        assert_eq!(plan(b"start: 0\n3 2 1 \xFC\n").unwrap_err().0, 2);
+        assert_eq!(text_of(b"\xFF\xFEs\0t\0"), None);
     }
 
     #[test]

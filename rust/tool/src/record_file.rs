@@ -2,7 +2,7 @@
 //!
 //! In text a record is one line of byte pairs, with spaces as one likes; `#` begins a comment, blank lines are skipped.
 
-use crate::plan_file::bytes_of;
+use crate::plan_file::{bytes_of, text_of};
 use crate::report::Problem;
 
 /// The record of a file, `-` for standard input, and the line that it stands in: none where the file is raw.
@@ -11,7 +11,7 @@ pub fn load(path: &str, raw: bool) -> Result<(Vec<u8>, Option<usize>), Problem> 
     if raw {
         return Ok((bytes, None));
     }
-    let text = String::from_utf8(bytes).map_err(|_| Problem::file(path, "not a record in hexadecimal; --raw takes bytes"))?;
+    let text = text_of(&bytes).ok_or_else(|| Problem::file(path, "not a record in hexadecimal; --raw takes bytes"))?;
     let (record, line) = parse(&text).map_err(|(line, what)| Problem::file(format!("{path}:{line}"), what))?;
     Ok((record, Some(line)))
 }
