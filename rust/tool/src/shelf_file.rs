@@ -12,6 +12,8 @@ use std::path::{Path, PathBuf};
 
 /// A shelf file under lock.
 pub struct ShelfFile {
+    /// The name that the user gave, for messages, and the file that it leads to.
+    name: String,
     path: PathBuf,
     /// The used bytes, and the room that was lent to the last call.
     bytes: Vec<u8>,
@@ -30,18 +32,19 @@ pub fn load(path: &str) -> Result<Vec<u8>, Problem> {
 
 impl ShelfFile {
     /// Locks the shelf file and reads it; one that isn't there is empty.
-    pub fn open(path: &str, size: Option<usize>) -> Result<ShelfFile, Problem> {
-        let trouble = |error: io::Error| Problem::file(path, error);
-        // Where the name is a link, the file that it leads to is replaced.
-        let real = fs::canonicalize(path).unwrap_or_else(|_| PathBuf::from(path));
-        let lock = lock(&beside(&real, ".lock")).map_err(trouble)?;
-        let bytes = match fs::read(&real) {
+    pub fn open(name: &str, size: Option<usize>) -> Result<ShelfFile, Problem> {
+        let trouble = |error: io::Error| Problem::file(name, error);
+        let path = led_to(Path::new(name));
+        replaceable(&path).map_err(trouble)?;
+        let lock_path = beside(&path, ".lock");
+        let lock = lock(&lock_path).map_err(|error| Problem::file(lock_path.display(), error))?;
+        let bytes = match fs::read(&path) {
             Ok(bytes) => bytes,
             Err(error) if error.kind() == io::ErrorKind::NotFound => Vec::new(),
             Err(error) => return Err(trouble(error)),
         };
         let used = bytes.len();
-        Ok(ShelfFile { path: real, bytes, used, saved: used, size, _lock: lock })
+        Ok(ShelfFile { name: name.to_string(), path, bytes, used, saved: used, size, _lock: lock })
     }
 
     /// Shelves a record: its number, and whether it is new.
@@ -59,16 +62,41 @@ impl ShelfFile {
     /// Replaces the file, if there is something new.
     pub fn save(&mut self) -> Result<(), Problem> {
         if self.saved < self.used {
-            replace(&self.path, &self.bytes[..self.used]).map_err(|error| Problem::file(self.path.display(), error))?;
+            replace(&self.path, &self.bytes[..self.used]).map_err(|error| Problem::file(&self.name, error))?;
             self.saved = self.used;
         }
         Ok(())
     }
 }
 
-/// Waits for the lock, and says so if it has to.
+/// The file that a name leads to by way of links, whether or not it is there: it is the one to lock and to replace.
+fn led_to(name: &Path) -> PathBuf {
+    fs::canonicalize(name).unwrap_or_else(|_| {
+        let mut path = name.to_path_buf();
+        for _ in 0..40 {
+            match fs::read_link(&path) {
+                Ok(link) => path = folder_of(&path).join(link),
+                Err(_) => break,
+            }
+        }
+        path
+    })
+}
+
+/// Whether a file may be replaced: a regular file that this user may write, or none. A rename alone would ask neither.
+fn replaceable(path: &Path) -> io::Result<()> {
+    match fs::metadata(path) {
+        Ok(found) if found.is_file() => File::options().write(true).open(path).map(drop),
+        Ok(_) => Err(io::Error::other("not a regular file")),
+        Err(error) if error.kind() == io::ErrorKind::NotFound => Ok(()),
+        Err(error) => Err(error),
+    }
+}
+
+/// Waits for the lock, and says so if it has to. A lock file that another user made serves too.
 fn lock(path: &Path) -> io::Result<File> {
-    let file = File::options().create(true).truncate(false).write(true).open(path)?;
+    let made = File::options().create(true).truncate(false).write(true).open(path);
+    let file = made.or_else(|error| File::open(path).map_err(|_| error))?;
     match file.try_lock() {
         Ok(()) => {}
         Err(TryLockError::WouldBlock) => {
@@ -92,7 +120,9 @@ fn replace(path: &Path, content: &[u8]) -> io::Result<()> {
 }
 
 fn write_synced(new: &Path, old: &Path, content: &[u8]) -> io::Result<()> {
-    let mut file = File::create(new)?;
+    // What a run that was killed has left, perhaps another user's.
+    let _ = fs::remove_file(new);
+    let mut file = File::create_new(new)?;
     if let Ok(metadata) = fs::metadata(old) {
         file.set_permissions(metadata.permissions())?;
     }
