@@ -6,7 +6,7 @@ use crate::planar_code::{self, Graph, Untaken};
 use crate::record_file;
 use crate::report::{complain, Problem, Report};
 use crate::shelf_file::{self, ShelfFile};
-use std::collections::HashMap;
+use std::collections::{HashMap, HashSet};
 use std::io::{IsTerminal as _, Write as _};
 use std::path::Path;
 use std::time::{Duration, Instant};
@@ -100,6 +100,7 @@ fn check_one(path: &str, kinds: &[u16]) -> Result<String, Problem> {
 
 fn shelve(words: &[String], report: &mut Report) -> Done {
     let options = Options::parse(words, &["--raw", "--progress"], &["--kind", "--size"])?;
+    options.not_both("--kind", "--raw")?;
     let kind = options.number("--kind")?;
     let size = options.number("--size")?;
     let (path, files) = options.first_and_more("SHELF", "PLAN")?;
@@ -132,6 +133,7 @@ fn shelve(words: &[String], report: &mut Report) -> Done {
 
 fn fetch(words: &[String], report: &mut Report) -> Done {
     let options = Options::parse(words, &["--record", "--raw"], &["-o"])?;
+    options.not_both("--record", "--raw")?;
     let (path, rest) = options.first_and_more("SHELF", "NUMBER")?;
     let [wanted] = rest else {
         return Err(Problem::Usage(format!("one word too many: {}", rest[1])));
@@ -209,6 +211,10 @@ fn import(words: &[String], report: &mut Report) -> Done {
         return Err(Problem::Usage(String::from("FILE is missing")));
     }
     let folder = Path::new(options.value("-d").unwrap_or("."));
+    if !folder.is_dir() {
+        return Err(Problem::file(folder.display(), "not a folder"));
+    }
+    let mut names = HashSet::new();
     for path in &options.words {
         let graphs = bytes_of(path)
             .and_then(|bytes| planar_code::graphs(&bytes, !options.has("--no-header")).map_err(|what| Problem::file(path, what)));
@@ -221,6 +227,10 @@ fn import(words: &[String], report: &mut Report) -> Done {
         };
         let named = if path == "-" { "plan" } else { path };
         let name = Path::new(named).file_stem().unwrap_or_default().to_string_lossy();
+        if !names.insert(name.clone().into_owned()) {
+            report.problem(&Problem::file(path, format!("another file has given the names {name}-1.plan ..")));
+            continue;
+        }
         for (number, graph) in (1..).zip(&graphs) {
             let plan = folder.join(format!("{name}-{number}.plan"));
             let source = format!("graph {number} of {name}");
@@ -257,7 +267,11 @@ fn import_one(graph: &Graph, place: &str, name: &str, plan: &Path, force: bool) 
     let mut open = std::fs::File::options();
     let open = if force { open.create(true).truncate(true) } else { open.create_new(true) };
     let mut file = open.write(true).open(plan).map_err(|error| Problem::file(plan.display(), error))?;
-    file.write_all(text.as_bytes()).map_err(|error| Problem::file(plan.display(), error))
+    file.write_all(text.as_bytes()).map_err(|error| {
+        // Half a plan file would stand in the way of the next run.
+        let _ = std::fs::remove_file(plan);
+        Problem::file(plan.display(), error)
+    })
 }
 
 /// The record of a plan file.

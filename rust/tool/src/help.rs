@@ -46,7 +46,7 @@ Exit status 1 if some plan is taken by no kind.
 ";
 
 const SHELVE: &str = "\
-usage: jurnadel shelve [--kind KIND] [--size BYTES] [--raw] [--progress] SHELF PLAN..
+usage: jurnadel shelve [--kind KIND | --raw] [--size BYTES] [--progress] SHELF PLAN..
 
 Shelves each plan file and prints its number, 'new' or 'already there', and its name. A plan that is refused is
 reported, and the others are shelved. A SHELF that isn't there is made.
@@ -91,9 +91,9 @@ const IMPORT: &str = "\
 usage: jurnadel import [--no-header] [--force] [-d FOLDER] FILE..
 
 Reads planar_code, as plantri and planarg write it, and makes a plan file NAME-1.plan, NAME-2.plan, .. of each graph.
-Prints the name of each. The start is the first neighbour of the first vertex.
+Prints the name of each. The start is the first neighbour of the first vertex. FILE - is standard input, its NAME plan.
 
-  -d FOLDER     put the plan files here; else in the current folder
+  -d FOLDER     put the plan files in this folder, which is there; else in the current one
   --force       replace plan files that are there
   --no-header   the files begin with the first graph
 

@@ -33,7 +33,7 @@ fn main() -> ExitCode {
         ("--help" | "-h" | "help", _) => return say(&help::overview()),
         ("--version", _) => return say(concat!("jurnadel ", env!("CARGO_PKG_VERSION"), "\n")),
         (_, None) => return usage(&format!("no command '{command}'")),
-        (_, Some((_, text))) if rest.iter().any(|word| word == "--help" || word == "-h") => return say(text),
+        (_, Some((_, text))) if asks_for_help(rest) => return say(text),
         _ => {}
     }
     let mut report = Report::new();
@@ -43,6 +43,11 @@ fn main() -> ExitCode {
         Err(problem) => report.problem(&problem),
     }
     report.end()
+}
+
+/// Whether the words, up to `--`, ask for help.
+fn asks_for_help(words: &[String]) -> bool {
+    words.iter().take_while(|&word| word != "--").any(|word| word == "--help" || word == "-h")
 }
 
 fn say(text: &str) -> ExitCode {

@@ -36,6 +36,15 @@ impl Options {
         self.switches.iter().any(|given| given == switch)
     }
 
+    /// Two options, switches or not, of which one at most may be given.
+    pub fn not_both(&self, one: &str, other: &str) -> Result<(), Problem> {
+        let given = |name| self.has(name) || self.value(name).is_some();
+        match given(one) && given(other) {
+            true => Err(Problem::Usage(format!("{one} and {other} don't go together"))),
+            false => Ok(()),
+        }
+    }
+
     /// The value given last for this option.
     pub fn value(&self, name: &str) -> Option<&str> {
         self.values.iter().rev().find(|(given, _)| given == name).map(|(_, value)| value.as_str())

@@ -90,7 +90,7 @@ fn shown(word: &str) -> String {
 
 /// The text of a plan file, with a comment on its first line.
 pub fn text(comment: &str, order: &[u16], start: u16) -> String {
-    let mut text = format!("# {comment}\nstart: {start}\n");
+    let mut text = format!("# {}\nstart: {start}\n", comment.replace(char::is_control, " "));
     for (place, entry) in order.iter().enumerate() {
         let _ = write!(text, "{}{entry}", if place == 0 { "" } else { " " });
     }
@@ -129,6 +129,7 @@ mod tests {
     fn text_is_read_back() {
         let plan = Plan::parse(&text("a pair", &[3, 2, 1, 0], 2)).unwrap();
         assert_eq!((&plan.order[..], plan.start), (&[3, 2, 1, 0][..], 2));
+        assert!(Plan::parse(&text("a\nb\rc", &[3, 2, 1, 0], 2)).is_ok());
     }
 
     #[test]
