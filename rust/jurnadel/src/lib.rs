@@ -47,7 +47,9 @@ fn settle<T>(refusal: u16, characteristic: i32, value: T) -> Result<T, Refusal> 
 /// ```
 /// assert_eq!(jurnadel::work_length(3), 96);
 /// ```
+#[must_use]
 pub fn work_length(trails: u16) -> usize {
+    // SAFETY: no pointer is handed over.
     unsafe { sys::jurnadel_work_length(trails) }
 }
 
@@ -59,7 +61,9 @@ pub fn work_length(trails: u16) -> usize {
 /// assert_eq!(jurnadel::record_length(2, 4096), Some(1850));
 /// assert_eq!(jurnadel::record_length(3, 1), None);
 /// ```
+#[must_use]
 pub fn record_length(kind: u16, trails: u16) -> Option<usize> {
+    // SAFETY: no pointer is handed over.
     match unsafe { sys::jurnadel_record_length(kind, trails) } {
         0 => None,
         length => Some(usize::from(length)),
@@ -68,8 +72,11 @@ pub fn record_length(kind: u16, trails: u16) -> Option<usize> {
 
 /// Writes the record of a plan into the first bytes of `output`, and returns its length.
 ///
-/// `work` has [`work_length`] numbers or more, of any content; it is zeros on return. Meets refusals 2, 3, 4, 6 to 12; a
-/// refused call leaves `output` untouched.
+/// `work` has [`work_length`] numbers or more, of any content; it is zeros on return.
+///
+/// # Errors
+///
+/// Refusals 2, 3, 4, 6 to 12. A refused call leaves `output` untouched.
 ///
 /// ```
 /// let mut work = [0; 64];
@@ -79,6 +86,7 @@ pub fn record_length(kind: u16, trails: u16) -> Option<usize> {
 /// ```
 pub fn write(order: &[u16], start: u16, kind: u16, work: &mut [u16], output: &mut [u8]) -> Result<usize, Refusal> {
     let (mut length, mut characteristic) = (0, 0);
+    // SAFETY: pointers and lengths are those of slices; what is written is borrowed by this call alone.
     let refusal = unsafe {
         sys::jurnadel_write(
             order.as_ptr(),
@@ -98,8 +106,11 @@ pub fn write(order: &[u16], start: u16, kind: u16, work: &mut [u16], output: &mu
 
 /// Reads a record's plan into the first 2m entries of `order`, in standard numbering with start 0, and returns m.
 ///
-/// `work` has [`work_length`] numbers or more, of any content; it is zeros on return. Meets refusals 1, 2, 3, 5, 7, 8, 13;
-/// a refused call leaves `order` untouched.
+/// `work` has [`work_length`] numbers or more, of any content; it is zeros on return.
+///
+/// # Errors
+///
+/// Refusals 1, 2, 3, 5, 7, 8, 13. A refused call leaves `order` untouched.
 ///
 /// ```
 /// let mut work = [0; 64];
@@ -109,6 +120,7 @@ pub fn write(order: &[u16], start: u16, kind: u16, work: &mut [u16], output: &mu
 /// ```
 pub fn read(record: &[u8], work: &mut [u16], order: &mut [u16]) -> Result<usize, Refusal> {
     let mut trails = 0;
+    // SAFETY: as in `write`.
     let refusal = unsafe {
         sys::jurnadel_read(
             record.as_ptr(),
@@ -124,7 +136,7 @@ pub fn read(record: &[u8], work: &mut [u16], order: &mut [u16]) -> Result<usize,
 }
 
 /// The answer of [`shelve()`].
-#[derive(Debug, Clone, Copy, PartialEq, Eq)]
+#[derive(Debug, Clone, Copy, PartialEq, Eq, Hash)]
 pub struct Shelved {
     /// The record's number on the shelf, counting from 0.
     pub number: usize,
@@ -135,7 +147,9 @@ pub struct Shelved {
 /// Shelves a record on the shelf whose first `used` bytes are used: finds the first equal one, or puts it just past the
 /// used bytes.
 ///
-/// Meets refusals 1, 2, 3, 5, 14, 16; a refused call leaves the shelf untouched.
+/// # Errors
+///
+/// Refusals 1, 2, 3, 5, 14, 16. A refused call leaves the shelf untouched.
 ///
 /// ```
 /// let record = jurnadel::record_of(&[0, 1], 0, 2)?;
@@ -147,6 +161,7 @@ pub struct Shelved {
 /// ```
 pub fn shelve(record: &[u8], shelf: &mut [u8], used: usize) -> Result<Shelved, Refusal> {
     let mut shelved = Shelved { number: 0, used };
+    // SAFETY: as in `write`.
     let refusal = unsafe {
         sys::jurnadel_shelve(
             record.as_ptr(),
@@ -163,7 +178,9 @@ pub fn shelve(record: &[u8], shelf: &mut [u8], used: usize) -> Result<Shelved, R
 
 /// Fetches a record: the part of the lent shelf that it is.
 ///
-/// Meets refusals 14, 15.
+/// # Errors
+///
+/// Refusals 14, 15.
 ///
 /// ```
 /// let record = jurnadel::record_of(&[0, 1], 0, 2)?;
@@ -173,6 +190,7 @@ pub fn shelve(record: &[u8], shelf: &mut [u8], used: usize) -> Result<Shelved, R
 /// ```
 pub fn fetch(shelf: &[u8], used: usize, number: usize) -> Result<&[u8], Refusal> {
     let (mut at, mut length) = (0, 0);
+    // SAFETY: as in `write`.
     let refusal = unsafe { sys::jurnadel_fetch(shelf.as_ptr(), shelf.len(), used, number, &mut at, &mut length) };
     settle(refusal, 0, ())?;
     Ok(&shelf[at..at + length])
@@ -180,6 +198,7 @@ pub fn fetch(shelf: &[u8], used: usize, number: usize) -> Result<&[u8], Refusal>
 
 /// A walk along a shelf, made by [`walk()`]; it yields the records, each a part of the lent shelf.
 #[derive(Debug, Clone)]
+#[must_use = "a walk goes only as far as it is asked"]
 pub struct Walk<'a> {
     shelf: &'a [u8],
     used: usize,
@@ -188,6 +207,7 @@ pub struct Walk<'a> {
 
 impl Walk<'_> {
     /// The place of the next record on the shelf, in bytes.
+    #[must_use]
     pub fn place(&self) -> usize {
         self.at
     }
@@ -198,6 +218,7 @@ impl<'a> Iterator for Walk<'a> {
 
     fn next(&mut self) -> Option<&'a [u8]> {
         let Walk { shelf, used, at } = *self;
+        // SAFETY: as in `write`.
         let length = unsafe { sys::jurnadel_walk_step(shelf.as_ptr(), shelf.len(), used, at) };
         if length == 0 {
             return None;
@@ -211,7 +232,9 @@ impl std::iter::FusedIterator for Walk<'_> {}
 
 /// Begins a walk at a record of this number.
 ///
-/// Meets refusals 14, 15; so a walk from the number just past the last record is 15.
+/// # Errors
+///
+/// Refusals 14, 15; so a walk from the number just past the last record is 15.
 ///
 /// ```
 /// let pair = jurnadel::record_of(&[3, 2, 1, 0], 0, 1)?;
@@ -223,6 +246,7 @@ impl std::iter::FusedIterator for Walk<'_> {}
 /// ```
 pub fn walk(shelf: &[u8], used: usize, number: usize) -> Result<Walk<'_>, Refusal> {
     let mut at = 0;
+    // SAFETY: as in `write`.
     let refusal = unsafe { sys::jurnadel_walk_begin(shelf.as_ptr(), shelf.len(), used, number, &mut at) };
     settle(refusal, 0, Walk { shelf, used, at })
 }
@@ -250,6 +274,10 @@ fn trails_of(order: &[u16]) -> u16 {
 
 /// The record of a plan, by [`write()`] with buffers of its own.
 ///
+/// # Errors
+///
+/// Refusals 2, 3, 4, 6, 9 to 12.
+///
 /// ```
 /// assert_eq!(jurnadel::record_of(&[0, 1], 0, 2)?, [0x08, 0, 0x02, 0, 0x01, 0, 0x80, 0xA2]);
 /// assert_eq!(jurnadel::record_of(&[0, 1], 0, 1).unwrap_err().number(), 12);
@@ -266,6 +294,10 @@ pub fn record_of(order: &[u16], start: u16, kind: u16) -> Result<Vec<u8>, Refusa
 }
 
 /// The turning order of a record's plan, in standard numbering with start 0, by [`read()`] with buffers of its own.
+///
+/// # Errors
+///
+/// Refusals 1, 2, 3, 5, 13.
 ///
 /// ```
 /// let order = jurnadel::plan_of(&[0x08, 0, 0x01, 0, 0x03, 0, 0xE2, 0x00])?;

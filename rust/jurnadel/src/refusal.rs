@@ -30,7 +30,7 @@ const MEANINGS: [&str; 16] = [
 /// assert_eq!(refusal.characteristic(), Some(0));
 /// assert_eq!(refusal.to_string(), "refusal 10: It is not planar. Its characteristic is 0.");
 /// ```
-#[derive(Debug, Clone, Copy, PartialEq, Eq)]
+#[derive(Debug, Clone, Copy, PartialEq, Eq, Hash)]
 pub struct Refusal {
     number: u16,
     characteristic: i32,
@@ -43,17 +43,20 @@ impl Refusal {
     }
 
     /// Its number, 1 to 16.
+    #[must_use]
     pub fn number(self) -> u16 {
         self.number
     }
 
     /// What it means, in document 01's words.
+    #[must_use]
     pub fn meaning(self) -> &'static str {
         let place = usize::from(self.number).wrapping_sub(1);
         MEANINGS.get(place).copied().unwrap_or("Not in the list of refusals.")
     }
 
     /// Of refusal 10: junctions minus trails plus areas.
+    #[must_use]
     pub fn characteristic(self) -> Option<i32> {
         (self.number == 10).then_some(self.characteristic)
     }

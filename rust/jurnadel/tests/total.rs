@@ -1,0 +1,116 @@
+//! Every safe function on arbitrary content and lengths: none panics, each meets the refusals of its list only, and what is
+//! not refused is as long as it says.
+
+use jurnadel::Refusal;
+
+/// A sequence of numbers that look random.
+struct Numbers(u64);
+
+impl Numbers {
+    fn below(&mut self, bound: usize) -> usize {
+        self.0 ^= self.0 << 13;
+        self.0 ^= self.0 >> 7;
+        self.0 ^= self.0 << 17;
+        (self.0 >> 20) as usize % bound
+    }
+
+    /// Mostly a number below the bound, sometimes any.
+    fn mostly(&mut self, bound: usize) -> usize {
+        if self.below(20) == 0 {
+            self.0 as usize
+        } else {
+            self.below(bound)
+        }
+    }
+
+    fn bytes(&mut self, length: usize) -> Vec<u8> {
+        (0..length).map(|_| self.below(256) as u8).collect()
+    }
+
+    /// A turning order, most often of all darts in some order.
+    fn order(&mut self) -> Vec<u16> {
+        let darts = 2 * self.below(5) + self.below(15) / 14;
+        let mut order: Vec<u16> = (0..darts as u16).collect();
+        for last in (1..darts).rev() {
+            order.swap(last, self.below(last + 1));
+        }
+        if self.below(10) == 0 {
+            order.fill_with(|| self.mostly(10) as u16);
+        }
+        order
+    }
+
+    /// A plan's record, or bytes with the head of one; now and then a bit is turned, or it is cut.
+    fn record(&mut self) -> Vec<u8> {
+        let (kind, trails) = (1 + self.below(2) as u16, 1 + self.below(4) as u16);
+        let length = jurnadel::record_length(kind, trails).unwrap_or(0);
+        let mut record = self.bytes(length);
+        for (place, field) in [length as u16, kind, trails].into_iter().enumerate() {
+            record[2 * place..][..2].copy_from_slice(&field.to_le_bytes());
+        }
+        record = jurnadel::record_of(&self.order(), 0, kind).unwrap_or(record);
+        if self.below(5) == 0 {
+            let place = self.below(record.len());
+            record[place] ^= 1 << self.below(8);
+        }
+        if self.below(20) == 0 {
+            record.truncate(self.below(9));
+        }
+        record
+    }
+}
+
+fn met<T>(answer: Result<T, Refusal>, list: &[u16]) -> Option<T> {
+    answer.map_err(|refusal| assert!(list.contains(&refusal.number()), "{refusal} is not in {list:?}")).ok()
+}
+
+#[test]
+fn plans_and_records() {
+    let mut numbers = Numbers(2026);
+    let (mut written, mut read) = (0, 0);
+    for _ in 0..20_000 {
+        let (order, start, kind) = (numbers.order(), numbers.mostly(4) as u16, 1 + numbers.mostly(2) as u16);
+        let (mut work, mut output) = (vec![7; numbers.below(200)], vec![7; numbers.below(14)]);
+        let answer = jurnadel::write(&order, start, kind, &mut work, &mut output);
+        met(answer, &[2, 3, 4, 6, 7, 8, 9, 10, 11, 12]);
+        assert!(work.iter().all(|&number| number == 0));
+        assert!(output[answer.unwrap_or(0)..].iter().all(|&byte| byte == 7));
+        if let Some(record) = met(jurnadel::record_of(&order, start, kind), &[2, 3, 4, 6, 9, 10, 11, 12]) {
+            assert_eq!(jurnadel::plan_of(&record).map(|plan| plan.len()), Ok(order.len()));
+            written += 1;
+        }
+        let (record, mut order) = (numbers.record(), vec![9; numbers.below(12)]);
+        let answer = jurnadel::read(&record, &mut work, &mut order);
+        met(answer, &[1, 2, 3, 5, 7, 8, 13]);
+        assert!(order[2 * answer.unwrap_or(0)..].iter().all(|&entry| entry == 9));
+        if let Some(order) = met(jurnadel::plan_of(&record), &[1, 2, 3, 5, 13]) {
+            assert_eq!(jurnadel::record_of(&order, 0, u16::from(record[2])), Ok(record));
+            read += 1;
+        }
+    }
+    assert!(written > 100 && read > 100, "{written} written, {read} read");
+}
+
+#[test]
+fn shelves() {
+    let mut numbers = Numbers(1105);
+    let mut shelved = 0;
+    for _ in 0..20_000 {
+        let record = numbers.record();
+        let mut shelf: Vec<u8> = (0..numbers.below(3)).flat_map(|_| numbers.record()).collect();
+        let used = if numbers.below(4) == 0 { numbers.mostly(30) } else { shelf.len() };
+        shelf.resize(shelf.len() + numbers.below(20), 7);
+        let mut after = shelf.clone();
+        if let Some(answer) = met(jurnadel::shelve(&record, &mut after, used), &[1, 2, 3, 5, 14, 16]) {
+            assert_eq!(jurnadel::fetch(&after, answer.used, answer.number), Ok(&record[..]));
+            shelved += 1;
+        }
+        let (number, at) = (numbers.mostly(4), numbers.mostly(40));
+        met(jurnadel::fetch(&shelf, used, number), &[14, 15]);
+        if let Some(walk) = met(jurnadel::walk(&shelf, used, number), &[14, 15]) {
+            assert_eq!(walk.map(<[u8]>::len).sum::<usize>(), used - jurnadel::walk(&shelf, used, number).unwrap().place());
+        }
+        assert!(jurnadel::walk_from(&shelf, used, at).all(|record| record.len() >= 6));
+    }
+    assert!(shelved > 100, "{shelved} shelved");
+}
