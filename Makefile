@@ -6,6 +6,7 @@ DESTDIR ?=
 VERSION := 0.1.0
 PROVED := $(CURDIR)/target/staticlib
 export JURNADEL_LIB_DIR ?= $(PROVED)
+override JURNADEL_LIB_DIR := $(abspath $(JURNADEL_LIB_DIR))
 LIBRARY := $(JURNADEL_LIB_DIR)/libjurnadel.a
 CARGO_FLAGS := --release --offline --quiet --manifest-path rust/Cargo.toml --target-dir build/rust
 TOOL := build/rust/release/jurnadel

@@ -1,4 +1,4 @@
-//! Links libjurnadel.a from the folder JURNADEL_LIB_DIR, or from target/staticlib at the top of the tree.
+//! Links `libjurnadel.a` from the folder `JURNADEL_LIB_DIR`, or from target/staticlib at the top of the tree.
 
 use std::env;
 use std::path::PathBuf;
@@ -9,6 +9,12 @@ fn main() {
         Some(folder) => PathBuf::from(folder),
         None => PathBuf::from(env::var_os("CARGO_MANIFEST_DIR").unwrap_or_default()).join("../../target/staticlib"),
     };
+    if folder.is_relative() {
+        println!(
+            "cargo:warning=JURNADEL_LIB_DIR={}: give the full path, since this is looked up from another folder",
+            folder.display()
+        );
+    }
     let archive = folder.join("libjurnadel.a");
     println!("cargo:rerun-if-changed={}", archive.display());
     if !archive.exists() {
