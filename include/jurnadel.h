@@ -3,7 +3,8 @@
  *
  * Link with libjurnadel.a (x86-64). The library has no state and no heap, and calls
  * nothing but memset, which the compiler makes of loops: it is re-entrant and can be
- * linked into firmware that supplies this one function.
+ * linked into firmware that supplies this one function. A call takes less than 2 KiB of
+ * stack, beside memset's.
  *
  * Words. A trail is an edge, a trail end a dart, a junction a vertex, an area a face.
  * A plan has m trails and 2m darts; darts 2e and 2e+1 are the two ends of trail e. The
