@@ -1,12 +1,13 @@
 //! What each command does.
 
-use crate::options::{number, Options};
+use crate::options::{number, Options, Word};
 use crate::plan_file::{self, bytes_of, Plan};
 use crate::planar_code::{self, Graph, Untaken};
 use crate::record_file;
 use crate::report::{complain, Problem, Report};
 use crate::shelf_file::{self, ShelfFile};
 use std::collections::{HashMap, HashSet};
+use std::ffi::OsString;
 use std::io::{IsTerminal as _, Write as _};
 use std::path::Path;
 use std::time::{Duration, Instant};
@@ -16,7 +17,7 @@ const BETWEEN_SAVES: Duration = Duration::from_secs(1);
 
 type Done = Result<(), Problem>;
 
-pub fn run(command: &str, words: &[String], report: &mut Report) -> Done {
+pub fn run(command: &str, words: &[Word], report: &mut Report) -> Done {
     match command {
         "write" => write(words, report),
         "read" => read(words, report),
@@ -30,7 +31,7 @@ pub fn run(command: &str, words: &[String], report: &mut Report) -> Done {
     }
 }
 
-fn write(words: &[String], report: &mut Report) -> Done {
+fn write(words: &[Word], report: &mut Report) -> Done {
     let options = Options::parse(words, &["--raw"], &["--kind", "-o"])?;
     let kind = options.number("--kind")?;
     if options.words.is_empty() {
@@ -50,16 +51,17 @@ fn write(words: &[String], report: &mut Report) -> Done {
     put_out(&options, &output, report)
 }
 
-fn read(words: &[String], report: &mut Report) -> Done {
+fn read(words: &[Word], report: &mut Report) -> Done {
     let options = Options::parse(words, &["--raw"], &["-o"])?;
-    let path = if options.words.is_empty() { "-" } else { options.only("RECORD")? };
+    let input = Word::from(OsString::from("-"));
+    let path = if options.words.is_empty() { &input } else { options.only("RECORD")? };
     let (record, line) = record_file::load(path, options.has("--raw"))?;
     let place = line.map_or(path.to_string(), |line| format!("{path}:{line}"));
     let text = plan_text(&record).map_err(|refusal| Problem::refused(place, refusal))?;
     put_out(&options, text.as_bytes(), report)
 }
 
-fn check(words: &[String], report: &mut Report) -> Done {
+fn check(words: &[Word], report: &mut Report) -> Done {
     let options = Options::parse(words, &[], &["--kind"])?;
     let kinds = options.number("--kind")?.map_or(vec![1, 2], |kind: u16| vec![kind]);
     if options.words.is_empty() {
@@ -75,7 +77,7 @@ fn check(words: &[String], report: &mut Report) -> Done {
 }
 
 /// What the kinds say of a plan, or the last one's refusal if none takes it.
-fn check_one(path: &str, kinds: &[u16]) -> Result<String, Problem> {
+fn check_one(path: &Word, kinds: &[u16]) -> Result<String, Problem> {
     let plan = Plan::load(path)?;
     let mut line = format!("{path}: {}", counted(plan.order.len() / 2, "trail"));
     let mut last_refusal = None;
@@ -98,7 +100,7 @@ fn check_one(path: &str, kinds: &[u16]) -> Result<String, Problem> {
     }
 }
 
-fn shelve(words: &[String], report: &mut Report) -> Done {
+fn shelve(words: &[Word], report: &mut Report) -> Done {
     let options = Options::parse(words, &["--raw", "--progress"], &["--kind", "--size"])?;
     options.not_both("--kind", "--raw")?;
     let kind = options.number("--kind")?;
@@ -131,7 +133,7 @@ fn shelve(words: &[String], report: &mut Report) -> Done {
     Ok(())
 }
 
-fn fetch(words: &[String], report: &mut Report) -> Done {
+fn fetch(words: &[Word], report: &mut Report) -> Done {
     let options = Options::parse(words, &["--record", "--raw"], &["-o"])?;
     options.not_both("--record", "--raw")?;
     let (path, rest) = options.first_and_more("SHELF", "NUMBER")?;
@@ -151,7 +153,7 @@ fn fetch(words: &[String], report: &mut Report) -> Done {
     }
 }
 
-fn list(words: &[String], report: &mut Report) -> Done {
+fn list(words: &[Word], report: &mut Report) -> Done {
     let options = Options::parse(words, &[], &["--from"])?;
     let from = options.number("--from")?;
     let path = options.only("SHELF")?;
@@ -172,7 +174,7 @@ fn list(words: &[String], report: &mut Report) -> Done {
     Ok(())
 }
 
-fn verify(words: &[String], report: &mut Report) -> Done {
+fn verify(words: &[Word], report: &mut Report) -> Done {
     let options = Options::parse(words, &[], &[])?;
     let path = options.only("SHELF")?;
     let shelf = shelf_file::load(path)?;
@@ -205,12 +207,12 @@ fn verify(words: &[String], report: &mut Report) -> Done {
     Ok(())
 }
 
-fn import(words: &[String], report: &mut Report) -> Done {
+fn import(words: &[Word], report: &mut Report) -> Done {
     let options = Options::parse(words, &["--no-header", "--force"], &["-d"])?;
     if options.words.is_empty() {
         return Err(Problem::Usage(String::from("FILE is missing")));
     }
-    let folder = Path::new(options.value("-d").unwrap_or("."));
+    let folder = options.value("-d").map_or(Path::new("."), Word::as_ref);
     if !folder.is_dir() {
         return Err(Problem::file(folder.display(), "not a folder"));
     }
@@ -225,8 +227,8 @@ fn import(words: &[String], report: &mut Report) -> Done {
                 continue;
             }
         };
-        let named = if path == "-" { "plan" } else { path };
-        let name = Path::new(named).file_stem().unwrap_or_default().to_string_lossy();
+        let named = if path.is_input() { Path::new("plan") } else { path.as_ref() };
+        let name = named.file_stem().unwrap_or_default().to_string_lossy();
         if !names.insert(name.clone().into_owned()) {
             report.problem(&Problem::file(path, format!("another file has given the names {name}-1.plan ..")));
             continue;
@@ -275,13 +277,13 @@ fn import_one(graph: &Graph, place: &str, name: &str, plan: &Path, force: bool) 
 }
 
 /// The record of a plan file.
-fn record_of(path: &str, kind: Option<u16>) -> Result<Vec<u8>, Problem> {
+fn record_of(path: &Word, kind: Option<u16>) -> Result<Vec<u8>, Problem> {
     let plan = Plan::load(path)?;
     plan.record(kind).map_err(|refusal| refused(path, &plan, refusal))
 }
 
 /// A refusal of a plan, with file and line.
-fn refused(path: &str, plan: &Plan, refusal: jurnadel::Refusal) -> Problem {
+fn refused(path: &Word, plan: &Plan, refusal: jurnadel::Refusal) -> Problem {
     Problem::refused(format!("{path}:{}", plan.line_of(refusal)), refusal)
 }
 

@@ -17,22 +17,21 @@ mod record_file;
 mod report;
 mod shelf_file;
 
+use options::Word;
 use report::{Problem, Report};
 use std::process::ExitCode;
 
 fn main() -> ExitCode {
-    let words: Vec<String> = match std::env::args_os().skip(1).map(|word| word.into_string()).collect() {
-        Ok(words) => words,
-        Err(word) => return usage(&format!("not UTF-8: {word:?}")),
-    };
-    let Some((command, rest)) = words.split_first() else {
+    let words: Vec<Word> = std::env::args_os().skip(1).map(Word::from).collect();
+    let Some((word, rest)) = words.split_first() else {
         return usage("no command");
     };
-    let known = help::COMMANDS.iter().find(|(name, _)| name == command);
-    match (command.as_str(), known) {
+    let command = word.text().unwrap_or_default();
+    let known = help::COMMANDS.iter().find(|&&(name, _)| name == command);
+    match (command, known) {
         ("--help" | "-h" | "help", _) => return say(&help::overview()),
         ("--version", _) => return say(concat!("jurnadel ", env!("CARGO_PKG_VERSION"), "\n")),
-        (_, None) => return usage(&format!("no command '{command}'")),
+        (_, None) => return usage(&format!("no command '{word}'")),
         (_, Some((_, text))) if asks_for_help(rest) => return say(text),
         _ => {}
     }
@@ -46,8 +45,8 @@ fn main() -> ExitCode {
 }
 
 /// Whether the words, up to `--`, ask for help.
-fn asks_for_help(words: &[String]) -> bool {
-    words.iter().take_while(|&word| word != "--").any(|word| word == "--help" || word == "-h")
+fn asks_for_help(words: &[Word]) -> bool {
+    words.iter().map(Word::text).take_while(|&word| word != Some("--")).any(|word| matches!(word, Some("--help" | "-h")))
 }
 
 fn say(text: &str) -> ExitCode {

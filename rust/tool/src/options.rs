@@ -1,32 +1,71 @@
 //! The words after a command: options, then files and numbers.
 
 use crate::report::Problem;
+use std::ffi::OsString;
+use std::fmt;
+use std::path::Path;
+
+/// A word of the command line. It may name a file, in whatever encoding names have; it is shown as well as it can be.
+#[derive(Debug, Clone)]
+pub struct Word(OsString);
+
+impl Word {
+    /// The word as text; nothing where it isn't UTF-8.
+    pub fn text(&self) -> Option<&str> {
+        self.0.to_str()
+    }
+
+    /// Whether it stands for standard input.
+    pub fn is_input(&self) -> bool {
+        self.0 == "-"
+    }
+
+    fn is_option(&self) -> bool {
+        self.0.as_encoded_bytes().starts_with(b"-") && !self.is_input()
+    }
+}
+
+impl From<OsString> for Word {
+    fn from(word: OsString) -> Word {
+        Word(word)
+    }
+}
+
+impl AsRef<Path> for Word {
+    fn as_ref(&self) -> &Path {
+        self.0.as_ref()
+    }
+}
+
+impl fmt::Display for Word {
+    fn fmt(&self, f: &mut fmt::Formatter<'_>) -> fmt::Result {
+        self.0.display().fmt(f)
+    }
+}
 
 /// The words of one command line, taken apart.
 pub struct Options {
     switches: Vec<String>,
-    values: Vec<(String, String)>,
+    values: Vec<(String, Word)>,
     /// What is left: files and numbers, in order.
-    pub words: Vec<String>,
+    pub words: Vec<Word>,
 }
 
 impl Options {
     /// Takes the words apart. `switches` stand alone, `valued` have a word after them. After `--` no word is an option.
-    pub fn parse(words: &[String], switches: &[&str], valued: &[&str]) -> Result<Options, Problem> {
+    pub fn parse(words: &[Word], switches: &[&str], valued: &[&str]) -> Result<Options, Problem> {
         let mut options = Options { switches: Vec::new(), values: Vec::new(), words: Vec::new() };
         let mut rest = words.iter();
         while let Some(word) = rest.next() {
-            if word == "--" {
-                options.words.extend(rest.by_ref().cloned());
-            } else if switches.contains(&word.as_str()) {
-                options.switches.push(word.clone());
-            } else if valued.contains(&word.as_str()) {
-                let value = rest.next().ok_or_else(|| Problem::Usage(format!("{word} needs a word after it")))?;
-                options.values.push((word.clone(), value.clone()));
-            } else if word.starts_with('-') && word != "-" {
-                return Err(Problem::Usage(format!("no option {word}")));
-            } else {
-                options.words.push(word.clone());
+            match word.text() {
+                Some("--") => options.words.extend(rest.by_ref().cloned()),
+                Some(name) if switches.contains(&name) => options.switches.push(name.to_string()),
+                Some(name) if valued.contains(&name) => {
+                    let value = rest.next().ok_or_else(|| Problem::Usage(format!("{name} needs a word after it")))?;
+                    options.values.push((name.to_string(), value.clone()));
+                }
+                _ if word.is_option() => return Err(Problem::Usage(format!("no option {word}"))),
+                _ => options.words.push(word.clone()),
             }
         }
         Ok(options)
@@ -46,8 +85,8 @@ impl Options {
     }
 
     /// The value given last for this option.
-    pub fn value(&self, name: &str) -> Option<&str> {
-        self.values.iter().rev().find(|(given, _)| given == name).map(|(_, value)| value.as_str())
+    pub fn value(&self, name: &str) -> Option<&Word> {
+        self.values.iter().rev().find(|(given, _)| given == name).map(|(_, value)| value)
     }
 
     /// As [`Options::value`], a number.
@@ -56,7 +95,7 @@ impl Options {
     }
 
     /// The first word and the others, at least one.
-    pub fn first_and_more(&self, first: &str, more: &str) -> Result<(&str, &[String]), Problem> {
+    pub fn first_and_more(&self, first: &str, more: &str) -> Result<(&Word, &[Word]), Problem> {
         match self.words.split_first() {
             None => Err(Problem::Usage(format!("{first} is missing"))),
             Some((_, [])) => Err(Problem::Usage(format!("{more} is missing"))),
@@ -65,7 +104,7 @@ impl Options {
     }
 
     /// The only word.
-    pub fn only(&self, name: &str) -> Result<&str, Problem> {
+    pub fn only(&self, name: &str) -> Result<&Word, Problem> {
         match &self.words[..] {
             [word] => Ok(word),
             [] => Err(Problem::Usage(format!("{name} is missing"))),
@@ -75,6 +114,8 @@ impl Options {
 }
 
 /// A number in decimal digits.
-pub fn number<T: std::str::FromStr>(word: &str, name: &str) -> Result<T, Problem> {
-    word.parse().map_err(|_| Problem::Usage(format!("{name}: not a number that fits: {word}")))
+pub fn number<T: std::str::FromStr>(word: &Word, name: &str) -> Result<T, Problem> {
+    let digits = word.text().filter(|text| text.bytes().all(|byte| byte.is_ascii_digit()));
+    let number = digits.and_then(|text| text.parse().ok());
+    number.ok_or_else(|| Problem::Usage(format!("{name}: not a number that fits: {word}")))
 }

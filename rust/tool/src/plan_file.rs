@@ -3,6 +3,7 @@
 //! One line `start: DART` and one line of entries, the turning order; `#` begins a comment, blank lines are skipped.
 //! Comments may be in any encoding that has ASCII's bytes.
 
+use crate::options::Word;
 use crate::report::Problem;
 use jurnadel::Refusal;
 use std::borrow::Cow;
@@ -20,7 +21,7 @@ pub struct Plan {
 
 impl Plan {
     /// The plan of a file, `-` for standard input.
-    pub fn load(path: &str) -> Result<Plan, Problem> {
+    pub fn load(path: &Word) -> Result<Plan, Problem> {
         let bytes = bytes_of(path)?;
         let text = text_of(&bytes).ok_or_else(|| Problem::file(path, "not a plan file: not text"))?;
         Plan::parse(&text).map_err(|(line, what)| Problem::file(format!("{path}:{line}"), what))
@@ -106,8 +107,8 @@ pub fn text_of(bytes: &[u8]) -> Option<Cow<'_, str>> {
 }
 
 /// The bytes of a file, `-` for standard input.
-pub fn bytes_of(path: &str) -> Result<Vec<u8>, Problem> {
-    if path == "-" {
+pub fn bytes_of(path: &Word) -> Result<Vec<u8>, Problem> {
+    if path.is_input() {
         let mut bytes = Vec::new();
         let read = std::io::stdin().lock().read_to_end(&mut bytes);
         return read.map(|_| bytes).map_err(|error| Problem::file("standard input", error));

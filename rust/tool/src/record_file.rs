@@ -2,11 +2,12 @@
 //!
 //! In text a record is one line of byte pairs, with spaces as one likes; `#` begins a comment, blank lines are skipped.
 
+use crate::options::Word;
 use crate::plan_file::{bytes_of, text_of};
 use crate::report::Problem;
 
 /// The record of a file, `-` for standard input, and the line that it stands in: none where the file is raw.
-pub fn load(path: &str, raw: bool) -> Result<(Vec<u8>, Option<usize>), Problem> {
+pub fn load(path: &Word, raw: bool) -> Result<(Vec<u8>, Option<usize>), Problem> {
     let bytes = bytes_of(path)?;
     if raw {
         return Ok((bytes, None));

@@ -4,6 +4,7 @@
 //! shelves holds a lock on `SHELF.lock` from before it reads the file until it ends; the lock goes with the process, the
 //! empty lock file stays. Runs that only read need no lock: they find the old file or the new one.
 
+use crate::options::Word;
 use crate::report::{complain, Problem};
 use jurnadel::Refusal;
 use std::fs::{self, File, TryLockError};
@@ -13,7 +14,7 @@ use std::path::{Path, PathBuf};
 /// A shelf file under lock.
 pub struct ShelfFile {
     /// The name that the user gave, for messages, and the file that it leads to.
-    name: String,
+    name: Word,
     path: PathBuf,
     /// The used bytes, and the room that was lent to the last call.
     bytes: Vec<u8>,
@@ -26,15 +27,15 @@ pub struct ShelfFile {
 }
 
 /// The used bytes of a shelf file.
-pub fn load(path: &str) -> Result<Vec<u8>, Problem> {
+pub fn load(path: &Word) -> Result<Vec<u8>, Problem> {
     fs::read(path).map_err(|error| Problem::file(path, error))
 }
 
 impl ShelfFile {
     /// Locks the shelf file and reads it; one that isn't there is empty.
-    pub fn open(name: &str, size: Option<usize>) -> Result<ShelfFile, Problem> {
+    pub fn open(name: &Word, size: Option<usize>) -> Result<ShelfFile, Problem> {
         let trouble = |error: io::Error| Problem::file(name, error);
-        let path = led_to(Path::new(name));
+        let path = led_to(name.as_ref());
         replaceable(&path).map_err(trouble)?;
         let lock_path = beside(&path, ".lock");
         let lock = lock(&lock_path).map_err(|error| Problem::file(lock_path.display(), error))?;
@@ -44,7 +45,7 @@ impl ShelfFile {
             Err(error) => return Err(trouble(error)),
         };
         let used = bytes.len();
-        Ok(ShelfFile { name: name.to_string(), path, bytes, used, saved: used, size, _lock: lock })
+        Ok(ShelfFile { name: name.clone(), path, bytes, used, saved: used, size, _lock: lock })
     }
 
     /// Shelves a record: its number, and whether it is new.
