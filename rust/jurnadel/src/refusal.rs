@@ -2,31 +2,51 @@
 
 use std::fmt;
 
-/// What each refusal means, in document 01's words; refusal n is entry n - 1.
-const MEANINGS: [&str; 16] = [
-    "The record has fewer than 6 bytes, or its length field isn't the number of bytes lent.",
-    "The kind is not 1 or 2.",
-    "The dart count is 0, odd or above 8,192; in a record, m is 0 or above 4,096.",
-    "The start is not below the dart count.",
-    "The length is not the one for this kind and m.",
-    "An entry of the turning order is not below the dart count, or two entries are equal.",
-    "The work area (16-bit numbers) is shorter than 32 x m.",
-    "The output is shorter than the record, or than 2m entries.",
-    "The plan is not connected.",
-    "It is not planar.",
-    "It has a loop.",
-    "Kind 1, and a junction has degree one.",
-    "No fit plan of this kind has this record.",
-    "The used length exceeds the shelf, or the used bytes are not records end to end that each pass 1, 2, 3 and 5.",
-    "The shelf holds no record with this number, counting from 0.",
-    "The record isn't on the shelf and exceeds the bytes past the used length.",
-];
+/// Makes the constants of the refusals, by the names that `jurnadel.h` has for them, and `meaning_of`.
+macro_rules! refusals {
+    ($($name:ident = $number:literal: $meaning:literal,)*) => {
+        /// The numbers.
+        impl Refusal {
+            $(#[doc = $meaning] pub const $name: u16 = $number;)*
+        }
+
+        /// What each refusal means, in document 01's words.
+        fn meaning_of(number: u16) -> &'static str {
+            match number {
+                $($number => $meaning,)*
+                _ => "Not in the list of refusals.",
+            }
+        }
+
+        #[cfg(test)]
+        const NAMES: &[(&str, u16)] = &[$((stringify!($name), $number)),*];
+    };
+}
+
+refusals! {
+    RECORD_CUT = 1: "The record has fewer than 6 bytes, or its length field isn't the number of bytes lent.",
+    KIND = 2: "The kind is not 1 or 2.",
+    COUNT = 3: "The dart count is 0, odd or above 8,192; in a record, m is 0 or above 4,096.",
+    START = 4: "The start is not below the dart count.",
+    LENGTH = 5: "The length is not the one for this kind and m.",
+    ENTRY = 6: "An entry of the turning order is not below the dart count, or two entries are equal.",
+    WORK_AREA = 7: "The work area (16-bit numbers) is shorter than 32 x m.",
+    OUTPUT = 8: "The output is shorter than the record, or than 2m entries.",
+    NOT_CONNECTED = 9: "The plan is not connected.",
+    NOT_PLANAR = 10: "It is not planar.",
+    LOOP = 11: "It has a loop.",
+    DEGREE_ONE = 12: "Kind 1, and a junction has degree one.",
+    NO_FIT_PLAN = 13: "No fit plan of this kind has this record.",
+    SHELF_BROKEN = 14: "The used length exceeds the shelf, or the used bytes are not records end to end that each pass 1, 2, 3 and 5.",
+    NO_SUCH_RECORD = 15: "The shelf holds no record with this number, counting from 0.",
+    SHELF_FULL = 16: "The record isn't on the shelf and exceeds the bytes past the used length.",
+}
 
 /// A refusal: its number in document 01 and, of refusal 10, the characteristic.
 ///
 /// ```
 /// let refusal = jurnadel::record_of(&[3, 2, 4, 5, 1, 0], 0, 2).unwrap_err();
-/// assert_eq!(refusal.number(), 10);
+/// assert_eq!(refusal.number(), jurnadel::Refusal::NOT_PLANAR);
 /// assert_eq!(refusal.characteristic(), Some(0));
 /// assert_eq!(refusal.to_string(), "refusal 10: It is not planar. Its characteristic is 0.");
 /// ```
@@ -51,14 +71,13 @@ impl Refusal {
     /// What it means, in document 01's words.
     #[must_use]
     pub fn meaning(self) -> &'static str {
-        let place = usize::from(self.number).wrapping_sub(1);
-        MEANINGS.get(place).copied().unwrap_or("Not in the list of refusals.")
+        meaning_of(self.number)
     }
 
     /// Of refusal 10: junctions minus trails plus areas.
     #[must_use]
     pub fn characteristic(self) -> Option<i32> {
-        (self.number == 10).then_some(self.characteristic)
+        (self.number == Refusal::NOT_PLANAR).then_some(self.characteristic)
     }
 }
 
@@ -73,3 +92,23 @@ impl fmt::Display for Refusal {
 }
 
 impl std::error::Error for Refusal {}
+
+#[cfg(test)]
+mod tests {
+    use super::*;
+
+    /// The header has the same names, numbers and meanings; of the characteristic it says more.
+    #[test]
+    fn the_header_says_the_same() {
+        let header = include_str!("../../../include/jurnadel.h");
+        let lines = header.lines().filter_map(|line| line.trim().strip_prefix("JURNADEL_")?.split_once(" = "));
+        let listed: Vec<(&str, &str)> = lines.filter(|(name, _)| *name != "DONE").collect();
+        assert_eq!(listed.len(), NAMES.len());
+        for ((name, rest), &(our_name, number)) in listed.into_iter().zip(NAMES) {
+            let (value, comment) = rest.split_once("/*").unwrap();
+            assert_eq!((name, value.trim().trim_end_matches(',')), (our_name, &number.to_string()[..]));
+            let meaning = meaning_of(number).trim_end_matches('.');
+            assert!(comment.contains(meaning), "{number}: {comment} | {meaning}");
+        }
+    }
+}

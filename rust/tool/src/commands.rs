@@ -6,6 +6,7 @@ use crate::planar_code::{self, Graph, Untaken};
 use crate::record_file;
 use crate::report::{complain, Problem, Report};
 use crate::shelf_file::{self, ShelfFile};
+use jurnadel::Refusal;
 use std::collections::{HashMap, HashSet};
 use std::ffi::OsString;
 use std::io::{IsTerminal as _, Write as _};
@@ -115,7 +116,7 @@ fn shelve(words: &[Word], report: &mut Report) -> Done {
         match record.map(|record| shelf.shelve(&record)) {
             Ok(Ok((number, true))) => lines.push(format!("{number} new {file}")),
             Ok(Ok((number, false))) => lines.push(format!("{number} already there {file}")),
-            Ok(Err(refusal)) if refusal.number() == 14 => return Err(Problem::refused(path, refusal)),
+            Ok(Err(refusal)) if refusal.number() == Refusal::SHELF_BROKEN => return Err(Problem::refused(path, refusal)),
             Ok(Err(refusal)) => report.problem(&Problem::refused(file, refusal)),
             Err(problem) => report.problem(&problem),
         }
@@ -196,7 +197,7 @@ fn verify(words: &[Word], report: &mut Report) -> Done {
     let records = counted(number, "record");
     // Past the last record that stands there, the library says of the whole whether it is a shelf.
     if let Err(refusal) = jurnadel::walk(&shelf, shelf.len(), 0) {
-        if refusal.number() == 14 {
+        if refusal.number() == Refusal::SHELF_BROKEN {
             return Err(Problem::Refused(format!("{path}: {refusal} No record stands at byte {at}, after {records}.")));
         }
     }
@@ -283,12 +284,12 @@ fn record_of(path: &Word, kind: Option<u16>) -> Result<Vec<u8>, Problem> {
 }
 
 /// A refusal of a plan, with file and line.
-fn refused(path: &Word, plan: &Plan, refusal: jurnadel::Refusal) -> Problem {
+fn refused(path: &Word, plan: &Plan, refusal: Refusal) -> Problem {
     Problem::refused(format!("{path}:{}", plan.line_of(refusal)), refusal)
 }
 
 /// The plan file of a record.
-fn plan_text(record: &[u8]) -> Result<String, jurnadel::Refusal> {
+fn plan_text(record: &[u8]) -> Result<String, Refusal> {
     let order = jurnadel::plan_of(record)?;
     Ok(plan_file::text(&counted(order.len() / 2, "trail"), &order, 0))
 }
