@@ -245,20 +245,22 @@ fn time_shelf() {
     time_shelving(&records, used);
 }
 
+/// Shelves a record on a shelf of this used length; its number and the used length after it.
+type Shelve = dyn FnMut(&[u8], &mut [u8], usize) -> Option<(usize, usize)>;
+
 /// All records shelved one after another into an empty shelf, by the proved library and by the same loop in plain Rust.
 fn time_shelving(records: &[Vec<u8>], length: usize) {
     let mut shelf = vec![0; length];
-    let mut seconds =
-        |shelve: &mut dyn FnMut(&[u8], &mut [u8], usize) -> Option<(usize, usize)>| {
-            let begun = Instant::now();
-            let mut used = 0;
-            for (number, record) in records.iter().enumerate() {
-                let stored = shelve(record, &mut shelf, used);
-                assert_eq!(stored, Some((number, used + record.len())));
-                used += record.len();
-            }
-            begun.elapsed().as_secs_f64()
-        };
+    let mut seconds = |shelve: &mut Shelve| {
+        let begun = Instant::now();
+        let mut used = 0;
+        for (number, record) in records.iter().enumerate() {
+            let stored = shelve(record, &mut shelf, used);
+            assert_eq!(stored, Some((number, used + record.len())));
+            used += record.len();
+        }
+        begun.elapsed().as_secs_f64()
+    };
     let proved = seconds(&mut |record, shelf, used| {
         let stored = jurnadel::shelve(record, shelf, used).ok()?;
         Some((stored.number, stored.used))
