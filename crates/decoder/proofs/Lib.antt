@@ -1,4 +1,3 @@
-pub mod Counting
 pub mod Linking
 pub mod Views
 pub mod Moves

@@ -21,7 +21,7 @@ use Rattle.model.specs.Traversal.{Letter, down, up, first, second}
 use Rattle.model.specs.LabelledTree.{star}
 use Rattle.model.proofs.Below.{below-cons}
 use Rattle.model.proofs.Opposite.{opposite-even, opposite-odd}
-use Rattle.words.specs.Word.{Machine, goes, done, stuck, turn, rootDegree, wordDarts, placeOf}
+use Rattle.words.specs.Word.{Machine, goes, done, stuck, turn, wordDarts, placeOf}
 use Rattle.decoding.proofs.Turns.{turn-close, stuck-none, stuck-early, turn-up, stuck-root, turn-done, stuck-left}
 use Rattle.decoding.proofs.Turns.{turn-star, turn-back, turn-tree, stuck-bit, stuck-label}
 use Rattle.areas.specs.Area.{region, stack}
@@ -32,7 +32,6 @@ use Rattle.decoder.specs.declared.State.{State}
 use Rattle.decoder.specs.States.{labelsOf, machineOf, linked, outcome, before, Fits, Room, Ready, Moved, lastOpen, lastTree}
 use Rattle.decoder.specs.States.{closedState, risenState, leafedState, backedState, enteredState}
 use Rattle.decoder.specs.States.{closedArea, risenArea, leafedArea, backedArea, enteredArea}
-use Rattle.decoder.proofs.Counting.{count-root, root-fits, pred-is}
 use Rattle.decoder.proofs.Linking.{linked-step}
 use Rattle.decoder.proofs.Views.{seen, entered, pushed-tree, pushed-open, all-first, all-rest}
 
@@ -65,13 +64,12 @@ module _ (m : ℕ) (bs ls w : List ℕ) (s : State) (c : Cursor) where
 
     pub closing : region (18 * m) m w ≡ ls → Fits m w s c → s .here < getD w (14 * m + (s .opens - 1)) 0
         → Moved m bs ls w s c (closedState m w s) c (closedArea m w s)
-    unfolding machineOf labelsOf outcome wordDarts placeOf rootDegree
+    unfolding machineOf labelsOf outcome wordDarts placeOf
     closing z f l =
-        let g = f .stands in let few = g .few-open in let darts = f .root-darts in
+        let g = f .stands in let few = g .few-open in
         let e = lastOpen m w s in
         let top = stack-pop (16 * m) (s .opens) w h in
         let small = all-first m (16 * m) (s .opens) w h (g .seconds-in) in
-        let n = root-fits (s .depth) (s .root) in
         let q = f .edges in
         let a = entered m (s .depth) (s .opens - 1) w _ _ _ _ _ _ _ (seen m (s .depth) (s .opens - 1) w) (s .place) (2 * e + 1) (g .place-in) in
         record {
@@ -79,7 +77,6 @@ module _ (m : ℕ) (bs ls w : List ℕ) (s : State) (c : Cursor) where
           turns = turn-close machine _ _ t (stack-pop (14 * m) (s .opens) w h) l
               ∙ ap (goes (second ∷ [])) (rw (top, a .below-is, a .trees-are, a .opens-are, a .seconds-are, label-at m w ls e z small));
           built = λ v. rw (a .trees-are, a .seconds-are, a .rotation, top) (linked-step (s .place) _ second v _ _ (region 0 (2 * m) w) refl);
-          counted = λ v. count-root (s .depth) (s .root) (rootDegree (s .depth) v);
           fits = record {
             stands = record {
               few-edges = g .few-edges;
@@ -93,7 +90,6 @@ module _ (m : ℕ) (bs ls w : List ℕ) (s : State) (c : Cursor) where
             labels-in = f .labels-in;
             edges = omega arith;
             vertices = f .vertices;
-            root-darts = omega arith;
           };
           kept = a .long;
           labels-stay = a .labels-are;
@@ -111,9 +107,9 @@ module _ (m : ℕ) (bs ls w : List ℕ) (s : State) (c : Cursor) (t : s .label �
 
   pub rising : length bs ≡ 2 * m → region (18 * m) m w ≡ ls → Fits m w s c → 0 < s .depth
       → Moved m bs ls w s c (risenState m w s) (record { bits = c .bits + 1; labels = c .labels }) (risenArea m w s)
-  unfolding machineOf labelsOf outcome wordDarts placeOf rootDegree
+  unfolding machineOf labelsOf outcome wordDarts placeOf
   rising p y f h =
-      let g = f .stands in let few = g .few-open in let darts = f .root-darts in
+      let g = f .stands in let few = g .few-open in
       let e = lastTree m w s in
       let top = stack-pop (12 * m) (s .depth) w h in
       let small = all-first m (12 * m) (s .depth) w h (g .trees-in) in
@@ -125,7 +121,6 @@ module _ (m : ℕ) (bs ls w : List ℕ) (s : State) (c : Cursor) (t : s .label �
             ∙ ap (goes (up ∷ [])) (rw (top, a .below-is, a .trees-are, a .opens-are, a .seconds-are, label-at m w ls e y small));
         built = λ v. rw (a .trees-are, a .seconds-are, a .rotation, top)
             (linked-step (s .place) _ up v _ _ (region 0 (2 * m) w) (sym (opposite-odd e)));
-        counted = λ v. ap (λ (d : ℕ). s .root + rootDegree d v) (sym (pred-is (s .depth)));
         fits = record {
           stands = record {
             few-edges = g .few-edges;
@@ -139,7 +134,6 @@ module _ (m : ℕ) (bs ls w : List ℕ) (s : State) (c : Cursor) (t : s .label �
           labels-in = f .labels-in;
           edges = omega arith;
           vertices = f .vertices;
-          root-darts = omega arith;
         };
         kept = a .long;
         labels-stay = a .labels-are;
@@ -176,7 +170,7 @@ module _ (m : ℕ) (bs ls w : List ℕ) (s : State) (c : Cursor) (t : s .label �
     module _ (q : length ls ≡ m) (j : c .labels < length ls) where
       pub room-left : Room m w s (c .labels)
       room-left =
-          let f = x .fits in let g = f .stands in let k = f .edges in let v = f .vertices in let n = f .root-darts in let b = f .bits-in in
+          let f = x .fits in let g = f .stands in let k = f .edges in let v = f .vertices in let b = f .bits-in in
           record {
             few-edges = g .few-edges;
             room = g .room;
@@ -184,17 +178,15 @@ module _ (m : ℕ) (bs ls w : List ℕ) (s : State) (c : Cursor) (t : s .label �
             one-more = omega arith;
             edge-in = omega arith;
             vertices = omega arith;
-            root-darts = omega arith;
           }
 
       pub leafing : getD ls (c .labels) 0 ≡ star
           → Moved m bs ls w s (before c) (leafedState s (c .labels) (getD bs (c .bits) 0)) (record { bits = c .bits + 1; labels = c .labels + 1 })
           (leafedArea w s (c .labels))
-      unfolding machineOf outcome wordDarts placeOf rootDegree bit
+      unfolding machineOf outcome wordDarts placeOf bit
       leafing k =
-          let f = x .fits in let g = f .stands in let few = f .edges in let v = f .vertices in let darts = f .root-darts in let some = x .some-bit in
+          let f = x .fits in let g = f .stands in let few = f .edges in let v = f .vertices in let some = x .some-bit in
           let e = c .labels in
-          let n = root-fits (s .depth) (s .root) in
           let a₁ = entered m (s .depth) (s .opens) w _ _ _ _ _ _ _ (seen m (s .depth) (s .opens) w) (s .place) (2 * e) (g .place-in) in
           let a = entered m (s .depth) (s .opens) _ _ _ _ _ _ _ _ a₁ (2 * e + 1) (2 * e + 1) (omega arith) in
           record {
@@ -204,7 +196,6 @@ module _ (m : ℕ) (bs ls w : List ℕ) (s : State) (c : Cursor) (t : s .label �
             built = λ v. rw (a .trees-are, a .seconds-are, a .rotation, add-one (c .labels))
                 (linked-step (2 * e + 1) (2 * e) up v (2 * e + 1) _ (set (region 0 (2 * m) w) (s .place) (2 * e)) (sym (opposite-odd e))
                 ∙ linked-step (s .place) (2 * e + 1) down (up ∷ v) (2 * e) _ (region 0 (2 * m) w) (sym (opposite-even e)));
-            counted = λ v. count-root (s .depth) (s .root) (rootDegree (s .depth) v);
             fits = record {
               stands = record {
                 few-edges = g .few-edges;
@@ -218,7 +209,6 @@ module _ (m : ℕ) (bs ls w : List ℕ) (s : State) (c : Cursor) (t : s .label �
               labels-in = omega arith;
               edges = omega arith;
               vertices = omega arith;
-              root-darts = omega arith;
             };
             kept = a .long;
             labels-stay = a .labels-are;
@@ -228,11 +218,10 @@ module _ (m : ℕ) (bs ls w : List ℕ) (s : State) (c : Cursor) (t : s .label �
         pub backing : getD bs (c .bits) 0 ≡ 0
             → Moved m bs ls w s (before c) (backedState s (c .labels)) (record { bits = c .bits + 1; labels = c .labels + 1 })
             (backedArea m w s (c .labels))
-        unfolding machineOf labelsOf outcome wordDarts placeOf rootDegree bit
+        unfolding machineOf labelsOf outcome wordDarts placeOf bit
         backing b =
-            let f = x .fits in let g = f .stands in let few = f .edges in let v = f .vertices in let darts = f .root-darts in let some = x .some-bit in
+            let f = x .fits in let g = f .stands in let few = f .edges in let v = f .vertices in let some = x .some-bit in
             let e = c .labels in
-            let n = root-fits (s .depth) (s .root) in
             let a₁ = entered m (s .depth) (s .opens) w _ _ _ _ _ _ _ (seen m (s .depth) (s .opens) w) (s .place) (2 * e) (g .place-in) in
             let a = pushed-open m (s .depth) (s .opens) _ _ _ _ _ _ _ _ a₁ (g .room) (omega arith) (s .here) e in
             record {
@@ -241,7 +230,6 @@ module _ (m : ℕ) (bs ls w : List ℕ) (s : State) (c : Cursor) (t : s .label �
                   ∙ ap (goes (first ∷ [])) (rw (add-one (s .opens), a .below-is, a .trees-are, a .opens-are, a .seconds-are));
               built = λ v. rw (add-one (s .opens), a .trees-are, a .seconds-are, a .rotation, add-one (c .labels))
                   (linked-step (s .place) (2 * e) first v (2 * e) _ (region 0 (2 * m) w) refl);
-              counted = λ v. count-root (s .depth) (s .root) (rootDegree (s .depth) v);
               fits = record {
                 stands = record {
                   few-edges = g .few-edges;
@@ -255,7 +243,6 @@ module _ (m : ℕ) (bs ls w : List ℕ) (s : State) (c : Cursor) (t : s .label �
                 labels-in = omega arith;
                 edges = omega arith;
                 vertices = omega arith;
-                root-darts = omega arith;
               };
               kept = a .long;
               labels-stay = a .labels-are;
@@ -264,11 +251,10 @@ module _ (m : ℕ) (bs ls w : List ℕ) (s : State) (c : Cursor) (t : s .label �
         pub entering : getD bs (c .bits) 0 ≢ 0
             → Moved m bs ls w s (before c) (enteredState s (c .labels)) (record { bits = c .bits; labels = c .labels + 1 })
             (enteredArea m w s (c .labels))
-        unfolding machineOf labelsOf outcome wordDarts placeOf rootDegree bit
+        unfolding machineOf labelsOf outcome wordDarts placeOf bit
         entering b =
-            let f = x .fits in let g = f .stands in let few = f .edges in let v = f .vertices in let darts = f .root-darts in let some = x .some-bit in
+            let f = x .fits in let g = f .stands in let few = f .edges in let v = f .vertices in let some = x .some-bit in
             let e = c .labels in
-            let n = root-fits (s .depth) (s .root) in
             let a₁ = entered m (s .depth) (s .opens) w _ _ _ _ _ _ _ (seen m (s .depth) (s .opens) w) (s .place) (2 * e) (g .place-in) in
             let a = pushed-tree m (s .depth) (s .opens) _ _ _ _ _ _ _ _ a₁ (g .room) (omega arith) (s .here) e in
             record {
@@ -278,7 +264,6 @@ module _ (m : ℕ) (bs ls w : List ℕ) (s : State) (c : Cursor) (t : s .label �
                   (rw (add-one (s .depth), add-one (s .n), a .below-is, a .trees-are, a .opens-are, a .seconds-are, rest-cons bs (c .bits) i));
               built = λ v. rw (add-one (s .depth), a .trees-are, a .seconds-are, a .rotation, add-one (c .labels))
                   (linked-step (s .place) (2 * e + 1) down v (2 * e) _ (region 0 (2 * m) w) (sym (opposite-even e)));
-              counted = λ v. rw (add-one (s .depth)) (count-root (s .depth) (s .root) (rootDegree (suc (s .depth)) v));
               fits = record {
                 stands = record {
                   few-edges = g .few-edges;
@@ -292,7 +277,6 @@ module _ (m : ℕ) (bs ls w : List ℕ) (s : State) (c : Cursor) (t : s .label �
                 labels-in = omega arith;
                 edges = omega arith;
                 vertices = omega arith;
-                root-darts = omega arith;
               };
               kept = a .long;
               labels-stay = a .labels-are;

@@ -10,13 +10,12 @@
 --   answer-kept           the answer, from a work area of the same length
 --   answer-unreadable, answer-readable   the answer for the record
 use Prim.Native.Nat.{ℕ, _+_, _-_, _*_, _≤_, _<_}
-use native.Mathlib.Nat.{zero-add, add-zero}
 use native.Mathlib.Omega.{arith}
 use mathlib.Core.Path.{_≡_, refl, sym, ap, _∙_, subst}
 use mathlib.Core.Bool.{Bool, true, false, not, _&&_, cond, true≢false, false≢true}
 use mathlib.Core.List.{List, [], _∷_, _++_, append-nil, append-assoc}
 use lib.Dec.{eqb}
-use lib.ListN.{length, set, replicate, length-append, length-drop, length-set}
+use lib.ListN.{length, getD, set, replicate, length-append, length-drop, length-set}
 use Rattle.model.specs.Numbers.{allBelow}
 use Rattle.model.specs.Traversal.{Letter}
 use Rattle.model.specs.Shelf.{kindOf, edgesOf}
@@ -26,6 +25,7 @@ use Rattle.decoding.specs.Reading.{left, run}
 use Rattle.decoding.proofs.Decoding.{wordIn}
 use Rattle.decoding.proofs.Runs.{turn-left, turn-none, run-on, run-done, run-stuck, decodeWord-run}
 use Rattle.areas.specs.Area.{region, stack}
+use Rattle.areas.proofs.Regions.{getD-region}
 use Rattle.areas.proofs.Stacks.{length-stack}
 use Rattle.decoder.specs.declared.Cursor.{Cursor}
 use Rattle.decoder.specs.declared.State.{State}
@@ -39,7 +39,7 @@ use Rattle.decoder.proofs.Linking.{linked-end, first-dart, linked-whole
 use Rattle.decoder.proofs.Views.{seen, entered}
 
 abbrev pub first-state : State
-first-state = record { n = 1; here = 0; depth = 0; opens = 0; label = 0; root = 0; place = 0 }
+first-state = record { n = 1; here = 0; depth = 0; opens = 0; label = 0; place = 0 }
 
 abbrev pub first-cursor : Cursor
 first-cursor = record { bits = 0; labels = 0 }
@@ -50,7 +50,6 @@ pub record Running (m : ℕ) (bs ls w₀ w : List ℕ) (s : State) (c : Cursor) 
   pub letters : List Letter
   pub paced : length letters + left (machineOf m bs ls w s c) ≡ length bs
   pub built : (v : List Letter) → outcome m w s c v ≡ outcome m w₀ first-state first-cursor (letters ++ v)
-  pub counted : (v : List Letter) → s .root + rootDegree (s .depth) v ≡ rootDegree 0 (letters ++ v)
   pub answer : after letters (run (machineOf m bs ls w s c)) ≡ run (start bs ls)
   pub kept : length w ≡ length w₀
   pub labelled : region (18 * m) m w ≡ ls
@@ -77,12 +76,10 @@ module _ (m : ℕ) (bs ls w₀ : List ℕ) where
       labels-in = omega arith;
       edges = omega arith;
       vertices = omega arith;
-      root-darts = omega arith;
     };
     letters = [];
     paced = omega arith;
     built = λ v. refl;
-    counted = λ v. zero-add (rootDegree 0 v);
     answer = refl;
     kept = refl;
     labelled = l;
@@ -100,7 +97,6 @@ module _ (m : ℕ) (bs ls w₀ : List ℕ) where
           paced = omega arith;
           built = λ v. x .built v ∙ i .built (x .letters ++ v)
               ∙ ap (outcome m w₀ first-state first-cursor) (sym (append-assoc (i .letters) (x .letters) v));
-          counted = λ v. x .counted v ∙ i .counted (x .letters ++ v) ∙ ap (rootDegree 0) (sym (append-assoc (i .letters) (x .letters) v));
           answer = run-on (i .letters) (machineOf m bs ls w s c) (machineOf m bs ls w′ t d) (x .letters) (x .turns) ∙ i .answer;
           kept = x .kept ∙ i .kept;
           labelled = x .labels-stay ∙ i .labelled;
@@ -133,18 +129,12 @@ module _ (m : ℕ) (bs ls w₀ : List ℕ) where
         nothing : run (start bs ls) ≡ none
         nothing = sym (i .answer) ∙ ap (after (i .letters)) (run-stuck (machineOf m bs ls w s c) e) ∙ nothing-after (i .letters)
 
-    -- w′ has dart 0 where the last dart waits for its successor
+    -- w′ has dart 0 where the last dart waits for its successor; the root has degree one where dart 0 is its own
     module _ (k : ℕ) (w′ : List ℕ) (size : length bs ≡ 2 * m) (clear : region 0 (2 * m) w₀ ≡ replicate (2 * m) 0)
+        (alone : (v : List Letter) → decodeWord 2 bs ls ≡ found v → eqb (rootDegree 0 v) 1 ≡ eqb (getD (rotationOf v) 0 0) 0)
         (e : turn (machineOf m bs ls w s c) ≡ done) (q : w′ ≡ set w (s .place) 0) where
       whole : run (start bs ls) ≡ found (i .letters)
       whole = sym (i .answer) ∙ ap (after (i .letters)) (run-done (machineOf m bs ls w s c) e) ∙ only-these (i .letters)
-
-      root-total : s .root ≡ rootDegree 0 (i .letters)
-      unfolding rootDegree
-      root-total = sym (add-zero (s .root)) ∙ i .counted [] ∙ ap (rootDegree 0) (append-nil (i .letters))
-
-      decided : decodeWord k bs ls ≡ cond (eqb k 1 && eqb (s .root) 1) none (found (i .letters))
-      decided = decodeWord-run k bs ls ∙ ap (checkRoot k) whole ∙ ap (λ (n : ℕ). cond (eqb k 1 && eqb n 1) none (found (i .letters))) (sym root-total)
 
       -- all 2m letters are read
       all-read : length (i .letters) ≡ 2 * m
@@ -163,11 +153,20 @@ module _ (m : ℕ) (bs ls w₀ : List ℕ) where
           ∙ i .built []
           ∙ rw (append-nil (i .letters), clear) (linked-whole (2 * m) (i .letters) all-read begun)
 
-      pub answer-done : (b : Bool) → b ≡ rootFits k (s .root) → Answered (decodeWord k bs ls) (2 * m) w₀ b w′
+      -- the root's degree, by the first entry
+      root-entry : eqb (rootDegree 0 (i .letters)) 1 ≡ eqb (getD w′ 0 0) 0
+      root-entry =
+          alone (i .letters) (decodeWord-run 2 bs ls ∙ ap (checkRoot 2) whole)
+          ∙ ap (λ (x : ℕ). eqb x 0) (ap (λ (xs : List ℕ). getD xs 0 0) (sym plan-built) ∙ getD-region 0 (2 * m) w′ 0 (omega arith))
+
+      decided : decodeWord k bs ls ≡ cond (eqb k 1 && eqb (getD w′ 0 0) 0) none (found (i .letters))
+      decided = decodeWord-run k bs ls ∙ ap (checkRoot k) whole ∙ ap (λ (b : Bool). cond (eqb k 1 && b) none (found (i .letters))) root-entry
+
+      pub answer-done : (b : Bool) → b ≡ rootFits k (getD w′ 0 0) → Answered (decodeWord k bs ls) (2 * m) w₀ b w′
       unfolding rootFits
       answer-done b a = record {
-        word-found = λ f. (i .letters, decided ∙ when-fit (eqb k 1 && eqb (s .root) 1) (sym a ∙ f), plan-built);
-        none-found = λ f. decided ∙ when-not (eqb k 1 && eqb (s .root) 1) (sym a ∙ f);
+        word-found = λ f. (i .letters, decided ∙ when-fit (eqb k 1 && eqb (getD w′ 0 0) 0) (sym a ∙ f), plan-built);
+        none-found = λ f. decided ∙ when-not (eqb k 1 && eqb (getD w′ 0 0) 0) (sym a ∙ f);
         kept = ap length q ∙ length-set w (s .place) 0 ∙ i .kept;
       }
         where

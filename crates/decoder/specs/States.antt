@@ -16,7 +16,7 @@
 --   Moved                    a turn that goes on: its letters' darts are entered, the labels stay, and the state after it
 --   Turned                   what one turn hands back, by cases
 --   Closed                   the same for a turn that reads no bit, whichever they are
---   rootFits k d             the root's degree d is as kind k wants it
+--   rootFits k x             the root is as kind k wants it, where x is the successor of dart 0
 use Prim.Native.Nat.{ℕ, _+_, _-_, _*_, _≤_, _<_}
 use mathlib.Core.Path.{_≡_}
 use mathlib.Core.Logic.{_≢_}
@@ -26,7 +26,7 @@ use lib.Dec.{eqb, ltb}
 use lib.ListN.{length, getD, set, drop}
 use Rattle.model.specs.Numbers.{allBelow}
 use Rattle.model.specs.Traversal.{Letter}
-use Rattle.words.specs.Word.{Machine, goes, done, stuck, turn, atRoot, rootDegree, head, wordDarts, link}
+use Rattle.words.specs.Word.{Machine, goes, done, stuck, turn, head, wordDarts, link}
 use Rattle.areas.specs.Area.{region, stack}
 use Rattle.decoder.specs.declared.Cursor.{Cursor}
 use Rattle.decoder.specs.declared.State.{State}
@@ -84,7 +84,6 @@ pub record Fits (m : ℕ) (w : List ℕ) (s : State) (c : Cursor) : Type 0 where
   pub labels-in : c .labels ≤ m
   pub edges : s .depth + s .opens ≤ c .labels
   pub vertices : s .n ≤ c .labels + 1
-  pub root-darts : s .root + s .opens ≤ c .bits
 
 pub record Room (m : ℕ) (w : List ℕ) (s : State) (e : ℕ) : Type 0 where
   pub few-edges : m ≤ 4096
@@ -93,7 +92,6 @@ pub record Room (m : ℕ) (w : List ℕ) (s : State) (e : ℕ) : Type 0 where
   pub one-more : s .depth + s .opens < m
   pub edge-in : e < m
   pub vertices : s .n ≤ m
-  pub root-darts : s .root ≤ 2 * m
 
 -- a bit that is not 0 was read right before c
 pub record Ready (m : ℕ) (bs w : List ℕ) (s : State) (c : Cursor) : Type 0 where
@@ -115,7 +113,6 @@ closedState m w s = record {
   depth = s .depth;
   opens = s .opens - 1;
   label = getD w (18 * m + lastOpen m w s) 0;
-  root = atRoot (s .depth) (s .root);
   place = 2 * lastOpen m w s + 1;
 }
 
@@ -133,7 +130,6 @@ risenState m w s = record {
   depth = s .depth - 1;
   opens = s .opens;
   label = getD w (18 * m + lastTree m w s) 0;
-  root = s .root;
   place = 2 * lastTree m w s;
 }
 
@@ -148,7 +144,6 @@ leafedState s e b = record {
   depth = s .depth;
   opens = s .opens;
   label = b;
-  root = atRoot (s .depth) (s .root);
   place = 2 * e;
 }
 
@@ -162,7 +157,6 @@ backedState s e = record {
   depth = s .depth;
   opens = s .opens + 1;
   label = 0;
-  root = atRoot (s .depth) (s .root);
   place = 2 * e;
 }
 
@@ -176,7 +170,6 @@ enteredState s e = record {
   depth = s .depth + 1;
   opens = s .opens;
   label = 0;
-  root = atRoot (s .depth) (s .root);
   place = 2 * e + 1;
 }
 
@@ -189,7 +182,6 @@ pub record Moved (m : ℕ) (bs ls w : List ℕ) (s : State) (c : Cursor) (t : St
   pub letters : List Letter
   pub turns : turn (machineOf m bs ls w s c) ≡ goes letters (machineOf m bs ls w′ t d)
   pub built : (v : List Letter) → outcome m w′ t d v ≡ outcome m w s c (letters ++ v)
-  pub counted : (v : List Letter) → t .root + rootDegree (t .depth) v ≡ s .root + rootDegree (s .depth) (letters ++ v)
   pub fits : Fits m w′ t d
   pub kept : length w′ ≡ length w
   pub labels-stay : region (18 * m) m w′ ≡ region (18 * m) m w
@@ -203,4 +195,4 @@ abbrev pub Closed : ℕ → List ℕ → State → Cursor → Outcome → List �
 Closed m w s c r w′ = (bs : List ℕ) → Turned m bs (region (18 * m) m w) w s c r w′
 
 unfoldable pub rootFits : ℕ → ℕ → Bool
-rootFits k d = not (eqb k 1 && eqb d 1)
+rootFits k x = not (eqb k 1 && eqb x 0)

@@ -4,10 +4,10 @@
 ghost use mathlib.Core.Path.{_≡_};
 ghost use mathlib.Core.Logic.{_≢_};
 ghost use mathlib.Core.Bool.{true};
-ghost use Prim.Native.Nat.{_*_, _^_, _≤_, _<_};
-ghost use lib.ListN.{length, set, replicate};
+ghost use Prim.Native.Nat.{_*_, _≤_, _<_};
+ghost use lib.ListN.{length, getD, set, replicate};
 ghost use Rattle.model.specs.Shelf.{edgesOf, passes};
-ghost use Rattle.words.specs.Word.{atRoot, decodeWord};
+ghost use Rattle.words.specs.Word.{decodeWord};
 ghost use Rattle.packing.specs.Unlay.{bitsIn, labelsIn};
 ghost use Rattle.areas.specs.Area.{region};
 ghost use Rattle.unpacker.specs.Unpacked.{Head};
@@ -28,14 +28,13 @@ pub enum Next {
 }
 
 // The state of the machine: vertices entered, the present one, how many tree edges and how many others are open, the label of the edge that has just
-// ended, how many darts of the root were met, and the dart whose entry is the next dart of the traversal.
+// ended, and the dart whose entry is the next dart of the traversal.
 pub struct State {
     pub n: u16,
     pub here: u16,
     pub depth: usize,
     pub opens: usize,
     pub label: u16,
-    pub root: usize,
     pub place: usize,
 }
 
@@ -106,17 +105,6 @@ impl Cursor {
 
 // ---- the machine
 
-// One more where the machine stands at the root.
-fn at_root(depth: usize, root: usize) -> usize
-    requires { ⌜ root < 2 ^ 32 ⌝ }
-    ensures { λ r. ⌜ r ≡ atRoot depth root ⌝ }
-{
-    if depth == 0 {
-        return root + 1;
-    }
-    root
-}
-
 // The last open edge outside the tree ends here, if this is a proper ancestor of where it began.
 fn close_last(w: &mut [u16], m: usize, s: State, c: Cursor) -> Outcome
     requires { ⌜ Fits m (now w) s c × (s .label ≡ 1) × (0 < s .opens) ⌝ }
@@ -125,7 +113,6 @@ fn close_last(w: &mut [u16], m: usize, s: State, c: Cursor) -> Outcome
     let n = s.n;
     let here = s.here;
     let depth = s.depth;
-    let root = s.root;
     let q = s.place;
     let top = s.opens - 1;
     let v = w[OPENS * m + top];
@@ -136,7 +123,6 @@ fn close_last(w: &mut [u16], m: usize, s: State, c: Cursor) -> Outcome
     let label = w[LABELS * m + e];
     let place = 2 * e + 1;
     w[q] = place as u16;
-    let count = at_root(depth, root);
     Outcome::Goes(
         State {
             n,
@@ -144,7 +130,6 @@ fn close_last(w: &mut [u16], m: usize, s: State, c: Cursor) -> Outcome
             depth,
             opens: top,
             label,
-            root: count,
             place,
         },
         c,
@@ -171,7 +156,6 @@ fn rise(w: &mut [u16], m: usize, s: State) -> State
     let n = s.n;
     let depth = s.depth;
     let opens = s.opens;
-    let root = s.root;
     let q = s.place;
     let top = depth - 1;
     let here = w[BELOW * m + top];
@@ -185,7 +169,6 @@ fn rise(w: &mut [u16], m: usize, s: State) -> State
         depth: top,
         opens,
         label,
-        root,
         place,
     }
 }
@@ -199,20 +182,17 @@ fn leaf(w: &mut [u16], m: usize, s: State, e: usize, label: u16) -> State
     let here = s.here;
     let depth = s.depth;
     let opens = s.opens;
-    let root = s.root;
     let q = s.place;
     let place = 2 * e;
     let end = place + 1;
     w[q] = place as u16;
     w[end] = end as u16;
-    let count = at_root(depth, root);
     State {
         n: n + 1,
         here,
         depth,
         opens,
         label,
-        root: count,
         place,
     }
 }
@@ -226,20 +206,17 @@ fn back(w: &mut [u16], m: usize, s: State, e: usize) -> State
     let here = s.here;
     let depth = s.depth;
     let opens = s.opens;
-    let root = s.root;
     let q = s.place;
     let place = 2 * e;
     w[q] = place as u16;
     w[OPENS * m + opens] = here;
     w[SECONDS * m + opens] = e as u16;
-    let count = at_root(depth, root);
     State {
         n,
         here,
         depth,
         opens: opens + 1,
         label: 0,
-        root: count,
         place,
     }
 }
@@ -253,20 +230,17 @@ fn enter(w: &mut [u16], m: usize, s: State, e: usize) -> State
     let here = s.here;
     let depth = s.depth;
     let opens = s.opens;
-    let root = s.root;
     let q = s.place;
     let x = 2 * e;
     w[q] = x as u16;
     w[BELOW * m + depth] = here;
     w[TREES * m + depth] = e as u16;
-    let count = at_root(depth, root);
     State {
         n: n + 1,
         here: n,
         depth: depth + 1,
         opens,
         label: 0,
-        root: count,
         place: x + 1,
     }
 }
@@ -342,16 +316,16 @@ fn turn(bytes: &[u8], m: usize, w: &mut [u16], s: State, c: Cursor) -> Outcome
     }
 }
 
-// The last dart's successor is dart 0; whether the root is as the kind wants it: in kind 1 it has not degree one.
-fn finish(w: &mut [u16], kind: u16, root: usize, place: usize) -> bool
+// The last dart's successor is dart 0; whether the root is as the kind wants it: in kind 1 dart 0 is not its own successor.
+fn finish(w: &mut [u16], kind: u16, place: usize) -> bool
     requires { ⌜ place < length (now w) ⌝ }
-    ensures { λ r. ⌜ (r ≡ rootFits kind root) × (now (w .exit) ≡ set (now (w .entry)) place 0) ⌝ }
+    ensures { λ r. ⌜ (now (w .exit) ≡ set (now (w .entry)) place 0) × (r ≡ rootFits kind (getD (now (w .exit)) 0 0)) ⌝ }
 {
     w[place] = 0;
     if kind != 1 {
         return true;
     }
-    root != 1
+    w[0] != 0
 }
 
 // The machine from its start until it is done or stuck.
@@ -366,12 +340,10 @@ fn run(bytes: &[u8], kind: u16, m: usize, w: &mut [u16]) -> bool
         depth: 0,
         opens: 0,
         label: 0,
-        root: 0,
         place: 0,
     };
     let mut c = Cursor { bits: 0, labels: 0 };
     loop {
-        let root = s.root;
         let place = s.place;
         match turn(bytes, m, w, s, c) {
             Outcome::Goes(t, d) => {
@@ -379,7 +351,7 @@ fn run(bytes: &[u8], kind: u16, m: usize, w: &mut [u16]) -> bool
                 c = d;
             }
             Outcome::Done => {
-                return finish(w, kind, root, place);
+                return finish(w, kind, place);
             }
             Outcome::Stuck => {
                 return false;

@@ -5,6 +5,7 @@
 --   root-degree-one         where the word has one letter at the root, the root's vertex has degree one
 --   degree-one-read         a vertex of degree one is a bare leaf, or the word has one letter at the root
 --   degree-one-word         so the word says whether there is a vertex of degree one
+--   root-degree             and whether the root's has
 use Prim.Native.Nat.{ℕ, zero, suc, _≤_, _<_}
 use native.Mathlib.Nat.{le-of-suc-le-suc, suc-inj, le-of-lt, le-refl, lt-suc-self}
 use native.Mathlib.Omega.{arith}
@@ -119,8 +120,11 @@ module _ (p : Plan) (t : Toured p) (b : Bracketed p) (fits : dartCountFits (dart
       ap (next (p .rotation)) (sym (t .starts) ∙ ap (dartAt p) (sym e) ∙ mate-dart p t fits m (omega arith))
       ∙ ap (λ (l : Letter). onward (p .rotation) l (dartAt p m)) (sym u) ∙ t .closes m h
 
-  pub root-degree-one : rootDegree 0 (word p) ≡ 1 → hasDegreeOne (p .rotation) ≡ true
-  root-degree-one one = go (letterOf p 0) refl
+  root-bound : p .root < darts p
+  root-bound = subst (λ (d : ℕ). d < darts p) (t .starts) (t .dart-bound 0 (count-positive (darts p) fits))
+
+  root-own : rootDegree 0 (word p) ≡ 1 → next (p .rotation) (p .root) ≡ p .root
+  root-own one = go (letterOf p 0) refl
     where
       n : 0 < darts p
       n = count-positive (darts p) fits
@@ -128,7 +132,7 @@ module _ (p : Plan) (t : Toured p) (b : Bracketed p) (fits : dartCountFits (dart
       z : left 1 ≡ 0
       z = suc-inj (sym root-first ∙ one)
 
-      go : (l : Letter) → letterOf p 0 ≡ l → hasDegreeOne (p .rotation) ≡ true
+      go : (l : Letter) → letterOf p 0 ≡ l → next (p .rotation) (p .root) ≡ p .root
       go up e = absurd (true≢false (sym (starts-open p t fits) ∙ ap opens e))
       go second e = absurd (true≢false (sym (starts-open p t fits) ∙ ap opens e))
       go first e =
@@ -141,7 +145,10 @@ module _ (p : Plan) (t : Toured p) (b : Bracketed p) (fits : dartCountFits (dart
           let k : mateOf p m ≡ 0 = mate-back p t fits 0 n in
           lt-or-le (suc m) (darts p)
           (λ l. absurd (root-none 1 (suc m) z (omega arith) l (root-closed m h k u)))
-          (λ l. alone (p .root) (subst (λ (d : ℕ). d < darts p) (t .starts) (t .dart-bound 0 n)) (root-alone m (omega arith) k u))
+          (λ l. root-alone m (omega arith) k u)
+
+  pub root-degree-one : rootDegree 0 (word p) ≡ 1 → hasDegreeOne (p .rotation) ≡ true
+  root-degree-one one = alone (p .root) root-bound (root-own one)
 
   -- ---- and back
 
@@ -221,6 +228,24 @@ module _ (p : Plan) (t : Toured p) (b : Bracketed p) (fits : dartCountFits (dart
         (λ u m. ⊎-elim (λ s. read-leaf at at-bound u (ap suc (sym m) ∙ s)) (λ (s, z).
         read-root (subst (λ (i : ℕ). isTree (letterOf p i) ≡ true) z u) (ap (λ (i : ℕ). suc (mateOf p i)) (sym z) ∙ ap suc (sym m) ∙ s)) round)
         (λ u m. absurd (⊎-elim (λ s. omega arith) (λ s. omega (arith, count-even (darts p) fits)) round))
+
+    -- d is the root
+    own-root : at ≡ 0 → rootDegree 0 (word p) ≡ 1
+    own-root z =
+        part-split isTree p at
+        (λ u m. ⊎-elim (λ s. absurd (omega arith)) (λ (s, y).
+        root-once (down-only (letterOf p 0) (subst (λ (i : ℕ). isTree (letterOf p i) ≡ true) z u) (starts-open p t fits))
+        (ap (λ (i : ℕ). suc (mateOf p i)) (sym z) ∙ ap suc (sym m) ∙ s)) round)
+        (λ u m. absurd (⊎-elim (λ s. omega arith) (λ s. omega (arith, count-even (darts p) fits)) round))
+
+  pub root-degree : eqb (rootDegree 0 (word p)) 1 ≡ degreeOne (p .rotation) (p .root)
+  unfolding degreeOne
+  root-degree = bool-ext (eqb (rootDegree 0 (word p)) 1) (eqb (next (p .rotation) (p .root)) (p .root))
+      (λ e. eq-eqb (next (p .rotation) (p .root)) (p .root) (root-own (eqb-true (rootDegree 0 (word p)) 1 e)))
+      (λ e.
+      eq-eqb (rootDegree 0 (word p)) 1
+      (own-root (p .root) root-bound (eqb-true (next (p .rotation) (p .root)) (p .root) e)
+      (ap (posOf p) (sym (t .starts)) ∙ t .pos-dart 0 (count-positive (darts p) fits))))
 
   pub degree-one-word : (bareLeaf (word p) || eqb (rootDegree 0 (word p)) 1) ≡ hasDegreeOne (p .rotation)
   unfolding hasDegreeOne degreeOne

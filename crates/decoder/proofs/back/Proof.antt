@@ -1,13 +1,9 @@
 -- `back`: an edge outside the tree begins. Assumes nothing.
-use mathlib.Core.Path.{refl}
 use native.Mathlib.Omega.{arith}
 use lib.ListN.{length-set}
 use borrow.Author.Needs.{needs}
 use Rattle.decoder.proofs.back.Statement.{statement}
 use Rattle.decoder.proofs.back.Tie as tie
-use Rattle.decoder.proofs.back.Reads as reads
-use Rattle.decoder.proofs.back.Lts as lts
-use Rattle.decoder.proofs.at_root.Reads as at-root-reads
 
 mul-place : tie.Need-mul-place
 mul-place c = search needs
@@ -48,17 +44,14 @@ mul-w-5 c = search needs
 slice-write-w-3 : tie.Need-slice-write-w-3
 slice-write-w-3 c = simp length-set (omega arith)
 
-at-root-requires : tie.Need-at-root-requires
-at-root-requires c κs = search needs
-
-add-t17 : tie.Need-add-t17
-add-t17 c = search needs
+add-t15 : tie.Need-add-t15
+add-t15 c = search needs
 
 same-length : tie.Need-same-length
 same-length c = search needs
 
 returns : tie.Need-returns
-returns c = (rw (c .at-root .ensures), refl)
+returns c = search needs
 
 pub back-spec : {M : Type 1} → statement M
 back-spec =
@@ -77,7 +70,6 @@ back-spec =
     add-w-2
     mul-w-5
     slice-write-w-3
-    at-root-requires
-    add-t17
+    add-t15
     same-length
     returns)

@@ -8,9 +8,6 @@ use Rattle.decoder.proofs.Moves.{early, closing}
 use borrow.Author.Needs.{needs}
 use Rattle.decoder.proofs.close_last.Statement.{statement}
 use Rattle.decoder.proofs.close_last.Tie as tie
-use Rattle.decoder.proofs.close_last.Reads as reads
-use Rattle.decoder.proofs.close_last.Lts as lts
-use Rattle.decoder.proofs.at_root.Reads as at-root-reads
 
 small : (c : tie.Start) → lastOpen (c .args .m) (c .args .w .now) (c .args .s) < c .args .m
 small c = all-first _ _ _ _ (c .pre .2) (c .pre .0 .stands .seconds-in)
@@ -32,7 +29,7 @@ slice-read-v c = search needs
 
 returns : tie.Need-returns
 unfolding Turned
-returns c = λ bs. (early _ bs _ _ _ _ (c .before .before .before .before .pre .1) (c .before .before .before .before .pre .2) (c .if1 .taken), refl)
+returns c = λ bs. (early _ bs _ _ _ _ (c .before .before .before .pre .1) (c .before .before .before .pre .2) (c .if1 .taken), refl)
 
 mul-e : tie.Need-mul-e
 mul-e c = search needs
@@ -47,28 +44,28 @@ slice-read-e : tie.Need-slice-read-e
 slice-read-e c = search needs
 
 cast-e : tie.Need-cast-e
-cast-e c = let k = small (c .before .before .before .before .before) in omega arith
+cast-e c = let k = small (c .before .before .before .before) in omega arith
 
 mul-label : tie.Need-mul-label
 mul-label c = search needs
 
 add-label : tie.Need-add-label
-add-label c = let k = small (c .before .before .before .before .before) in omega arith
+add-label c = let k = small (c .before .before .before .before) in omega arith
 
 mul-label-2 : tie.Need-mul-label-2
-mul-label-2 c = let k = small (c .before .before .before .before .before) in omega arith
+mul-label-2 c = let k = small (c .before .before .before .before) in omega arith
 
 slice-read-label : tie.Need-slice-read-label
-slice-read-label c = let k = small (c .before .before .before .before .before .before) in omega arith
+slice-read-label c = let k = small (c .before .before .before .before .before) in omega arith
 
 mul-place : tie.Need-mul-place
-mul-place c = let k = small (c .before .before .before .before .before .before) in omega arith
+mul-place c = let k = small (c .before .before .before .before .before) in omega arith
 
 add-place : tie.Need-add-place
-add-place c = let k = small (c .before .before .before .before .before .before) in omega arith
+add-place c = let k = small (c .before .before .before .before .before) in omega arith
 
 cast-w : tie.Need-cast-w
-cast-w c = let k = small (c .before .before .before .before .before .before) in omega arith
+cast-w c = let k = small (c .before .before .before .before .before) in omega arith
 
 mul-w : tie.Need-mul-w
 mul-w c = search needs
@@ -76,17 +73,14 @@ mul-w c = search needs
 slice-write-w : tie.Need-slice-write-w
 slice-write-w c = search needs
 
-at-root-requires : tie.Need-at-root-requires
-at-root-requires c κs = search needs
-
 same-length : tie.Need-same-length
 same-length c = search needs
 
 returns-2 : tie.Need-returns-2
 unfolding Turned
 returns-2 c = λ bs.
-    let p = c .before .before .before .before .before .before .before .pre in
-    rw (c .at-root .ensures) (closing _ bs _ _ _ _ (p .1) (p .2) refl (p .0) (omega arith))
+    let p = c .before .before .before .before .before .pre in
+    closing _ bs _ _ _ _ (p .1) (p .2) refl (p .0) (omega arith)
 
 pub close-last-spec : {M : Type 1} → statement M
 close-last-spec =
@@ -112,6 +106,5 @@ close-last-spec =
     cast-w
     mul-w
     slice-write-w
-    at-root-requires
     same-length
     returns-2)

@@ -1,13 +1,9 @@
 -- `enter`: down a tree edge. Assumes nothing.
-use mathlib.Core.Path.{refl}
 use native.Mathlib.Omega.{arith}
 use lib.ListN.{length-set}
 use borrow.Author.Needs.{needs}
 use Rattle.decoder.proofs.enter.Statement.{statement}
 use Rattle.decoder.proofs.enter.Tie as tie
-use Rattle.decoder.proofs.enter.Reads as reads
-use Rattle.decoder.proofs.enter.Lts as lts
-use Rattle.decoder.proofs.at_root.Reads as at-root-reads
 
 mul-x : tie.Need-mul-x
 mul-x c = search needs
@@ -48,23 +44,20 @@ mul-w-5 c = search needs
 slice-write-w-3 : tie.Need-slice-write-w-3
 slice-write-w-3 c = simp length-set (omega arith)
 
-at-root-requires : tie.Need-at-root-requires
-at-root-requires c κs = search needs
+add-t11 : tie.Need-add-t11
+add-t11 c = search needs
 
-add-t13 : tie.Need-add-t13
-add-t13 c = search needs
+add-t12 : tie.Need-add-t12
+add-t12 c = search needs
 
 add-t14 : tie.Need-add-t14
 add-t14 c = search needs
-
-add-t16 : tie.Need-add-t16
-add-t16 c = search needs
 
 same-length : tie.Need-same-length
 same-length c = search needs
 
 returns : tie.Need-returns
-returns c = (rw (c .at-root .ensures), refl)
+returns c = search needs
 
 pub enter-spec : {M : Type 1} → statement M
 enter-spec =
@@ -83,9 +76,8 @@ enter-spec =
     add-w-2
     mul-w-5
     slice-write-w-3
-    at-root-requires
-    add-t13
+    add-t11
+    add-t12
     add-t14
-    add-t16
     same-length
     returns)

@@ -1,13 +1,9 @@
 -- `leaf`: a leaf. Assumes nothing.
-use mathlib.Core.Path.{refl}
 use native.Mathlib.Omega.{arith}
 use lib.ListN.{length-set}
 use borrow.Author.Needs.{needs}
 use Rattle.decoder.proofs.leaf.Statement.{statement}
 use Rattle.decoder.proofs.leaf.Tie as tie
-use Rattle.decoder.proofs.leaf.Reads as reads
-use Rattle.decoder.proofs.leaf.Lts as lts
-use Rattle.decoder.proofs.at_root.Reads as at-root-reads
 
 mul-place : tie.Need-mul-place
 mul-place c = search needs
@@ -33,17 +29,14 @@ mul-w-2 c = search needs
 slice-write-w-2 : tie.Need-slice-write-w-2
 slice-write-w-2 c = simp length-set (omega arith)
 
-at-root-requires : tie.Need-at-root-requires
-at-root-requires c κs = search needs
-
-add-t15 : tie.Need-add-t15
-add-t15 c = search needs
+add-t13 : tie.Need-add-t13
+add-t13 c = search needs
 
 same-length : tie.Need-same-length
 same-length c = search needs
 
 returns : tie.Need-returns
-returns c = (rw (c .at-root .ensures), refl)
+returns c = search needs
 
 pub leaf-spec : {M : Type 1} → statement M
 leaf-spec =
@@ -57,7 +50,6 @@ leaf-spec =
     cast-w-2
     mul-w-2
     slice-write-w-2
-    at-root-requires
-    add-t15
+    add-t13
     same-length
     returns)

@@ -6,8 +6,6 @@ use Rattle.decoder.proofs.Views.{all-first}
 use borrow.Author.Needs.{needs}
 use Rattle.decoder.proofs.rise.Statement.{statement}
 use Rattle.decoder.proofs.rise.Tie as tie
-use Rattle.decoder.proofs.rise.Reads as reads
-use Rattle.decoder.proofs.rise.Lts as lts
 
 small : (c : tie.Start) → lastTree (c .args .m) (c .args .w .now) (c .args .s) < c .args .m
 small c = all-first _ _ _ _ (c .pre .1) (c .pre .0 .trees-in)

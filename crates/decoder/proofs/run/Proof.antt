@@ -5,6 +5,7 @@ use mathlib.Core.Path.{ap, _∙_}
 use mathlib.Core.List.{List}
 use lib.ListN.{length, set}
 use Rattle.packing.specs.Unlay.{bitsIn, labelsIn}
+use Rattle.coding.proofs.Roots.{root-read}
 use Rattle.unpacker.proofs.Payload.{sizes}
 use Rattle.decoder.specs.States.{Moved}
 use Rattle.decoder.proofs.Runs.{Running, running-start, running-on, running-less, turned-goes, turned-done, turned-stuck}
@@ -69,7 +70,8 @@ returns c =
     let i = at .inv in
     let d = turned-done _ _ _ _ _ _ (v .result) _ (i .labelled) (v .ensures) (c .before .before .before .before .enum-told .given .1) in
     let f = c .before .before .finish .ensures in
-    answer-done _ _ _ _ _ _ _ i _ _ (sizes _ _ _ (p .0) .bit-count) (p .1 .2) (d .0) (f .1 ∙ ap (λ (x : List ℕ). set x (at .s .place) 0) (d .1)) _ (f .0)
+    answer-done _ _ _ _ _ _ _ i _ _ (sizes _ _ _ (p .0) .bit-count) (p .1 .2) (root-read _ (p .0 .0)) (d .0)
+    (f .0 ∙ ap (λ (x : List ℕ). set x (at .s .place) 0) (d .1)) _ (f .1)
 
 enum-told-2 : tie.Need-enum-told-2 Inv-loop μ-loop
 enum-told-2 c = search needs
