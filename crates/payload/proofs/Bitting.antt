@@ -1,7 +1,7 @@
--- The pass for tree bits, letter by letter.
+-- The tree bits, letter by letter.
 --
 --   before-first, before-down, before-other   whether the letter before a position is down
---   bits-start, bits-next, bits-end   before the last letter; before another; after the first
+--   bits-start, bits-end   before the last letter; after the first
 --   down-place, up-place, first-place   the bits of a letter have their places
 --   down-bit, up-bit, first-bits, second-bits   what each letter does
 use Prim.Native.Nat.{ℕ, suc, _+_, _-_, _*_, _/_, _≤_, _<_}
@@ -18,11 +18,10 @@ use Rattle.model.specs.Traversal.{Letter, down, up, first, second}
 use Rattle.words.specs.Word.{valid, startsSecond, wordBits}
 use Rattle.words.specs.Entered.{isDown}
 use Rattle.areas.specs.Area.{region}
-use Rattle.areas.proofs.Regions.{length-region, region-set-other}
+use Rattle.areas.proofs.Regions.{length-region}
 use Rattle.decoding.proofs.Sizes.{bits-length}
-use Rattle.letters.specs.Letters.{toLetter, lettersIn, bitsIn, labelsIn}
+use Rattle.letters.specs.Letters.{toLetter, lettersIn, bitsIn}
 use Rattle.letters.proofs.Word.{is-down, is-up, is-first, is-second, length-letters, letters-set-behind}
-use Rattle.payload.specs.Payload.{BitsPut}
 use Rattle.payload.specs.Passes.{downBefore, bitsFrom, Bitted, BitStepped}
 use Rattle.payload.proofs.Suffixes.{bits-shrink}
 use Rattle.payload.proofs.Letters.{letters-at, letter-is, letters-end, small-word, region-front, not-down}
@@ -38,8 +37,8 @@ module _ (n : ℕ) (w : List ℕ) (room : 16 * n ≤ length w) where
       ∙ ap isDown (sym (getD-drop i (lettersIn n w) 0 up))
       ∙ ap (λ (v : List Letter). isDown (getD v 0 up)) (letters-at n w room i h)
 
-  module _ (i : ℕ) where
-    pub before-first : i ≡ 0 → 0 ≡ cond (downBefore i (lettersIn n w)) (startsSecond (drop (i + 1) (lettersIn n w))) 0
+  module _ (i x : ℕ) where
+    pub before-first : i ≡ 0 → 0 ≡ cond (downBefore i (lettersIn n w)) x 0
     unfolding downBefore
     before-first e = rw e
 
@@ -49,12 +48,10 @@ module _ (n : ℕ) (w : List ℕ) (room : 16 * n ≤ length w) where
           let e : i ≡ i - 1 + 1 = omega arith in
           ap (λ (k : ℕ). downBefore k (lettersIn n w)) e ∙ letter-before (i - 1) (omega arith)
 
-      pub before-down : getD w (3 * n + (i - 1)) 0 ≡ 1
-          → startsSecond (drop (i + 1) (lettersIn n w)) ≡ cond (downBefore i (lettersIn n w)) (startsSecond (drop (i + 1) (lettersIn n w))) 0
+      pub before-down : getD w (3 * n + (i - 1)) 0 ≡ 1 → x ≡ cond (downBefore i (lettersIn n w)) x 0
       before-down e = rw (before, is-down _ e)
 
-      pub before-other : getD w (3 * n + (i - 1)) 0 ≢ 1
-          → 0 ≡ cond (downBefore i (lettersIn n w)) (startsSecond (drop (i + 1) (lettersIn n w))) 0
+      pub before-other : getD w (3 * n + (i - 1)) 0 ≢ 1 → 0 ≡ cond (downBefore i (lettersIn n w)) x 0
       before-other e = rw (before, not-down _ e)
 
 -- ---- start and end
@@ -79,28 +76,15 @@ bits-are n i t w at =
     let b = at .bits-left in
     sym (length-region (8 * n + t) (n - t) w (omega arith)) ∙ ap length (at .put)
 
-pub bits-next : (n i t : ℕ) (w : List ℕ) → 0 < i → Bitted n w i t → (i - 1 < n) × Bitted n w (i - 1 + 1) t
-bits-next n i t w h at =
-    let p = at .place in
-    let z : i ≡ i - 1 + 1 = omega arith in
-    (omega arith, subst (λ (k : ℕ). Bitted n w k t) z at)
-
-pub bits-end : (n i t : ℕ) (w₀ w : List ℕ) → i ≡ 0 → Bitted n w i t → lettersIn n w ≡ lettersIn n w₀ → labelsIn n w ≡ labelsIn n w₀ → length w ≡ length w₀
-    → BitsPut n w₀ w
+pub bits-end : (n t : ℕ) (w₀ w : List ℕ) → Bitted n w 0 t → lettersIn n w ≡ lettersIn n w₀ → bitsIn n w ≡ wordBits false (lettersIn n w₀)
 unfolding bitsIn bitsFrom downBefore
-bits-end n i t w₀ w done bitted l m k =
-    let at = subst (λ (j : ℕ). Bitted n w j t) done bitted in
+bits-end n t w₀ w at l =
     let h = all-bits n w (at .word) (at .room) in
     let c = bits-are n 0 t w at in
     let b = at .bits-left in
     let z : t ≡ 0 = omega arith in
-    record {
-      bits =
-          ap (λ (a : ℕ). region a n w) (sym (add-zero (8 * n))) ∙ ap (λ (c : ℕ). region (8 * n + 0) c w) (sym (sub-zero n))
-          ∙ ap (λ (j : ℕ). region (8 * n + j) (n - j) w) (sym z) ∙ at .put ∙ ap (wordBits false) l;
-      labels = m;
-      kept = k;
-    }
+    ap (λ (a : ℕ). region a n w) (sym (add-zero (8 * n))) ∙ ap (λ (c : ℕ). region (8 * n + 0) c w) (sym (sub-zero n))
+    ∙ ap (λ (j : ℕ). region (8 * n + j) (n - j) w) (sym z) ∙ at .put ∙ ap (wordBits false) l
 
 -- ---- one letter
 
@@ -155,9 +139,9 @@ module _ (n i t : ℕ) (w : List ℕ) (h : i < n) (at : Bitted n w (i + 1) t) wh
   pub first-place : getD w (3 * n + i) 0 ≡ 3 → 1 < t
   first-place c = let a = shrunk in let b = ap length (first-more c) in let s = size in let l = at .bits-left in omega arith
 
-  advance : (w′ : List ℕ) (t′ : ℕ) → t′ ≤ n → lettersIn n w′ ≡ lettersIn n w → labelsIn n w′ ≡ labelsIn n w → length w′ ≡ length w
+  advance : (w′ : List ℕ) (t′ : ℕ) → t′ ≤ n → lettersIn n w′ ≡ lettersIn n w → length w′ ≡ length w
       → region (8 * n + t′) (n - t′) w′ ≡ bitsFrom i (lettersIn n w) → BitStepped n w w′ i t′
-  advance w′ t′ b same labels kept put =
+  advance w′ t′ b same kept put =
       let r = at .room in
       record {
         bitted = record {
@@ -169,14 +153,8 @@ module _ (n i t : ℕ) (w : List ℕ) (h : i < n) (at : Bitted n w (i + 1) t) wh
           put = put ∙ ap (bitsFrom i) (sym same);
         };
         letters = same;
-        labels = labels;
         kept = kept;
       }
-
--- a store among the bits
-labels-beside : (n p x : ℕ) (w : List ℕ) → p < 9 * n → labelsIn n (set w p x) ≡ labelsIn n w
-unfolding labelsIn
-labels-beside n p x w h = region-set-other (9 * n) (n / 2) w p x (λ l. omega arith)
 
 module _ (n i t : ℕ) (w : List ℕ) (h : i < n) where
   one-bit : (t′ x : ℕ) → t′ ≡ suc t → (at : Bitted n w (i + 1) t′) → bitsFrom i (lettersIn n w) ≡ x ∷ region (8 * n + t′) (n - t′) w
@@ -184,7 +162,7 @@ module _ (n i t : ℕ) (w : List ℕ) (h : i < n) where
   one-bit t′ x e at more =
       let b = at .bits-left in
       advance n i t′ w h at (set w (8 * n + t) x) t (omega arith) (letters-set-behind n w (8 * n + t) x (omega arith))
-      (labels-beside n (8 * n + t) x w (omega arith)) (length-set w (8 * n + t) x)
+      (length-set w (8 * n + t) x)
       (region-front (8 * n) n t x w (omega arith) (let r = at .room in omega arith) ∙ ap (λ (k : ℕ). x ∷ region (8 * n + k) (n - k) w) (sym e) ∙ sym more)
 
   pub down-bit : (t′ : ℕ) → t′ ≡ suc t → Bitted n w (i + 1) t′ → getD w (3 * n + i) 0 ≡ 1 → BitStepped n w (set w (8 * n + t) 1) i t
@@ -204,7 +182,6 @@ module _ (n i t : ℕ) (w : List ℕ) (h : i < n) where
       let place : 8 * n + t + 1 ≡ 8 * n + suc t = omega arith in
       advance n i t′ w h at (set v (8 * n + t) 1) t (omega arith)
       (letters-set-behind n v (8 * n + t) 1 (omega arith) ∙ letters-set-behind n w (8 * n + t + 1) 0 (omega arith))
-      (labels-beside n (8 * n + t) 1 v (omega arith) ∙ labels-beside n (8 * n + t + 1) 0 w (omega arith))
       (length-set v (8 * n + t) 1 ∙ l)
       (region-front (8 * n) n t 1 v (omega arith) (omega arith)
       ∙ ap (λ (p : ℕ). 1 ∷ region (8 * n + suc t) (n - suc t) (set w p 0)) place
@@ -212,4 +189,4 @@ module _ (n i t : ℕ) (w : List ℕ) (h : i < n) where
       ∙ ap (λ (k : ℕ). 1 ∷ 0 ∷ region (8 * n + k) (n - k) w) (sym e) ∙ sym (first-more n i t′ w h at c))
 
   pub second-bits : Bitted n w (i + 1) t → getD w (3 * n + i) 0 ≢ 1 → getD w (3 * n + i) 0 ≢ 2 → getD w (3 * n + i) 0 ≢ 3 → BitStepped n w w i t
-  second-bits at c₁ c₂ c₃ = advance n i t w h at w t (at .bits-left) refl refl refl (sym (second-more n i t w h at c₁ c₂ c₃))
+  second-bits at c₁ c₂ c₃ = advance n i t w h at w t (at .bits-left) refl refl (sym (second-more n i t w h at c₁ c₂ c₃))

@@ -1,6 +1,6 @@
--- The pass for labels, letter by letter.
+-- The labels, letter by letter.
 --
---   scan-start, scan-next, scan-end   before the last letter; before another; after the first
+--   labels-start, labels-end   before the last letter; after the first
 --   down-room, first-room  where an edge begins, its label has a place and its end waits on a stack
 --   down-step, up-step, first-step, second-step   what each letter does
 use Prim.Native.Nat.{ℕ, suc, _+_, _-_, _*_, _/_, _≤_, _<_}
@@ -21,15 +21,14 @@ use Rattle.decoding.proofs.Validity.{valid-nested}
 use Rattle.decoding.proofs.Sizes.{letters-length}
 use Rattle.letters.specs.Letters.{toLetter, lettersIn, labelsIn}
 use Rattle.letters.proofs.Word.{is-down, is-up, is-first, is-second, length-letters, letters-set-behind}
-use Rattle.payload.specs.Payload.{LabelsPut}
-use Rattle.payload.specs.Passes.{held, Scanned, Stepped}
+use Rattle.payload.specs.Passes.{held, Labelled, LabelStepped}
 use Rattle.payload.proofs.Suffixes.{Goes, suffix, down-waits, first-waits, labels-shrink}
 use Rattle.payload.proofs.Letters.{letter-is, letters-end, small-word}
 use Rattle.payload.proofs.Stacks.{held-down, held-up, held-first, held-second}
 
-pub scan-start : (n : ℕ) (w : List ℕ) → valid 2 (lettersIn n w) ≡ true → 16 * n ≤ length w → Scanned n w n (n / 2) 0 0
+pub labels-start : (n : ℕ) (w : List ℕ) → valid 2 (lettersIn n w) ≡ true → 16 * n ≤ length w → Labelled n w n (n / 2) 0 0
 unfolding held stack region ends
-scan-start n w v room = record {
+labels-start n w v room = record {
   word = v;
   room = room;
   small = small-word n w room v;
@@ -44,7 +43,7 @@ half : (n : ℕ) (w : List ℕ) → valid 2 (lettersIn n w) ≡ true → 16 * n 
 unfolding wordLabels
 half n w v room = let l = length-letters n w (omega arith) in let h = letters-length 2 (lettersIn n w) v in omega arith
 
-module _ (n i e u s : ℕ) (w : List ℕ) (at : Scanned n w i e u s) where
+module _ (n i e u s : ℕ) (w : List ℕ) (at : Labelled n w i e u s) where
   labels-are : n / 2 - e ≡ length (ends (drop i (lettersIn n w)) .labels)
   unfolding held
   labels-are =
@@ -60,33 +59,19 @@ module _ (n i e u s : ℕ) (w : List ℕ) (at : Scanned n w i e u s) where
   unfolding held
   seconds-are = sym (length-stack (6 * n) s w) ∙ ap (λ (x : Ends). length (x .seconds)) (at .ended)
 
--- a letter is left
-pub scan-next : (n i e u s : ℕ) (w : List ℕ) → 0 < i → Scanned n w i e u s → (i - 1 < n) × Scanned n w (i - 1 + 1) e u s
-scan-next n i e u s w h at =
-    let p = at .place in
-    let z : i ≡ i - 1 + 1 = omega arith in
-    (omega arith, subst (λ (k : ℕ). Scanned n w k e u s) z at)
-
 -- all labels are put when all letters are done
-pub scan-end : (n i e u s : ℕ) (w₀ w : List ℕ) → i ≡ 0 → Scanned n w i e u s → lettersIn n w ≡ lettersIn n w₀ → length w ≡ length w₀
-    → LabelsPut n w₀ w
+pub labels-end : (n e u s : ℕ) (w₀ w : List ℕ) → Labelled n w 0 e u s → lettersIn n w ≡ lettersIn n w₀ → labelsIn n w ≡ wordLabels (lettersIn n w₀)
 unfolding held labelsIn wordLabels
-scan-end n i e u s w₀ w done scanned l k =
-    let at = subst (λ (j : ℕ). Scanned n w j e u s) done scanned in
+labels-end n e u s w₀ w at l =
     let h = half n w (at .word) (at .room) in
     let c = labels-are n 0 e u s w at in
     let b = at .labels-left in
     let z : e ≡ 0 = omega arith in
-    record {
-      labels =
-          ap (λ (a : ℕ). region a (n / 2) w) (sym (add-zero (9 * n))) ∙ ap (λ (c : ℕ). region (9 * n + 0) c w) (sym (sub-zero (n / 2)))
-          ∙ ap (λ (j : ℕ). region (9 * n + j) (n / 2 - j) w) (sym z)
-          ∙ ap (λ (x : Ends). x .labels) (at .ended) ∙ ap (λ (v : List Letter). ends v .labels) l;
-      letters = l;
-      kept = k;
-    }
+    ap (λ (a : ℕ). region a (n / 2) w) (sym (add-zero (9 * n))) ∙ ap (λ (c : ℕ). region (9 * n + 0) c w) (sym (sub-zero (n / 2)))
+    ∙ ap (λ (j : ℕ). region (9 * n + j) (n / 2 - j) w) (sym z)
+    ∙ ap (λ (x : Ends). x .labels) (at .ended) ∙ ap (λ (v : List Letter). ends v .labels) l
 
-module _ (n i e u s : ℕ) (w : List ℕ) (h : i < n) (at : Scanned n w (i + 1) e u s) where
+module _ (n i e u s : ℕ) (w : List ℕ) (h : i < n) (at : Labelled n w (i + 1) e u s) where
   here : (l : Letter) → toLetter (getD w (3 * n + i) 0) ≡ l → drop i (lettersIn n w) ≡ l ∷ drop (i + 1) (lettersIn n w)
   here = letter-is n w (at .room) i h
 
@@ -120,14 +105,14 @@ module _ (n i e u s : ℕ) (w : List ℕ) (h : i < n) (at : Scanned n w (i + 1) 
 
   -- a store at p, beside the letters, does what the letter l asks
   advance : (l : Letter) (p x e′ u′ s′ : ℕ) → toLetter (getD w (3 * n + i) 0) ≡ l → 4 * n ≤ p → e′ ≤ n / 2 → u′ + i ≤ n → s′ + i ≤ n
-      → held n (set w p x) e′ u′ s′ ≡ endsOne l (drop (i + 1) (lettersIn n w)) (held n w e u s) → Stepped n w (set w p x) i e′ u′ s′
+      → held n (set w p x) e′ u′ s′ ≡ endsOne l (drop (i + 1) (lettersIn n w)) (held n w e u s) → LabelStepped n w (set w p x) i e′ u′ s′
   unfolding ends
   advance l p x e′ u′ s′ c b f g j k =
       let same = letters-set-behind n w p x b in
       let size = length-set w p x in
       let r = at .room in
       record {
-        scanned = record {
+        labelled = record {
           word = ap (valid 2) same ∙ at .word;
           room = omega arith;
           small = at .small;
@@ -143,8 +128,8 @@ module _ (n i e u s : ℕ) (w : List ℕ) (h : i < n) (at : Scanned n w (i + 1) 
       }
 
 module _ (n i e u s x : ℕ) (w : List ℕ) (h : i < n) where
-  pub up-step : Scanned n w (i + 1) e u s → getD w (3 * n + i) 0 ≡ 2 → x ≡ startsSecond (drop (i + 1) (lettersIn n w))
-      → Stepped n w (set w (5 * n + u) x) i e (u + 1) s
+  pub up-step : Labelled n w (i + 1) e u s → getD w (3 * n + i) 0 ≡ 2 → x ≡ startsSecond (drop (i + 1) (lettersIn n w))
+      → LabelStepped n w (set w (5 * n + u) x) i e (u + 1) s
   up-step at c d =
       let b = at .ups-fit in
       let g = at .seconds-fit in
@@ -153,8 +138,8 @@ module _ (n i e u s x : ℕ) (w : List ℕ) (h : i < n) where
       advance n i e u s w h at up (5 * n + u) x e (u + 1) s (is-up _ c) (omega arith) f (omega arith) (omega arith)
       (ap (λ (k : ℕ). held n (set w (5 * n + u) x) e k s) (add-one u) ∙ held-up n e u s x w word (at .room) (omega arith) (omega arith) d)
 
-  pub second-step : Scanned n w (i + 1) e u s → getD w (3 * n + i) 0 ≢ 1 → getD w (3 * n + i) 0 ≢ 2 → getD w (3 * n + i) 0 ≢ 3
-      → x ≡ startsSecond (drop (i + 1) (lettersIn n w)) → Stepped n w (set w (6 * n + s) x) i e u (s + 1)
+  pub second-step : Labelled n w (i + 1) e u s → getD w (3 * n + i) 0 ≢ 1 → getD w (3 * n + i) 0 ≢ 2 → getD w (3 * n + i) 0 ≢ 3
+      → x ≡ startsSecond (drop (i + 1) (lettersIn n w)) → LabelStepped n w (set w (6 * n + s) x) i e u (s + 1)
   second-step at c₁ c₂ c₃ d =
       let b = at .ups-fit in
       let g = at .seconds-fit in
@@ -163,8 +148,8 @@ module _ (n i e u s x : ℕ) (w : List ℕ) (h : i < n) where
       advance n i e u s w h at second (6 * n + s) x e u (s + 1) (is-second _ c₁ c₂ c₃) (omega arith) f (omega arith) (omega arith)
       (ap (λ (k : ℕ). held n (set w (6 * n + s) x) e u k) (add-one s) ∙ held-second n e u s x w word (at .room) (omega arith) (omega arith) d)
 
-  pub down-step : (e′ u′ : ℕ) → e′ ≡ suc e → u′ ≡ suc u → Scanned n w (i + 1) e′ u′ s → getD w (3 * n + i) 0 ≡ 1
-      → x ≡ cond (startsUp (drop (i + 1) (lettersIn n w))) 2 (getD w (5 * n + u) 0) → Stepped n w (set w (9 * n + e) x) i e u s
+  pub down-step : (e′ u′ : ℕ) → e′ ≡ suc e → u′ ≡ suc u → Labelled n w (i + 1) e′ u′ s → getD w (3 * n + i) 0 ≡ 1
+      → x ≡ cond (startsUp (drop (i + 1) (lettersIn n w))) 2 (getD w (5 * n + u) 0) → LabelStepped n w (set w (9 * n + e) x) i e u s
   down-step e′ u′ p q at c d =
       let b = at .ups-fit in
       let g = at .seconds-fit in
@@ -173,8 +158,8 @@ module _ (n i e u s x : ℕ) (w : List ℕ) (h : i < n) where
       advance n i e′ u′ s w h at down (9 * n + e) x e u s (is-down _ c) (omega arith) (omega arith) (omega arith) (omega arith)
       (rw (p, q) (held-down n e u s x w word (at .room) (omega arith) (omega arith) (omega arith) d))
 
-  pub first-step : (e′ s′ : ℕ) → e′ ≡ suc e → s′ ≡ suc s → Scanned n w (i + 1) e′ u s′ → getD w (3 * n + i) 0 ≡ 3
-      → x ≡ getD w (6 * n + s) 0 → Stepped n w (set w (9 * n + e) x) i e u s
+  pub first-step : (e′ s′ : ℕ) → e′ ≡ suc e → s′ ≡ suc s → Labelled n w (i + 1) e′ u s′ → getD w (3 * n + i) 0 ≡ 3
+      → x ≡ getD w (6 * n + s) 0 → LabelStepped n w (set w (9 * n + e) x) i e u s
   first-step e′ s′ p q at c d =
       let b = at .ups-fit in
       let g = at .seconds-fit in

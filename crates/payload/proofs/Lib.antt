@@ -3,3 +3,4 @@ pub mod Letters
 pub mod Stacks
 pub mod Labelling
 pub mod Bitting
+pub mod Scanning

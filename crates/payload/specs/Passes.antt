@@ -1,10 +1,11 @@
--- What the two passes over the word keep true. They go from right to left: the letters from position i on are done.
+-- What the pass over the word keeps true. It goes from right to left: the letters from position i on are done.
 --
 --   held n w e u s         the labels from index e on, and the stacks with u labels of tree edges and s of other edges
---   Scanned, Stepped       what the pass for labels keeps true, and what one letter changes
+--   Labelled, LabelStepped what it keeps true of the labels, and what one letter changes
 --   downBefore i w         the letter before position i is down
 --   bitsFrom i w           the tree bits of the letters from position i on
---   Bitted, BitStepped     what the pass for tree bits keeps true, and what one letter changes
+--   Bitted, BitStepped     what it keeps true of the tree bits, and what one letter changes
+--   Scanned, Stepped       both
 use Prim.Native.Nat.{ℕ, zero, suc, _+_, _-_, _*_, _/_, _≤_}
 use mathlib.Core.Path.{_≡_}
 use mathlib.Core.Bool.{Bool, true, false}
@@ -14,14 +15,15 @@ use Rattle.model.specs.Traversal.{Letter, up}
 use Rattle.words.specs.Word.{valid, Ends, ends, wordBits}
 use Rattle.words.specs.Entered.{isDown}
 use Rattle.areas.specs.Area.{region, stack}
-use Rattle.letters.specs.Letters.{lettersIn, labelsIn}
+use Rattle.letters.specs.Letters.{lettersIn}
+use Rattle.payload.specs.declared.Scan.{Scan}
 
 -- ---- labels
 
 unfoldable pub held : ℕ → List ℕ → ℕ → ℕ → ℕ → Ends
 held n w e u s = record { labels = region (9 * n + e) (n / 2 - e) w; ups = stack (5 * n) u w; seconds = stack (6 * n) s w }
 
-pub record Scanned (n : ℕ) (w : List ℕ) (i e u s : ℕ) : Type 0 where
+pub record Labelled (n : ℕ) (w : List ℕ) (i e u s : ℕ) : Type 0 where
   pub word : valid 2 (lettersIn n w) ≡ true
   pub room : 16 * n ≤ length w
   pub small : n ≤ 8192
@@ -31,8 +33,8 @@ pub record Scanned (n : ℕ) (w : List ℕ) (i e u s : ℕ) : Type 0 where
   pub seconds-fit : s + i ≤ n
   pub ended : held n w e u s ≡ ends (drop i (lettersIn n w))
 
-pub record Stepped (n : ℕ) (w w′ : List ℕ) (i e u s : ℕ) : Type 0 where
-  pub scanned : Scanned n w′ i e u s
+pub record LabelStepped (n : ℕ) (w w′ : List ℕ) (i e u s : ℕ) : Type 0 where
+  pub labelled : Labelled n w′ i e u s
   pub letters : lettersIn n w′ ≡ lettersIn n w
   pub kept : length w′ ≡ length w
 
@@ -56,5 +58,15 @@ pub record Bitted (n : ℕ) (w : List ℕ) (i t : ℕ) : Type 0 where
 pub record BitStepped (n : ℕ) (w w′ : List ℕ) (i t : ℕ) : Type 0 where
   pub bitted : Bitted n w′ i t
   pub letters : lettersIn n w′ ≡ lettersIn n w
-  pub labels : labelsIn n w′ ≡ labelsIn n w
+  pub kept : length w′ ≡ length w
+
+-- ---- both
+
+pub record Scanned (n : ℕ) (w : List ℕ) (i : ℕ) (s : Scan) : Type 0 where
+  pub labelled : Labelled n w i (s .labels) (s .ups) (s .seconds)
+  pub bitted : Bitted n w i (s .bits)
+
+pub record Stepped (n : ℕ) (w w′ : List ℕ) (i : ℕ) (s : Scan) : Type 0 where
+  pub scanned : Scanned n w′ i s
+  pub letters : lettersIn n w′ ≡ lettersIn n w
   pub kept : length w′ ≡ length w

@@ -1,7 +1,7 @@
 -- The record of a plan that fits, from the word in the work area.
 --
 --   valid-two            a word that is valid for a kind is valid for kind 2
---   labels-asked, bits-asked, bytes-asked   what the two passes and the laying out ask
+--   word-asked, bytes-asked   what the pass over the word and the laying out ask
 --   laid                 what they leave
 use Prim.Native.Nat.{ℕ, _+_, _*_, _/_, _%_, _≤_, _<_}
 use native.Mathlib.Omega.{arith}
@@ -17,12 +17,12 @@ use Rattle.model.specs.Record.{recordLength, labelBase, layOut}
 use Rattle.model.specs.Calls.{front}
 use Rattle.model.proofs.Booleans.{and-left, and-right}
 use Rattle.model.proofs.Fitness.{count-parts}
-use Rattle.words.specs.Word.{nested, bareLeaf, rootDegree, valid, wordBits, wordLabels}
+use Rattle.words.specs.Word.{nested, bareLeaf, rootDegree, valid, wordLabels}
 use Rattle.decoding.proofs.Sizes.{labels-bound}
 use Rattle.decoding.proofs.Bounds.{bits-below}
 use Rattle.letters.proofs.Word.{length-letters}
 use Rattle.letters.specs.Letters.{lettersIn, bitsIn, labelsIn}
-use Rattle.payload.specs.Payload.{LabelsPut, BitsPut}
+use Rattle.payload.specs.Payload.{Put}
 use Rattle.laying.specs.Laying.{LaidOut}
 use Rattle.packing.proofs.Head.{kind-cases}
 use Rattle.writing.specs.Early.{Ready, Laid}
@@ -59,39 +59,29 @@ module _ (n k : ℕ) (w out : List ℕ) (r : Ready n k w out) where
   half : 2 * (n / 2) ≡ n
   half = let c = counts in omega arith
 
-  pub labels-asked : (valid 2 (lettersIn n w) ≡ true) × (16 * n ≤ length w)
-  labels-asked = (valid-two k (lettersIn n w) (r .proper), r .room)
+  pub word-asked : (valid 2 (lettersIn n w) ≡ true) × (16 * n ≤ length w)
+  word-asked = (valid-two k (lettersIn n w) (r .proper), r .room)
 
-  module _ (w₁ : List ℕ) (s : LabelsPut n w w₁) where
-    pub bits-asked : (valid 2 (lettersIn n w₁) ≡ true) × (16 * n ≤ length w₁)
-    bits-asked = (ap (valid 2) (s .letters) ∙ labels-asked .0, let z = r .room in let e = s .kept in omega arith)
+  module _ (w₁ : List ℕ) (t : Put n w w₁) where
+    pub bytes-asked : (isKind k ≡ true) × (1 ≤ n / 2) × (n / 2 ≤ 4096) × (32 * (n / 2) ≤ length w₁) × (recordLength k (n / 2) ≤ length out)
+        × (allBelow 2 (bitsIn (2 * (n / 2)) w₁) ≡ true) × (allBelow (1 + k) (labelsIn (2 * (n / 2)) w₁) ≡ true)
+    bytes-asked =
+        let c = counts in
+        let h = half in (
+          r .kind,
+          omega arith,
+          omega arith,
+          (let z = r .room in let e = t .kept in omega arith),
+          r .space,
+          ap (λ (m : ℕ). allBelow 2 (bitsIn m w₁)) h ∙ ap (allBelow 2) (t .bits) ∙ bits-below false (lettersIn n w),
+          ap (λ (m : ℕ). allBelow (1 + k) (labelsIn m w₁)) h ∙ ap (allBelow (1 + k)) (t .labels)
+              ∙ subst (λ (b : ℕ). allBelow b (wordLabels (lettersIn n w)) ≡ true) (base k (r .kind)) (labels-bound k (lettersIn n w) (r .proper)),
+        )
 
-    module _ (w₂ : List ℕ) (t : BitsPut n w₁ w₂) where
-      bits-now : bitsIn n w₂ ≡ wordBits false (lettersIn n w)
-      bits-now = t .bits ∙ ap (wordBits false) (s .letters)
-
-      labels-now : labelsIn n w₂ ≡ wordLabels (lettersIn n w)
-      labels-now = t .labels ∙ s .labels
-
-      pub bytes-asked : (isKind k ≡ true) × (1 ≤ n / 2) × (n / 2 ≤ 4096) × (32 * (n / 2) ≤ length w₂) × (recordLength k (n / 2) ≤ length out)
-          × (allBelow 2 (bitsIn (2 * (n / 2)) w₂) ≡ true) × (allBelow (1 + k) (labelsIn (2 * (n / 2)) w₂) ≡ true)
-      bytes-asked =
-          let c = counts in
-          let h = half in (
-            r .kind,
-            omega arith,
-            omega arith,
-            (let z = r .room in let e = s .kept in let f = t .kept in omega arith),
-            r .space,
-            ap (λ (m : ℕ). allBelow 2 (bitsIn m w₂)) h ∙ ap (allBelow 2) bits-now ∙ bits-below false (lettersIn n w),
-            ap (λ (m : ℕ). allBelow (1 + k) (labelsIn m w₂)) h ∙ ap (allBelow (1 + k)) labels-now
-                ∙ subst (λ (b : ℕ). allBelow b (wordLabels (lettersIn n w)) ≡ true) (base k (r .kind)) (labels-bound k (lettersIn n w) (r .proper)),
-          )
-
-      pub laid : (answer : ℕ) (out′ : List ℕ) → LaidOut k (n / 2) w₂ out answer out′ → Laid n k w out answer w₂ out′
-      laid answer out′ u = record {
-        answered = u .answered;
-        filled = u .filled ∙ ap (λ (m : ℕ). front (layOut k (n / 2) (bitsIn m w₂) (labelsIn m w₂)) out) half
-            ∙ rw (bits-now, labels-now);
-        kept = t .kept ∙ s .kept;
-      }
+    pub laid : (answer : ℕ) (out′ : List ℕ) → LaidOut k (n / 2) w₁ out answer out′ → Laid n k w out answer w₁ out′
+    laid answer out′ u = record {
+      answered = u .answered;
+      filled = u .filled ∙ ap (λ (m : ℕ). front (layOut k (n / 2) (bitsIn m w₁) (labelsIn m w₁)) out) half
+          ∙ rw (t .bits, t .labels);
+      kept = t .kept;
+    }

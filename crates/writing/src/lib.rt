@@ -45,8 +45,7 @@ fn laid_out(w: &mut [u16], n: usize, kind: u16, out: &mut [u8]) -> u16
     requires { ⌜ Ready n kind (now w) (now out) ⌝ }
     ensures { λ r. ⌜ Laid n kind (now (w .entry)) (now (out .entry)) r (now (w .exit)) (now (out .exit)) ⌝ }
 {
-    payload::put_labels(w, n);
-    payload::put_bits(w, n);
+    payload::put(w, n);
     laying::lay_out(w, kind, n / 2, out)
 }
 

@@ -1,16 +1,12 @@
+-- `up_bit`: whether the letter before is down.
 use native.Mathlib.Omega.{arith}
-use mathlib.Core.Path.{_∙_}
 use Rattle.payload.proofs.Bitting.{before-first, before-down, before-other}
 use borrow.Author.Needs.{needs}
 use Rattle.payload.proofs.up_bit.Statement.{statement}
 use Rattle.payload.proofs.up_bit.Tie as tie
-use Rattle.payload.proofs.up_bit.Reads as reads
-use Rattle.payload.proofs.up_bit.Lts as lts
-use Rattle.payload.proofs.second_at.Reads as second-at-reads
 
 returns : tie.Need-returns
-returns c =
-    before-first _ _ (c .before .before .pre .2) _ (c .if1 .taken)
+returns c = before-first _ _ (c .before .pre .2) _ _ (c .if1 .taken)
 
 mul-l : tie.Need-mul-l
 mul-l c = search needs
@@ -27,34 +23,16 @@ mul-l-2 c = search needs
 shared-slice-read-l : tie.Need-shared-slice-read-l
 shared-slice-read-l c = search needs
 
-add-second-at : tie.Need-add-second-at
-add-second-at c = search needs
-
-second-at-requires : tie.Need-second-at-requires
-second-at-requires c κs = search needs
-
 returns-2 : tie.Need-returns-2
 returns-2 c =
-    let st = c .before .before .before .before .before in
-    c .second-at .ensures ∙ before-down _ _ (st .pre .2) _ (omega (arith, c .before .before .before .if1 .left)) (omega (arith, st .pre))
-    (c .before .if2 .taken)
+    let st = c .before .before .before in
+    before-down _ _ (st .pre .2) _ _ (omega (arith, c .before .before .if1 .left)) (omega (arith, st .pre)) (c .if2 .taken)
 
 returns-3 : tie.Need-returns-3
 returns-3 c =
-    let st = c .before .before .before .before in
-    before-other _ _ (st .pre .2) _ (omega (arith, c .before .before .if1 .left)) (omega (arith, st .pre)) (c .if2 .left)
+    let st = c .before .before .before in
+    before-other _ _ (st .pre .2) _ _ (omega (arith, c .before .before .if1 .left)) (omega (arith, st .pre)) (c .if2 .left)
 
 pub up-bit-spec : {M : Type 1} → statement M
 up-bit-spec =
-    tie.close
-    (tie.spec
-    returns
-    mul-l
-    sub-l
-    add-l
-    mul-l-2
-    shared-slice-read-l
-    add-second-at
-    second-at-requires
-    returns-2
-    returns-3)
+    tie.close (tie.spec returns mul-l sub-l add-l mul-l-2 shared-slice-read-l returns-2 returns-3)

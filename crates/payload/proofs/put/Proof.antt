@@ -1,0 +1,56 @@
+-- `put`: the pass from the word's end.
+use native.Mathlib.Omega.{arith}
+use mathlib.Core.Path.{_≡_, refl, _∙_}
+use lib.ListN.{length}
+use Rattle.letters.specs.Letters.{lettersIn}
+use Rattle.payload.specs.Passes.{Scanned}
+use Rattle.payload.proofs.Scanning.{scan-start, scan-next, scan-end}
+use borrow.Author.Needs.{needs}
+use Rattle.payload.proofs.put.Statement.{statement}
+use Rattle.payload.proofs.put.Tie as tie
+
+abbrev Inv-loop : tie.InvT-loop
+Inv-loop w₀ n s₀ i₀ w s i = Scanned n w i s × (lettersIn n w ≡ lettersIn n w₀) × (length w ≡ length w₀)
+
+abbrev μ-loop : tie.MeasureT-loop
+μ-loop w₀ n s₀ i₀ w s i = i
+
+loop-holds : tie.Need-loop-holds Inv-loop μ-loop
+loop-holds c = (scan-start _ _ (c .before .pre .0) (c .before .pre .1), refl, refl)
+
+sub-i : tie.Need-sub-i Inv-loop μ-loop
+sub-i c = search needs
+
+step-requires : tie.Need-step-requires Inv-loop μ-loop
+step-requires c κs = let at = c .before .before .loop in scan-next _ (at .i) _ _ (c .before .loop-test .taken) (at .inv .0)
+
+loop-less : tie.Need-loop-less Inv-loop μ-loop
+loop-less c = search needs
+
+loop-again : tie.Need-loop-again Inv-loop μ-loop
+loop-again c =
+    let step = c .before .before .step .ensures in
+    let inv = c .before .before .before .before .before .loop .inv in
+    (step .scanned, step .letters ∙ inv .1, step .kept ∙ inv .2)
+
+same-length : tie.Need-same-length Inv-loop μ-loop
+same-length c = c .before .loop .inv .2
+
+returns : tie.Need-returns Inv-loop μ-loop
+returns c =
+    let at = c .before .loop in
+    scan-end _ (at .i) _ _ _ (omega (arith, c .loop-test .left)) (at .inv .0) (at .inv .1) (at .inv .2)
+
+pub put-spec : {M : Type 1} → statement M
+put-spec =
+    tie.close
+    (tie.spec
+    Inv-loop
+    μ-loop
+    loop-holds
+    sub-i
+    step-requires
+    loop-less
+    loop-again
+    same-length
+    returns)
