@@ -6,6 +6,6 @@ pub mod Fitness
 pub mod Characteristic
 pub mod Standard
 pub mod Line
+pub mod Unreadable
 pub mod Table
 pub mod Vectors
-pub mod Unreadable

@@ -1,7 +1,7 @@
 -- "Lines marked * form one table; a proof over that table shows that the definitions yield them."
 --
---   starred              the lines of document 01 on writing that are marked *
---   starred-hold         every line of the table holds. The two lines on reading are in `Unreadable.antt`.
+--   starred              the lines of document 01 that are marked *; its last one names two records, and is two lines here
+--   starred-hold         the definitions yield every line of the table
 use mathlib.Core.List.{List, [], _∷_}
 use lib.Dec.{T}
 use lib.IntN.{pos}
@@ -12,21 +12,24 @@ use Rattle.model.specs.LabelledTree.{codesOf, codes, unlabelled, isUpper
 use Rattle.model.specs.Record.{digitsFrom, pack, le16, recordLength, payload, layOut, recordOf}
 use Rattle.model.specs.Shelf.{same}
 use Rattle.model.specs.Calls.{writeRefusal}
-use Rattle.model.proofs.Line.{Line, record-is, not-planar, refusal, agrees, holds, allHold}
+use Rattle.model.proofs.Line.{Line, on-writing, on-reading, record-is, not-planar, refusal, agrees, holds, AllHold}
+use Rattle.model.proofs.Unreadable.{refuses-CC, refuses-C9}
 
 unfoldable pub starred : List Line
 starred =
-    record { kind = 1; root = 0; rotation = 3 ∷ 2 ∷ 1 ∷ 0 ∷ []; says = record-is (0x07 ∷ 0x00 ∷ 0x01 ∷ 0x00 ∷ 0x02 ∷ 0x00 ∷ 0xC8 ∷ []) }
-    ∷ record { kind = 1; root = 0; rotation = 5 ∷ 2 ∷ 1 ∷ 4 ∷ 3 ∷ 0 ∷ []; says = record-is (0x08 ∷ 0x00 ∷ 0x01 ∷ 0x00 ∷ 0x03 ∷ 0x00 ∷ 0xE2 ∷ 0x00 ∷ []) }
-    ∷ record { kind = 1; root = 0; rotation = 5 ∷ 2 ∷ 4 ∷ 0 ∷ 1 ∷ 3 ∷ []; says = record-is (0x08 ∷ 0x00 ∷ 0x01 ∷ 0x00 ∷ 0x03 ∷ 0x00 ∷ 0xD2 ∷ 0x80 ∷ []) }
-    ∷ record { kind = 2; root = 0; rotation = 0 ∷ 1 ∷ []; says = record-is (0x08 ∷ 0x00 ∷ 0x02 ∷ 0x00 ∷ 0x01 ∷ 0x00 ∷ 0x80 ∷ 0xA2 ∷ []) }
-    ∷ record { kind = 2; root = 0; rotation = 0 ∷ 2 ∷ 1 ∷ 3 ∷ []; says = record-is (0x08 ∷ 0x00 ∷ 0x02 ∷ 0x00 ∷ 0x02 ∷ 0x00 ∷ 0xC0 ∷ 0x36 ∷ []) }
-    ∷ record { kind = 2; root = 0; rotation = 2 ∷ 1 ∷ 0 ∷ 3 ∷ []; says = record-is (0x08 ∷ 0x00 ∷ 0x02 ∷ 0x00 ∷ 0x02 ∷ 0x00 ∷ 0xA0 ∷ 0xD8 ∷ []) }
-    ∷ record { kind = 2; root = 0; rotation = 3 ∷ 2 ∷ 1 ∷ 0 ∷ []; says = record-is (0x08 ∷ 0x00 ∷ 0x02 ∷ 0x00 ∷ 0x02 ∷ 0x00 ∷ 0xC0 ∷ 0x51 ∷ []) }
-    ∷ record { kind = 2; root = 0; rotation = 4 ∷ 2 ∷ 1 ∷ 0 ∷ 3 ∷ 5 ∷ []; says = record-is (0x08 ∷ 0x00 ∷ 0x02 ∷ 0x00 ∷ 0x03 ∷ 0x00 ∷ 0xCC ∷ 0x12 ∷ []) }
-    ∷ record { kind = 2; root = 0; rotation = 3 ∷ 2 ∷ 4 ∷ 5 ∷ 1 ∷ 0 ∷ []; says = not-planar (pos 0) }
+    on-writing (record { kind = 1; root = 0; rotation = 3 ∷ 2 ∷ 1 ∷ 0 ∷ []; says = record-is (0x07 ∷ 0x00 ∷ 0x01 ∷ 0x00 ∷ 0x02 ∷ 0x00 ∷ 0xC8 ∷ []) })
+    ∷ on-writing (record { kind = 1; root = 0; rotation = 5 ∷ 2 ∷ 1 ∷ 4 ∷ 3 ∷ 0 ∷ []; says = record-is (0x08 ∷ 0x00 ∷ 0x01 ∷ 0x00 ∷ 0x03 ∷ 0x00 ∷ 0xE2 ∷ 0x00 ∷ []) })
+    ∷ on-writing (record { kind = 1; root = 0; rotation = 5 ∷ 2 ∷ 4 ∷ 0 ∷ 1 ∷ 3 ∷ []; says = record-is (0x08 ∷ 0x00 ∷ 0x01 ∷ 0x00 ∷ 0x03 ∷ 0x00 ∷ 0xD2 ∷ 0x80 ∷ []) })
+    ∷ on-writing (record { kind = 2; root = 0; rotation = 0 ∷ 1 ∷ []; says = record-is (0x08 ∷ 0x00 ∷ 0x02 ∷ 0x00 ∷ 0x01 ∷ 0x00 ∷ 0x80 ∷ 0xA2 ∷ []) })
+    ∷ on-writing (record { kind = 2; root = 0; rotation = 0 ∷ 2 ∷ 1 ∷ 3 ∷ []; says = record-is (0x08 ∷ 0x00 ∷ 0x02 ∷ 0x00 ∷ 0x02 ∷ 0x00 ∷ 0xC0 ∷ 0x36 ∷ []) })
+    ∷ on-writing (record { kind = 2; root = 0; rotation = 2 ∷ 1 ∷ 0 ∷ 3 ∷ []; says = record-is (0x08 ∷ 0x00 ∷ 0x02 ∷ 0x00 ∷ 0x02 ∷ 0x00 ∷ 0xA0 ∷ 0xD8 ∷ []) })
+    ∷ on-writing (record { kind = 2; root = 0; rotation = 3 ∷ 2 ∷ 1 ∷ 0 ∷ []; says = record-is (0x08 ∷ 0x00 ∷ 0x02 ∷ 0x00 ∷ 0x02 ∷ 0x00 ∷ 0xC0 ∷ 0x51 ∷ []) })
+    ∷ on-writing (record { kind = 2; root = 0; rotation = 4 ∷ 2 ∷ 1 ∷ 0 ∷ 3 ∷ 5 ∷ []; says = record-is (0x08 ∷ 0x00 ∷ 0x02 ∷ 0x00 ∷ 0x03 ∷ 0x00 ∷ 0xCC ∷ 0x12 ∷ []) })
+    ∷ on-writing (record { kind = 2; root = 0; rotation = 3 ∷ 2 ∷ 4 ∷ 5 ∷ 1 ∷ 0 ∷ []; says = not-planar (pos 0) })
+    ∷ on-reading (0x07 ∷ 0x00 ∷ 0x01 ∷ 0x00 ∷ 0x02 ∷ 0x00 ∷ 0xCC ∷ []) 13
+    ∷ on-reading (0x07 ∷ 0x00 ∷ 0x01 ∷ 0x00 ∷ 0x02 ∷ 0x00 ∷ 0xC9 ∷ []) 13
     ∷ []
 
-pub starred-hold : T (allHold starred)
-unfolding starred allHold holds agrees refusal writeRefusal firstRefusal isKind dartCountFits isPermutation allBelow distinct elem edges recordLength connected some reached spreads spread opposite next planar characteristic vertices faces cycles count least faceNext hasLoop vertexOf degreeRefused hasDegreeOne degreeOne same recordOf layOut le16 payload pack digitsFrom treeBits labels along bitsOf labelOf treeLabels takeLeaves takeOne takeLeaf removeCut labelOne before gone isUpper unlabelled codes codesOf position visits walk letterAt onward seenAfter
-starred-hold = tt
+pub starred-hold : AllHold starred
+unfolding starred holds agrees refusal writeRefusal firstRefusal isKind dartCountFits isPermutation allBelow distinct elem edges recordLength connected some reached spreads spread opposite next planar characteristic vertices faces cycles count least faceNext hasLoop vertexOf degreeRefused hasDegreeOne degreeOne same recordOf layOut le16 payload pack digitsFrom treeBits labels along bitsOf labelOf treeLabels takeLeaves takeOne takeLeaf removeCut labelOne before gone isUpper unlabelled codes codesOf position visits walk letterAt onward seenAfter
+starred-hold = (tt, (tt, (tt, (tt, (tt, (tt, (tt, (tt, (tt, (refuses-CC, (refuses-C9, tt)))))))))))

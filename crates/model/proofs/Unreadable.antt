@@ -1,22 +1,48 @@
--- The two lines of the starred table on reading: "07 00 01 00 02 00 CC and the same with C9: refusal 13." No fit plan has these records.
+-- The two records of the starred table on reading: "07 00 01 00 02 00 CC and the same with C9: refusal 13." No fit plan has them.
 --
+--   room-clear                     bytes that pass 1, 2, 3 and 5, with room for the plan, meet 13 at most
+--   unreadable-refused             if no fit plan has them, reading answers 13
 --   two-edges x                    a record of two edges in kind 1 whose payload is the byte x
 --   unreadable-CC, unreadable-C9   no plan that is fit for kind 1 has the record
+--   refuses-CC, refuses-C9         reading answers 13
 use mathlib.Core.Path.{_≡_, refl, sym, ap, _∙_}
 use mathlib.Core.Bool.{Bool, true, not, _&&_, _||_, true≢false}
 use mathlib.Core.List.{List, [], _∷_}
-use Prim.Native.Nat.{ℕ, _/_, _%_, _≤_, _<_}
+use Prim.Native.Nat.{ℕ, _*_, _/_, _%_, _≤_, _<_}
 use native.Mathlib.Omega.{arith}
 use lib.ListN.{length, getD}
-use Rattle.model.specs.Numbers.{count, some, elem, distinct, allBelow, isPermutation, position, least, cycles}
+use borrow.Author.Tests.{le-ltb}
+use Rattle.model.specs.declared.ReadBack.{ReadBack}
+use Rattle.model.specs.declared.ReadBack.the-variants as readback
+use Rattle.model.specs.Numbers.{count, some, elem, distinct, allBelow, isPermutation, position, least, cycles, firstRefusal}
 use Rattle.model.specs.Map.{Plan, darts, opposite, next, vertexOf, faceNext, edges, vertices, faces, degreeOne, spread, spreads, reached, connected, characteristic, planar, hasLoop, hasDegreeOne, isKind, dartCountFits, degreeRefused, fit}
 use Rattle.model.specs.Traversal.{letterAt, onward, seenAfter, walk, visits}
 use Rattle.model.specs.LabelledTree.{codesOf, codes, unlabelled, isUpper, gone, before, labelOne, removeCut, takeLeaf, takeOne, takeLeaves, treeLabels, labelOf, bitsOf, along, labels, treeBits}
 use Rattle.model.specs.Record.{digitsFrom, pack, le16, recordLength, payload, layOut, recordOf}
-use Rattle.model.specs.Shelf.{same, word16}
-use Rattle.model.specs.Calls.{HasRecord}
+use Rattle.model.specs.Shelf.{same, word16, edgesOf, headRefusal}
+use Rattle.model.specs.Calls.{readRefusal, HasRecord, Reads, refused, read, unreadable}
 use Rattle.model.proofs.Booleans.{and-left, not-left, all, at}
+use Rattle.model.proofs.Line.{on-reading, Holds}
 use Rattle.model.proofs.Fitness.{below-all, Fit, fit-parts, count-parts, even-darts}
+
+-- ---- 13, where no fit plan has the record
+
+pub room-clear : (r : List ℕ) (w o : ℕ) → headRefusal r ≡ 0 → 32 * edgesOf r ≤ w → 2 * edgesOf r ≤ o → readRefusal r w o ≡ 0
+unfolding readRefusal firstRefusal
+room-clear r w o passed h l = rw (passed, le-ltb w (32 * edgesOf r) h, le-ltb o (2 * edgesOf r) l)
+
+pub unreadable-refused : (r : List ℕ) → headRefusal r ≡ 0 → ((p : Plan) → HasRecord r p → ⊥) → Holds (on-reading r 13)
+unreadable-refused r passed never w out h l = record { refused-so = unreadable clear never refl refl; only-so = λ a o c. go a o c }
+  where
+    clear : readRefusal r w (length out) ≡ 0
+    clear = room-clear r w (length out) passed h l
+
+    go : (a : ReadBack) (o : List ℕ) → Reads r w out a o → (a ≡ readback.Refused 13) × (o ≡ out)
+    go a o (refused d e f) = absurd (d clear)
+    go a o (read e p has f g) = absurd (never p has)
+    go a o (unreadable e n f g) = (f, g)
+
+-- ---- no plan of two edges has CC or C9
 
 abbrev pub two-edges : ℕ → List ℕ
 two-edges x = 0x07 ∷ 0x00 ∷ 0x01 ∷ 0x00 ∷ 0x02 ∷ 0x00 ∷ x ∷ []
@@ -98,3 +124,13 @@ unreadable-CC p = none 0xCC p refl
 pub unreadable-C9 : (p : Plan) → HasRecord (two-edges 0xC9) p → ⊥
 unfolding same
 unreadable-C9 p = none 0xC9 p refl
+
+-- ---- so reading answers 13
+
+pub refuses-CC : Holds (on-reading (two-edges 0xCC) 13)
+unfolding headRefusal firstRefusal word16 isKind recordLength
+refuses-CC = unreadable-refused (two-edges 0xCC) refl unreadable-CC
+
+pub refuses-C9 : Holds (on-reading (two-edges 0xC9) 13)
+unfolding headRefusal firstRefusal word16 isKind recordLength
+refuses-C9 = unreadable-refused (two-edges 0xC9) refl unreadable-C9

@@ -12,9 +12,9 @@ use Rattle.model.specs.LabelledTree.{codesOf, codes, unlabelled, isUpper
 use Rattle.model.specs.Record.{digitsFrom, pack, le16, recordLength, payload, layOut, recordOf}
 use Rattle.model.specs.Shelf.{same}
 use Rattle.model.specs.Calls.{writeRefusal}
-use Rattle.model.proofs.Line.{Line, standard-is, refused, not-planar, refusal, agrees, holds, allHold}
+use Rattle.model.proofs.Line.{Writes, standard-is, refused, not-planar, refusal, agrees, holds, allHold}
 
-unfoldable pub vectors : List Line
+unfoldable pub vectors : List Writes
 vectors =
     record { kind = 1; root = 0; rotation = 0 ∷ 1 ∷ 2 ∷ 3 ∷ []; says = refused 9 }
     ∷ record { kind = 2; root = 0; rotation = 0 ∷ 1 ∷ 2 ∷ 3 ∷ []; says = refused 9 }

@@ -17,6 +17,7 @@ use borrow.Author.Tests.{lt-ltb, le-ltb, eq-eqb, ne-eqb, eqb-true, eqb-false, lt
 use Rattle.model.specs.Numbers.{firstRefusal}
 use Rattle.model.specs.Shelf.{edgesOf, headRefusal, passes}
 use Rattle.model.specs.Calls.{readRefusal}
+use Rattle.model.proofs.Unreadable.{room-clear}
 use Rattle.packing.proofs.Head.{passes-facts}
 use Rattle.reading.specs.ReadCall.{coreRefusal}
 
@@ -44,12 +45,11 @@ module _ (r : List ℕ) (w o : ℕ) where
     early-output h l = rw (passed, sym m-is, le-ltb w (32 * m) h, lt-ltb o (2 * m) l)
 
     pub early-none : 32 * m ≤ w → 2 * m ≤ o → 0 ≡ readRefusal r w o
-    unfolding readRefusal firstRefusal
-    early-none h l = rw (passed, sym m-is, le-ltb w (32 * m) h, le-ltb o (2 * m) l)
+    early-none h l = let e = m-is in sym (room-clear r w o passed (omega arith) (omega arith))
 
   pub facts-early : Early r w o → readRefusal r w o ≡ 0
   unfolding passes
-  facts-early f = sym (early-none (edgesOf r) (eqb-true _ 0 (f .passed)) refl (f .work-room) (f .out-room))
+  facts-early f = room-clear r w o (eqb-true _ 0 (f .passed)) (f .work-room) (f .out-room)
 
   pub early-facts : readRefusal r w o ≡ 0 → Early r w o
   unfolding readRefusal firstRefusal passes
