@@ -14,8 +14,8 @@ use native.Mathlib.Nat.{not-suc-le-zero}
 use native.Mathlib.Omega.{arith}
 use lib.ListN.{length, drop, length-drop}
 use Rattle.model.specs.Shelf.{word16, passes, cutInto, recordsIn, allPass, endToEnd}
+use Rattle.model.specs.Walk.{headOf}
 use Rattle.model.proofs.Booleans.{and-left, and-right}
-use Rattle.cutting.specs.Cutting.{headOf}
 use Rattle.cutting.proofs.Stands.{head-whole}
 
 abbrev pub rest : List ℕ → List ℕ

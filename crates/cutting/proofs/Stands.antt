@@ -16,9 +16,9 @@ use lib.ListN.{length, take, drop, length-take, length-drop}
 use lib.Seq.{getD-drop, getD-take, length-take-le}
 use borrow.Author.Tests.{ne-eqb, eq-eqb}
 use Rattle.model.specs.Shelf.{word16, headRefusal, passes}
+use Rattle.model.specs.Walk.{headOf, recordAt}
 use Rattle.model.proofs.Booleans.{not-intro}
 use Rattle.heads.proofs.Head.{passes-long, passes-length}
-use Rattle.cutting.specs.Cutting.{headOf, recordAt}
 
 field-take : (bs : List ℕ) (l : ℕ) → 2 ≤ l → word16 (take l bs) 0 ≡ word16 bs 0
 unfolding word16

@@ -17,7 +17,8 @@ use lib.Seq.{drop-drop, drop-length, length-take-le}
 use Rattle.cutting.specs.declared.Counted.{Counted}
 use Rattle.cutting.specs.declared.Counted.the-variants.{Records, Broken}
 use Rattle.model.specs.Shelf.{word16, passes, allPass, recordsIn, endToEnd, same, firstEqual}
-use Rattle.cutting.specs.Cutting.{headOf, recordAt, placeOf, countOf}
+use Rattle.model.specs.Walk.{headOf, recordAt, placeOfRecord}
+use Rattle.cutting.specs.Count.{countOf}
 use Rattle.cutting.proofs.Stands.{head-whole, field-at, stands, stands-length, stands-not}
 use Rattle.cutting.proofs.Cut.{rest, cut-verdict, cut-records, cut-stops, end-nil, some-bytes, end-head, end-rest, end-records}
 
@@ -66,8 +67,8 @@ pub count-ends : (bs : List ℕ) (at n : ℕ) → at ≡ length bs → plus n (c
 unfolding countOf endToEnd allPass
 count-ends bs at n e = rw (e, drop-length bs, end-nil) (ap Records (omega arith))
 
-place-cons : (r : List ℕ) (rs : List (List ℕ)) (k : ℕ) → 0 < k → placeOf (r ∷ rs) k ≡ length r + placeOf rs (k - 1)
-unfolding placeOf
+place-cons : (r : List ℕ) (rs : List (List ℕ)) (k : ℕ) → 0 < k → placeOfRecord (r ∷ rs) k ≡ length r + placeOfRecord rs (k - 1)
+unfolding placeOfRecord
 place-cons r rs zero h = absurd (not-suc-le-zero h)
 place-cons r rs (suc k) h = let e : suc k - 1 ≡ k = omega arith in rw e
 
@@ -104,9 +105,9 @@ module _ (bs : List ℕ) (at : ℕ) (t : endToEnd (drop at bs) ≡ true) (h : at
     length-here : length (take l (drop at bs)) ≡ l
     length-here = let d = length-drop at bs in let f = next-fits in length-take-le l (drop at bs) (omega arith)
 
-    pub place-turn : (k : ℕ) → 0 < k → at + placeOf (recordsIn (drop at bs)) k ≡ at + l + placeOf (recordsIn (drop (at + l) bs)) (k - 1)
+    pub place-turn : (k : ℕ) → 0 < k → at + placeOfRecord (recordsIn (drop at bs)) k ≡ at + l + placeOfRecord (recordsIn (drop (at + l) bs)) (k - 1)
     place-turn k m =
-        let e = ap (λ (rs : List (List ℕ)). placeOf rs k) next-records ∙ place-cons (take l (drop at bs)) (recordsIn (drop (at + l) bs)) k m in
+        let e = ap (λ (rs : List (List ℕ)). placeOfRecord rs k) next-records ∙ place-cons (take l (drop at bs)) (recordsIn (drop (at + l) bs)) k m in
         let f = length-here in
         omega arith
 
@@ -125,8 +126,8 @@ module _ (bs : List ℕ) (at : ℕ) (t : endToEnd (drop at bs) ≡ true) (h : at
       unfolding firstEqual
       find-stops e = rw (next-records, e) (omega arith)
 
-pub place-ends : (rs : List (List ℕ)) (at k : ℕ) → k ≡ 0 → at + placeOf rs k ≡ at
-unfolding placeOf
+pub place-ends : (rs : List (List ℕ)) (at k : ℕ) → k ≡ 0 → at + placeOfRecord rs k ≡ at
+unfolding placeOfRecord
 place-ends rs at k e = rw e (omega arith)
 
 pub find-ends : (bs : List ℕ) (at : ℕ) (r : List ℕ) (n : ℕ) → at ≡ length bs → n + firstEqual r (recordsIn (drop at bs)) ≡ n

@@ -5,7 +5,8 @@ ghost use mathlib.Core.Bool.{true};
 ghost use Prim.Native.Nat.{ℕ, _+_, _-_, _<_, _≤_};
 ghost use lib.ListN.{length, take, drop};
 ghost use Rattle.model.specs.Shelf.{recordsIn, endToEnd, same, firstEqual};
-ghost use Rattle.cutting.specs.Cutting.{recordAt, placeOf, countOf};
+ghost use Rattle.model.specs.Walk.{recordAt, placeOfRecord};
+ghost use Rattle.cutting.specs.Count.{countOf};
 
 pub enum Counted {
     Records(usize),
@@ -66,7 +67,7 @@ pub fn record_at<'a>(bytes: &'a [u8], at: usize) -> &'a [u8]
 // The place of record n.
 pub fn place(bytes: &[u8], n: usize) -> usize
     requires { ⌜ (endToEnd (now bytes) ≡ true) × (n < length (recordsIn (now bytes))) ⌝ }
-    ensures { λ r. ⌜ r ≡ placeOf (recordsIn (now (bytes .entry))) n ⌝ }
+    ensures { λ r. ⌜ r ≡ placeOfRecord (recordsIn (now (bytes .entry))) n ⌝ }
 {
     let mut at = 0;
     let mut left = n;

@@ -10,9 +10,9 @@ use Rattle.model.specs.declared.Written.{Written}
 use Rattle.model.specs.declared.ReadBack.{ReadBack}
 use Rattle.model.specs.declared.Shelved.{Shelved}
 use Rattle.model.specs.Map.{Plan}
-use Rattle.model.specs.Calls.{Wrote, Stored, numberOfWritten, lengthOfWritten, characteristicOfWritten, numberOfRead, numberOfShelved}
-use Rattle.reading.specs.ReadCall.{ReadCall}
-use Rattle.jurnadel.specs.Exports.{WriteExport, ReadExport, ShelveExport, edgesIn, numberIn, usedIn}
+use Rattle.model.specs.Calls.{Wrote, ReadCall, Stored, numberOfWritten, lengthOfWritten, characteristicOfWritten, numberOfRead, edgesOfRead}
+use Rattle.model.specs.Calls.{numberOfShelved, recordNumberOfShelved, usedOfShelved}
+use Rattle.model.specs.Exports.{WriteExport, ReadExport, ShelveExport}
 
 pub write-out : (k : ℕ) (p : Plan) (work out : List ℕ) (a b : Written) (work′ out′ : List ℕ) → Wrote k p work out a work′ out′ → a ≡ b
     → WriteExport k p work out (numberOfWritten b) (lengthOfWritten b) (characteristicOfWritten b) work′ out′
@@ -27,23 +27,23 @@ write-out k p work out a b work′ out′ w e =
     }
 
 pub read-out : (bytes work out : List ℕ) (a b : ReadBack) (work′ out′ : List ℕ) → ReadCall bytes work out a work′ out′ → a ≡ b
-    → ReadExport bytes work out (numberOfRead b) (edgesIn b) work′ out′
+    → ReadExport bytes work out (numberOfRead b) (edgesOfRead b) work′ out′
 read-out bytes work out a b work′ out′ c e =
     record {
       answer = a;
       outcome = c .outcome;
       number-is = ap numberOfRead (sym e);
-      edges-are = ap edgesIn (sym e);
+      edges-are = ap edgesOfRead (sym e);
       cleared = c .cleared;
     }
 
 pub shelve-out : (bytes shelf : List ℕ) (used : ℕ) (a b : Shelved) (shelf′ : List ℕ) → Stored bytes shelf used a shelf′ → a ≡ b
-    → ShelveExport bytes shelf used (numberOfShelved b) (numberIn b) (usedIn used b) shelf′
+    → ShelveExport bytes shelf used (numberOfShelved b) (recordNumberOfShelved b) (usedOfShelved used b) shelf′
 shelve-out bytes shelf used a b shelf′ s e =
     let z = sym e ∙ s .answered in
     record {
       refusal-is = ap numberOfShelved z;
-      number-is = ap numberIn z;
-      used-is = ap (usedIn used) z;
+      number-is = ap recordNumberOfShelved z;
+      used-is = ap (usedOfShelved used) z;
       bytes-are = s .bytes;
     }

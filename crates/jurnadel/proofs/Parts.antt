@@ -12,11 +12,10 @@ use lib.ListN.{length, take, drop, length-take}
 use lib.Seq.{take-take}
 use borrow.Author.Tests.{eq-eqb, ne-eqb}
 use Rattle.model.specs.Calls.{fetchRefusal, fetched}
-use Rattle.cutting.specs.Cutting.{recordAt}
+use Rattle.model.specs.Walk.{recordAt, beginPlace, Begun}
+use Rattle.model.specs.Exports.{FetchExport, fetchedPlace}
 use Rattle.cutting.proofs.Stands.{stands, stands-length, part-none, part-is}
-use Rattle.shelf.specs.Walk.{beginPlace, Begun}
 use Rattle.shelf.proofs.Walking.{first-record}
-use Rattle.jurnadel.specs.Exports.{FetchExport, placeOfRecord}
 
 pub part-of-part : (l u p : ℕ) (s : List ℕ) → p + l ≤ u → take l (drop p (take u s)) ≡ take l (drop p s)
 part-of-part l u zero s h = take-take l u s (omega arith)
@@ -35,13 +34,13 @@ record-part s u at l e = go (ℕ-discrete l 0)
         let k : at + l - at ≡ l = omega arith in
         sym (part-of-part l u at s (omega arith)) ∙ (ap (λ (j : ℕ). take j (drop at (take u s))) (sym k) ∙ part-is (take u s) at l e d)
 
-same-place : (s : List ℕ) (u n : ℕ) → fetchRefusal s u n ≡ 0 → beginPlace s u n ≡ placeOfRecord s u n
-unfolding beginPlace placeOfRecord
+same-place : (s : List ℕ) (u n : ℕ) → fetchRefusal s u n ≡ 0 → beginPlace s u n ≡ fetchedPlace s u n
+unfolding beginPlace fetchedPlace
 same-place s u n z = rw (eq-eqb (fetchRefusal s u n) 0 z)
 
 module _ (s : List ℕ) (u n p x : ℕ) (b : Begun s u n p x) where
   pub fetch-refused : (x ≡ 0 → ⊥) → FetchExport s u n x 0 0
-  unfolding placeOfRecord fetched
+  unfolding fetchedPlace fetched
   fetch-refused d =
       let t = ne-eqb (fetchRefusal s u n) 0 (λ z. d (b .number-is ∙ z)) in
       record { refusal-is = b .number-is; place-is = rw t; length-is = rw t; part-is = rw t }

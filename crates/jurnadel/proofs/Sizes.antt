@@ -11,7 +11,7 @@ use lib.Dec.{eqb}
 use borrow.Author.Tests.{lt-ltb, le-ltb, eq-eqb, ne-eqb}
 use Rattle.model.specs.Map.{isKind}
 use Rattle.model.specs.Record.{recordLength}
-use Rattle.jurnadel.specs.Exports.{lengthFor}
+use Rattle.model.specs.Exports.{lengthFor}
 
 module _ (k m : ℕ) where
   pub no-kind : isKind k ≡ false → 0 ≡ lengthFor k m

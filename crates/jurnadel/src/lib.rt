@@ -6,9 +6,8 @@ use model::Written;
 ghost use mathlib.Core.Path.{_≡_};
 ghost use Prim.Native.Nat.{ℕ, _*_};
 ghost use lib.ListN.{length, take};
-ghost use Rattle.cutting.specs.Cutting.{recordAt};
-ghost use Rattle.shelf.specs.Walk.{Begun};
-ghost use Rattle.jurnadel.specs.Exports.{WriteExport, ReadExport, ShelveExport, FetchExport, lengthFor};
+ghost use Rattle.model.specs.Walk.{recordAt, Begun};
+ghost use Rattle.model.specs.Exports.{WriteExport, ReadExport, ShelveExport, FetchExport, lengthFor};
 
 // ---- sizes
 

@@ -1,6 +1,5 @@
 -- What a call that did what writing promises says if it was not refused. Assumes nothing.
 --
---   number-of-answer      the number of writing's answer is its first refusal
 --   NotRefused            the plan is fit, and the output has room for the record
 --   not-refused           where no refusal holds
 --   accepted-fit          the plan of an accepted call is fit
@@ -9,32 +8,21 @@
 use Prim.Native.Nat.{ℕ, suc, _*_, _≤_}
 use native.Mathlib.Nat.{suc-ne-zero}
 use mathlib.Core.Path.{_≡_, refl, sym, ap, _∙_}
-use mathlib.Core.Bool.{Bool, true, false, not, cond}
+use mathlib.Core.Bool.{Bool, true, false, not}
 use mathlib.Core.List.{List, [], _∷_}
-use lib.Dec.{eqb, ltb}
+use lib.Dec.{ltb}
 use lib.ListN.{length, drop}
 use lib.Seq.{take-append-seam}
 use borrow.Author.Tests.{eqb-true, eq-eqb, ltb-true, ltb-false, not-false}
-use Rattle.model.specs.declared.Written.the-variants as written
 use Rattle.model.specs.Numbers.{firstRefusal, Refusal, refuse, isPermutation}
-use Rattle.model.specs.Map.{Plan, darts, edges, isKind, dartCountFits, connected, planar, characteristic, hasLoop, degreeRefused, fit}
+use Rattle.model.specs.Map.{Plan, darts, edges, isKind, dartCountFits, connected, planar, hasLoop, degreeRefused, fit}
 use Rattle.model.specs.Record.{recordLength, recordOf}
 use Rattle.model.specs.Calls.{front, writeRefusal, writeAnswer, writtenOutput, numberOfWritten, lengthOfWritten}
 use Rattle.model.specs.Writings.{Writing, Honest, isAccepted, bytesWritten}
 use Rattle.model.proofs.Fitness.{parts-fit}
+use Rattle.model.proofs.Answers.{number-of-written}
 
 -- ---- no refusal
-
-pub number-of-answer : (k : ℕ) (p : Plan) (w o : ℕ) → numberOfWritten (writeAnswer k p w o) ≡ writeRefusal k p w o
-unfolding writeAnswer
-number-of-answer k p w o = go (writeRefusal k p w o) (eqb (writeRefusal k p w o) 0) (eqb (writeRefusal k p w o) 10) refl refl
-  where
-    go : (r : ℕ) (b c : Bool) → eqb r 0 ≡ b → eqb r 10 ≡ c
-        → numberOfWritten (cond b (written.Length (recordLength k (edges (p .rotation))))
-        (cond c (written.NotPlanar (characteristic (p .rotation))) (written.Refused r))) ≡ r
-    go r true c e f = sym (eqb-true r 0 e)
-    go r false true e f = sym (eqb-true r 10 f)
-    go r false false e f = refl
 
 -- the first of the refusals does not hold, nor any other
 passed : (n : ℕ) (b : Bool) (rs : List Refusal) → firstRefusal (refuse (suc n) b ∷ rs) ≡ 0 → (b ≡ false) × (firstRefusal rs ≡ 0)
@@ -81,7 +69,7 @@ refusal c = writeRefusal (c .kind) (c .plan) (length (c .work)) (length (c .outp
 accepted-refusal : (c : Writing) → Honest c → isAccepted c ≡ true → refusal c ≡ 0
 unfolding refusal isAccepted
 accepted-refusal c h a =
-    sym (number-of-answer (c .kind) (c .plan) (length (c .work)) (length (c .output))) ∙ ap numberOfWritten (sym (h .answered)) ∙ eqb-true _ 0 a
+    sym (number-of-written (c .kind) (c .plan) (length (c .work)) (length (c .output))) ∙ ap numberOfWritten (sym (h .answered)) ∙ eqb-true _ 0 a
 
 pub accepted-fit : (c : Writing) → Honest c → isAccepted c ≡ true → fit (c .kind) (c .plan) ≡ true
 unfolding refusal

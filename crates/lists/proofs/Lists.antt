@@ -7,9 +7,8 @@ use mathlib.Core.Bool.{Bool, true, false, cond}
 use mathlib.Core.List.{List, [], _∷_, _++_}
 use Rattle.model.specs.Map.{fit}
 use Rattle.model.specs.Record.{recordOf}
-use Rattle.model.specs.Writings.{Writing, isAccepted, bytesWritten, laidOut, accepted, Alike, PlaceByPlace, AllHonest}
+use Rattle.model.specs.Writings.{Writing, isAccepted, bytesWritten, laidOut, accepted, Alike, PlaceByPlace, AllHonest, Demand3}
 use Rattle.renumbering.proofs.Connected.{at-most-one}
-use Rattle.lists.specs.Demand3.{Demand3}
 use Rattle.lists.specs.Coding.{Coding}
 use Rattle.lists.proofs.Calls.{accepted-fit, accepted-bytes, refused-bytes}
 use Rattle.lists.proofs.Split.{splits, framed-some}

@@ -9,11 +9,15 @@
 --   readRefusal           the first of reading's refusals but 13; 0 if none
 --   HasRecord r p         p is fit for the kind that r names, and r is its record
 --   Reads                 what reading answers and the output after it
+--   ReadCall              all that reading promises
 --   shelveRefusal, shelveAnswer, shelvedBytes   shelving: first refusal, answer, the shelf afterwards
 --   Stored                all that shelving promises
 --   fetchRefusal, fetched fetching: the number that is set, and the part that is returned
 --   Fetched               all that fetching promises
---   numberOf.., lengthOf.., characteristicOf..   the paper's number and values for each case of an answer
+--   numberOfWritten, numberOfRead, numberOfShelved   the paper's number for each case of an answer
+--   lengthOfWritten, characteristicOfWritten   the values of writing's answer
+--   edgesOfRead           the value of reading's answer
+--   recordNumberOfShelved, usedOfShelved   the values of shelving's answer
 use Prim.Native.Nat.{ℕ, zero, suc, _+_, _-_, _*_, _<_}
 use mathlib.Core.Path.{_≡_}
 use mathlib.Core.Bool.{Bool, true, false, not, _&&_, _||_, cond}
@@ -98,6 +102,10 @@ pub data Reads (r : List ℕ) (workLength : ℕ) (out : List ℕ) (answer : Read
   unreadable : (readRefusal r workLength (length out) ≡ 0) → ((p : Plan) → HasRecord r p → ⊥) → answer ≡ readback.Refused 13 → out′ ≡ out
       → Reads r workLength out answer out′
 
+pub record ReadCall (r work out : List ℕ) (answer : ReadBack) (work′ out′ : List ℕ) : Type 0 where
+  pub outcome : Reads r (length work) out answer out′
+  pub cleared : work′ ≡ zeros work
+
 -- ---- the shelf
 
 -- "shelving 1, 2, 3, 5, 14, 16". 16. "The record isn't on the shelf and exceeds the bytes past the used length."
@@ -139,7 +147,7 @@ pub record Fetched (shelf : List ℕ) (used n : ℕ) (part : List ℕ) (number :
   pub part-is : part ≡ fetched shelf used n
   pub number-is : number ≡ fetchRefusal shelf used n
 
--- ---- the paper's number and values for each case of an answer; 0 is no refusal
+-- ---- "If an answer is an enum, a definition sets out this paper's number and values for each of the enum's cases." The number 0 is no refusal.
 
 abbrev pub numberOfWritten : Written → ℕ
 numberOfWritten (written.Length n) = 0
@@ -162,6 +170,21 @@ abbrev pub numberOfRead : ReadBack → ℕ
 numberOfRead (readback.Edges m) = 0
 numberOfRead (readback.Refused r) = r
 
+-- the number of edges that is returned; 0 where reading is refused
+abbrev pub edgesOfRead : ReadBack → ℕ
+edgesOfRead (readback.Edges m) = m
+edgesOfRead (readback.Refused r) = 0
+
 abbrev pub numberOfShelved : Shelved → ℕ
 numberOfShelved (shelved.At n used) = 0
 numberOfShelved (shelved.Refused r) = r
+
+-- the record's number that is returned; 0 where shelving is refused
+abbrev pub recordNumberOfShelved : Shelved → ℕ
+recordNumberOfShelved (shelved.At n used) = n
+recordNumberOfShelved (shelved.Refused r) = 0
+
+-- the new used length that is returned; as before where shelving is refused
+abbrev pub usedOfShelved : ℕ → Shelved → ℕ
+usedOfShelved before (shelved.At n used) = used
+usedOfShelved before (shelved.Refused r) = before

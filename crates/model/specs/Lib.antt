@@ -6,4 +6,6 @@ pub mod Record
 pub mod Renumbering
 pub mod Shelf
 pub mod Calls
+pub mod Walk
 pub mod Writings
+pub mod Exports

@@ -1,16 +1,11 @@
 -- The answers of reading told apart.
 --
---   edgesRead a          the number of edges that is answered; 0 where reading is refused
 --   not-both             no answer is a number of edges and a refusal
 use Prim.Native.Nat.{ℕ}
 use mathlib.Core.Path.{_≡_, ap}
 use mathlib.Core.Bool.{Bool, true, false, true≢false}
 use Rattle.model.specs.declared.ReadBack.{ReadBack}
 use Rattle.model.specs.declared.ReadBack.the-variants as readback
-
-abbrev pub edgesRead : ReadBack → ℕ
-edgesRead (readback.Edges m) = m
-edgesRead (readback.Refused x) = 0
 
 abbrev isEdges : ReadBack → Bool
 isEdges (readback.Edges m) = true

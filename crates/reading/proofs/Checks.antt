@@ -19,7 +19,7 @@ use Rattle.model.specs.Shelf.{edgesOf, headRefusal, passes}
 use Rattle.model.specs.Calls.{readRefusal}
 use Rattle.model.proofs.Unreadable.{room-clear}
 use Rattle.packing.proofs.Head.{passes-facts}
-use Rattle.reading.specs.ReadCall.{coreRefusal}
+use Rattle.reading.specs.Core.{coreRefusal}
 
 pub record Early (r : List ℕ) (w o : ℕ) : Type 0 where
   pub passed : passes r ≡ true

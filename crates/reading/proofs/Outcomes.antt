@@ -15,14 +15,14 @@ use Rattle.model.specs.declared.ReadBack.the-variants as readback
 use Rattle.model.specs.Numbers.{allBelow}
 use Rattle.model.specs.Map.{Plan}
 use Rattle.model.specs.Shelf.{edgesOf}
-use Rattle.model.specs.Calls.{front, readRefusal, Reads, refused, read, unreadable}
+use Rattle.model.specs.Calls.{front, readRefusal, Reads, refused, read, unreadable, edgesOfRead}
 use Rattle.words.specs.Word.{planOf}
 use Rattle.coding.proofs.Records.{decodes-has, decodes-standard, none-has}
 use Rattle.areas.specs.Area.{region}
 use Rattle.decoder.specs.Decoded.{Decoded}
-use Rattle.reading.specs.ReadCall.{Planned, Core}
-use Rattle.reading.specs.ReadCall as call
-use Rattle.reading.proofs.Answers.{edgesRead, not-both}
+use Rattle.reading.specs.Core.{Planned, Core}
+use Rattle.reading.specs.Core as core
+use Rattle.reading.proofs.Answers.{not-both}
 use Rattle.reading.proofs.Checks.{early-facts, core-none, core-room}
 
 -- ---- without an output
@@ -32,12 +32,12 @@ module _ (r w : List ℕ) where
   pub core-refused : (e : ℕ) → e ≡ readRefusal r (length w) 8192 → e ≢ 0 → Core r w (readback.Refused e) w
   core-refused e q d =
       let s = q ∙ core-room r (length w) in
-      record { outcome = call.refused (λ z. d (s ∙ z)) (ap readback.Refused s); kept = refl }
+      record { outcome = core.refused (λ z. d (s ∙ z)) (ap readback.Refused s); kept = refl }
 
   module _ (early : readRefusal r (length w) 8192 ≡ 0) (b : Bool) (x : List ℕ) (decoded : Decoded r w b x) where
     pub core-unreadable : b ≡ false → Core r w (readback.Refused 13) x
     core-unreadable e = record {
-      outcome = call.unreadable (core-none r (length w) 8192 early) (none-has r (decoded .none-found e)) refl;
+      outcome = core.unreadable (core-none r (length w) 8192 early) (none-has r (decoded .none-found e)) refl;
       kept = decoded .kept;
     }
 
@@ -47,7 +47,7 @@ module _ (r w : List ℕ) where
         let passed = early-facts r (length w) 8192 early .passed in
         let f = decoded .word-found yes-found in
         record {
-          outcome = call.read (core-none r (length w) 8192 early) (planOf (f .0)) (decodes-has r (f .0) passed bytes (f .1)) (ap readback.Edges m-is)
+          outcome = core.read (core-none r (length w) 8192 early) (planOf (f .0)) (decodes-has r (f .0) passed bytes (f .1)) (ap readback.Edges m-is)
               (f .2 ∙ ap (λ (p : Plan). p .rotation) (sym (decodes-standard r (f .0) passed bytes (f .1))));
           kept = decoded .kept;
         }
@@ -61,9 +61,9 @@ module _ (r : List ℕ) (n : ℕ) (out : List ℕ) where
 
   module _ (early : readRefusal r n (length out) ≡ 0) (w : List ℕ) (a : ReadBack) where
     edges-are : (m : ℕ) → a ≡ readback.Edges m → Planned r n a w → m ≡ edgesOf r
-    edges-are m q (call.refused d e) = absurd (not-both m _ (sym q ∙ e))
-    edges-are m q (call.read z p h e s) = ap edgesRead (sym q ∙ e)
-    edges-are m q (call.unreadable z never e) = absurd (not-both m 13 (sym q ∙ e))
+    edges-are m q (core.refused d e) = absurd (not-both m _ (sym q ∙ e))
+    edges-are m q (core.read z p h e s) = ap edgesOfRead (sym q ∙ e)
+    edges-are m q (core.unreadable z never e) = absurd (not-both m 13 (sym q ∙ e))
 
     pub edges-room : (m : ℕ) → a ≡ readback.Edges m → Planned r n a w → length w ≡ n → (2 * m ≤ length w) × (2 * m ≤ length out)
     edges-room m q c kept =
@@ -73,13 +73,13 @@ module _ (r : List ℕ) (n : ℕ) (out : List ℕ) where
 
     pub out-read : (m : ℕ) (out′ : List ℕ) → a ≡ readback.Edges m → Planned r n a w → out′ ≡ front (region 0 (2 * m) w) out
         → Reads r n out (readback.Edges m) out′
-    out-read m out′ q (call.refused d e) o = absurd (not-both m _ (sym q ∙ e))
-    out-read m out′ q (call.read z p h e s) o =
+    out-read m out′ q (core.refused d e) o = absurd (not-both m _ (sym q ∙ e))
+    out-read m out′ q (core.read z p h e s) o =
         read early p h (sym q ∙ e)
-        (o ∙ ap (λ (k : ℕ). front (region 0 (2 * k) w) out) (ap edgesRead (sym q ∙ e)) ∙ ap (λ (f : List ℕ). front f out) s)
-    out-read m out′ q (call.unreadable z never e) o = absurd (not-both m 13 (sym q ∙ e))
+        (o ∙ ap (λ (k : ℕ). front (region 0 (2 * k) w) out) (ap edgesOfRead (sym q ∙ e)) ∙ ap (λ (f : List ℕ). front f out) s)
+    out-read m out′ q (core.unreadable z never e) o = absurd (not-both m 13 (sym q ∙ e))
 
     pub out-not-read : (x : ℕ) → a ≡ readback.Refused x → Planned r n a w → Reads r n out (readback.Refused x) out
-    out-not-read x q (call.refused d e) = absurd (d (core-none r n (length out) early))
-    out-not-read x q (call.read z p h e s) = absurd (not-both _ x (sym e ∙ q))
-    out-not-read x q (call.unreadable z never e) = unreadable early never (sym q ∙ e) refl
+    out-not-read x q (core.refused d e) = absurd (d (core-none r n (length out) early))
+    out-not-read x q (core.read z p h e s) = absurd (not-both _ x (sym e ∙ q))
+    out-not-read x q (core.unreadable z never e) = unreadable early never (sym q ∙ e) refl

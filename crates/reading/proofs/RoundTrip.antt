@@ -24,12 +24,11 @@ use Rattle.model.specs.Map.{Plan, edges, fit}
 use Rattle.model.specs.Traversal.{standardPlan}
 use Rattle.model.specs.Record.{recordLength, recordOf}
 use Rattle.model.specs.Shelf.{kindOf, edgesOf}
-use Rattle.model.specs.Calls.{front, writeRefusal, writeAnswer, writtenOutput, Wrote, readRefusal, HasRecord, Reads, refused, read, unreadable}
+use Rattle.model.specs.Calls.{front, writeRefusal, writeAnswer, writtenOutput, Wrote, readRefusal, HasRecord, Reads, refused, read, unreadable, ReadCall, edgesOfRead}
 use Rattle.model.specs.Writings.{Writing, Honest, isAccepted, bytesWritten}
 use Rattle.model.proofs.Fitness.{fit-parts, even-darts}
 use Rattle.lists.proofs.Calls.{accepted-fit, accepted-bytes}
-use Rattle.reading.specs.ReadCall.{ReadCall}
-use Rattle.reading.proofs.Answers.{edgesRead, not-both}
+use Rattle.reading.proofs.Answers.{not-both}
 use Rattle.reading.proofs.Checks.{facts-early}
 use Rattle.reading.proofs.FitRecords.{record-length, own-record, standard-record, one-standard, has-edges, has-passes}
 
@@ -118,7 +117,7 @@ module _ (r work out : List ℕ) (m : ℕ) (work′ out′ : List ℕ) (call : R
       go (read e p has a o) = (same, subst (HasRecord r) (sym given) (std .0, std .1 ∙ has .1))
         where
           same : edgesOf r ≡ m
-          same = sym (ap edgesRead a)
+          same = sym (ap edgesOfRead a)
 
           std : (fit (kindOf r) (standardPlan p) ≡ true) × (recordOf (kindOf r) (standardPlan p) ≡ recordOf (kindOf r) p)
           std = standard-record (kindOf r) p (has .0)

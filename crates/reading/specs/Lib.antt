@@ -1,1 +1,1 @@
-pub mod ReadCall
+pub mod Core

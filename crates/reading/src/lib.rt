@@ -1,9 +1,9 @@
 // Reading, the call: any bytes come back as the plan in its standard numbering, or as one refusal. It puts the head checks and the decoder in
 // order and clears the work area; how a payload is decoded is not known here.
 ghost use mathlib.Core.Path.{_≡_};
-ghost use Rattle.model.specs.Calls.{readRefusal, Reads};
+ghost use Rattle.model.specs.Calls.{readRefusal, Reads, ReadCall};
 ghost use lib.ListN.{length};
-ghost use Rattle.reading.specs.ReadCall.{ReadCall, Core};
+ghost use Rattle.reading.specs.Core.{Core};
 use model::ReadBack;
 
 // An output of this length has room for every plan.

@@ -17,8 +17,8 @@ use Rattle.cutting.specs.declared.Counted.the-variants.{Records, Broken}
 use Rattle.model.specs.Numbers.{firstRefusal}
 use Rattle.model.specs.Shelf.{recordsIn, endToEnd, shelfRefused}
 use Rattle.model.specs.Calls.{fetchRefusal}
-use Rattle.cutting.specs.Cutting.{countOf}
-use Rattle.shelf.specs.Walk.{shelfCount}
+use Rattle.cutting.specs.Count.{countOf}
+use Rattle.shelf.specs.Count.{shelfCount}
 
 -- the used bytes, as the code lends them
 pub used-part : (s : List ℕ) (u : ℕ) → take (u - 0) (drop 0 s) ≡ take u s

@@ -23,12 +23,11 @@ use borrow.Author.Tests.{eq-eqb, ne-eqb, ltb-true, ltb-false, eqb-true, not-fals
 use Rattle.model.specs.Numbers.{firstRefusal}
 use Rattle.model.specs.Shelf.{word16, passes, recordsIn, endToEnd, shelfRefused}
 use Rattle.model.specs.Calls.{fetchRefusal, fetched, Fetched}
+use Rattle.model.specs.Walk.{headOf, recordAt, placeOfRecord, beginPlace, nextPlace, Begun}
 use Rattle.model.proofs.Booleans.{or-none}
 use Rattle.heads.proofs.Head.{not-met}
-use Rattle.cutting.specs.Cutting.{headOf, recordAt, placeOf}
 use Rattle.cutting.proofs.Stands.{head-whole, record-is, record-short, stands, stands-length}
 use Rattle.cutting.proofs.Cut.{rest, some-bytes, end-head, end-rest, end-records}
-use Rattle.shelf.specs.Walk.{beginPlace, nextPlace, Begun}
 use Rattle.shelf.proofs.Refusals.{used-part}
 
 record-drop : (bs : List ℕ) (l at : ℕ) → recordAt bs (l + at) ≡ recordAt (drop l bs) at
@@ -36,8 +35,8 @@ unfolding recordAt
 record-drop bs l at = ap (λ (r : List ℕ). cond (passes (headOf r)) (headOf r) []) (sym (drop-drop at l bs))
 
 pub place-record : (n : ℕ) (bs : List ℕ) → endToEnd bs ≡ true → n < length (recordsIn bs)
-    → recordAt bs (placeOf (recordsIn bs) n) ≡ getD (recordsIn bs) n []
-unfolding placeOf
+    → recordAt bs (placeOfRecord (recordsIn bs) n) ≡ getD (recordsIn bs) n []
+unfolding placeOfRecord
 place-record zero bs t h =
     let b = some-bytes bs 0 h in
     record-is bs 0 (end-head bs t b) ∙ sym (ap (λ (rs : List (List ℕ)). getD rs 0 []) (end-records bs t b))
@@ -46,9 +45,9 @@ place-record (suc n) bs t h =
     let e = end-records bs t b in
     let l = ap length e in
     let w = head-whole bs (end-head bs t b) in
-    ap (λ (rs : List (List ℕ)). recordAt bs (placeOf rs (suc n))) e
-    ∙ (ap (λ (k : ℕ). recordAt bs (k + placeOf (recordsIn (rest bs)) n)) (w .2)
-    ∙ (record-drop bs (word16 bs 0) (placeOf (recordsIn (rest bs)) n)
+    ap (λ (rs : List (List ℕ)). recordAt bs (placeOfRecord rs (suc n))) e
+    ∙ (ap (λ (k : ℕ). recordAt bs (k + placeOfRecord (recordsIn (rest bs)) n)) (w .2)
+    ∙ (record-drop bs (word16 bs 0) (placeOfRecord (recordsIn (rest bs)) n)
     ∙ (place-record n (rest bs) (end-rest bs t b) (omega arith) ∙ sym (ap (λ (rs : List (List ℕ)). getD rs (suc n) []) e))))
 
 pub next-fits : (bs : List ℕ) (at : ℕ) → (length (recordAt bs at) ≡ 0) ⊎ (at + length (recordAt bs at) ≤ length bs)
@@ -82,7 +81,7 @@ module _ (s : List ℕ) (u n : ℕ) where
   first-record = go (eqb (fetchRefusal s u n) 0) refl
     where
       go : (b : Bool) → eqb (fetchRefusal s u n) 0 ≡ b
-          → recordAt (take u s) (cond b (placeOf (recordsIn (take u s)) n) u) ≡ cond b (getD (recordsIn (take u s)) n []) []
+          → recordAt (take u s) (cond b (placeOfRecord (recordsIn (take u s)) n) u) ≡ cond b (getD (recordsIn (take u s)) n []) []
       go true e = let f = fine-parts (eqb-true _ _ e) in place-record n (take u s) (f .1) (f .2)
       go false e = none-left s u
 
@@ -94,7 +93,7 @@ module _ (s : List ℕ) (u n : ℕ) where
     pub begun-parts : x ≡ 0 → (u ≤ length s) × (endToEnd (take (u - 0) (drop 0 s)) ≡ true) × (n < length (recordsIn (take (u - 0) (drop 0 s))))
     begun-parts e = let f = fine-parts (sym x-is ∙ e) in (f .0, rw (used-part s u) (f .1), rw (used-part s u) (f .2))
 
-    pub begun-fine : x ≡ 0 → (p : ℕ) → p ≡ placeOf (recordsIn (take (u - 0) (drop 0 s))) n → Begun s u n p 0
+    pub begun-fine : x ≡ 0 → (p : ℕ) → p ≡ placeOfRecord (recordsIn (take (u - 0) (drop 0 s))) n → Begun s u n p 0
     unfolding beginPlace
     begun-fine e p p-is =
         let z = sym x-is ∙ e in

@@ -5,8 +5,8 @@ ghost use mathlib.Core.List.{_++_};
 ghost use Prim.Native.Nat.{ℕ, _+_, _≤_};
 ghost use lib.ListN.{length, take, drop};
 ghost use Rattle.model.specs.Calls.{front, fetchRefusal, Stored, Fetched};
-ghost use Rattle.cutting.specs.Cutting.{recordAt};
-ghost use Rattle.shelf.specs.Walk.{shelfCount, nextPlace, Begun};
+ghost use Rattle.model.specs.Walk.{recordAt, nextPlace, Begun};
+ghost use Rattle.shelf.specs.Count.{shelfCount};
 ghost use Rattle.shelf.specs.Spot.{spotOf};
 
 // Where a record belongs: it is there under a number, it is new and gets a number, or it is refused.

@@ -14,9 +14,9 @@ use native.Mathlib.Omega.{arith}
 use lib.ListN.{length, take, drop, length-drop, take-append-drop, List·getD-append}
 use lib.Seq.{take-append-seam, drop-append-seam}
 use Rattle.model.specs.Shelf.{word16, passes, recordsIn, allPass, endToEnd}
+use Rattle.model.specs.Walk.{headOf}
 use Rattle.model.proofs.Booleans.{and-left, and-right}
 use Rattle.heads.proofs.Head.{passes-long, passes-length}
-use Rattle.cutting.specs.Cutting.{headOf}
 use Rattle.cutting.proofs.Stands.{head-whole}
 use Rattle.cutting.proofs.Cut.{rest, cut-verdict, cut-records, end-nil, end-head, end-rest, end-records}
 

@@ -18,56 +18,55 @@ use borrow.Author.Tests.{le-ltb, eq-eqb}
 use Rattle.model.specs.Numbers.{firstRefusal}
 use Rattle.model.specs.Shelf.{passes, recordsIn, allPass, endToEnd, shelfRefused}
 use Rattle.model.specs.Calls.{fetchRefusal, fetched}
+use Rattle.model.specs.Walk.{recordAt, placeOfRecord, beginPlace, nextPlace}
 use Rattle.model.proofs.Booleans.{and-left, and-right}
 use Rattle.heads.proofs.Head.{passes-long}
-use Rattle.cutting.specs.Cutting.{recordAt, placeOf}
 use Rattle.cutting.proofs.Stands.{record-short}
-use Rattle.shelf.specs.Walk.{beginPlace, nextPlace}
 use Rattle.shelf.proofs.Walking.{place-record, none-left, used-fine, fine-parts}
 use Rattle.shelf_laws.proofs.Laid.{laid, laid-back}
 use Rattle.shelf_laws.proofs.Shelved.{records, fetch-refusal-zero, fetched-record}
 
 -- ---- places
 
-place-suc : (rs : List (List ℕ)) (m : ℕ) → placeOf rs (suc m) ≡ placeOf rs m + length (getD rs m [])
-unfolding placeOf
+place-suc : (rs : List (List ℕ)) (m : ℕ) → placeOfRecord rs (suc m) ≡ placeOfRecord rs m + length (getD rs m [])
+unfolding placeOfRecord
 place-suc [] zero = omega arith
 place-suc [] (suc m) = omega arith
 place-suc (r ∷ rs) zero = omega arith
 place-suc (r ∷ rs) (suc m) = let ih = place-suc rs m in omega arith
 
-place-past : (rs : List (List ℕ)) (m : ℕ) → length rs ≤ m → placeOf rs m ≡ length (laid rs)
-unfolding placeOf laid
+place-past : (rs : List (List ℕ)) (m : ℕ) → length rs ≤ m → placeOfRecord rs m ≡ length (laid rs)
+unfolding placeOfRecord laid
 place-past [] zero h = refl
 place-past [] (suc m) h = refl
 place-past (r ∷ rs) zero h = absurd (not-suc-le-zero h)
 place-past (r ∷ rs) (suc m) h = let ih = place-past rs m (le-of-suc-le-suc h) in let l = length-append r (laid rs) in omega arith
 
 module _ (bs : List ℕ) (t : endToEnd bs ≡ true) where
-  past-end : (m : ℕ) → length (recordsIn bs) ≤ m → placeOf (recordsIn bs) m ≡ length bs
+  past-end : (m : ℕ) → length (recordsIn bs) ≤ m → placeOfRecord (recordsIn bs) m ≡ length bs
   past-end m h = place-past (recordsIn bs) m h ∙ ap length (laid-back bs t)
 
-  record-at : (m : ℕ) → recordAt bs (placeOf (recordsIn bs) m) ≡ getD (recordsIn bs) m []
+  record-at : (m : ℕ) → recordAt bs (placeOfRecord (recordsIn bs) m) ≡ getD (recordsIn bs) m []
   record-at m = go (decLe (length (recordsIn bs)) m)
     where
-      go : Dec (length (recordsIn bs) ≤ m) → recordAt bs (placeOf (recordsIn bs) m) ≡ getD (recordsIn bs) m []
-      go (yes h) = let e = past-end m h in record-short bs (placeOf (recordsIn bs) m) (omega arith) ∙ sym (List·getD-eq-default (recordsIn bs) [] h)
+      go : Dec (length (recordsIn bs) ≤ m) → recordAt bs (placeOfRecord (recordsIn bs) m) ≡ getD (recordsIn bs) m []
+      go (yes h) = let e = past-end m h in record-short bs (placeOfRecord (recordsIn bs) m) (omega arith) ∙ sym (List·getD-eq-default (recordsIn bs) [] h)
       go (no h) = place-record m bs t (lt-of-not-le h)
 
-  next-at : (m : ℕ) → nextPlace bs (placeOf (recordsIn bs) m) ≡ placeOf (recordsIn bs) (suc m)
+  next-at : (m : ℕ) → nextPlace bs (placeOfRecord (recordsIn bs) m) ≡ placeOfRecord (recordsIn bs) (suc m)
   unfolding nextPlace
-  next-at m = ap (λ (r : List ℕ). placeOf (recordsIn bs) m + length r) (record-at m) ∙ sym (place-suc (recordsIn bs) m)
+  next-at m = ap (λ (r : List ℕ). placeOfRecord (recordsIn bs) m + length r) (record-at m) ∙ sym (place-suc (recordsIn bs) m)
 
 unfoldable pub placeAfter : List ℕ → ℕ → ℕ → ℕ
 placeAfter bs at zero = at
 placeAfter bs at (suc k) = placeAfter bs (nextPlace bs at) k
 
-after : (bs : List ℕ) → endToEnd bs ≡ true → (k n : ℕ) → placeAfter bs (placeOf (recordsIn bs) n) k ≡ placeOf (recordsIn bs) (n + k)
+after : (bs : List ℕ) → endToEnd bs ≡ true → (k n : ℕ) → placeAfter bs (placeOfRecord (recordsIn bs) n) k ≡ placeOfRecord (recordsIn bs) (n + k)
 unfolding placeAfter
-after bs t zero n = ap (placeOf (recordsIn bs)) (sym (add-zero n))
+after bs t zero n = ap (placeOfRecord (recordsIn bs)) (sym (add-zero n))
 after bs t (suc k) n =
     let e : suc n + k ≡ n + suc k = omega arith in
-    ap (λ (p : ℕ). placeAfter bs p k) (next-at bs t n) ∙ (after bs t k (suc n) ∙ ap (placeOf (recordsIn bs)) e)
+    ap (λ (p : ℕ). placeAfter bs p k) (next-at bs t n) ∙ (after bs t k (suc n) ∙ ap (placeOfRecord (recordsIn bs)) e)
 
 stays : (bs : List ℕ) (at : ℕ) → recordAt bs at ≡ [] → (k : ℕ) → placeAfter bs at k ≡ at
 unfolding placeAfter nextPlace
@@ -96,11 +95,11 @@ module _ (s : List ℕ) (u : ℕ) where
         go (yes h) = fetched-none s u m h ∙ sym (List·getD-eq-default (records s u) [] h)
         go (no h) = fetched-record s u m e (lt-of-not-le h)
 
-    begins : (n : ℕ) → beginPlace s u n ≡ placeOf (records s u) n
+    begins : (n : ℕ) → beginPlace s u n ≡ placeOfRecord (records s u) n
     unfolding beginPlace fetchRefusal firstRefusal
     begins n = go (decLe (length (records s u)) n)
       where
-        go : Dec (length (records s u) ≤ n) → beginPlace s u n ≡ placeOf (records s u) n
+        go : Dec (length (records s u) ≤ n) → beginPlace s u n ≡ placeOfRecord (records s u) n
         go (yes h) =
             let f = used-fine s u e in
             rw (e, le-ltb n (length (records s u)) h) (sym (past-end (take u s) (f .1) n h ∙ length-take-le u s (f .0)))

@@ -3,8 +3,7 @@
 ghost use mathlib.Core.Path.{_≡_};
 ghost use lib.ListN.{take};
 ghost use Rattle.model.specs.Calls.{Fetched};
-ghost use Rattle.cutting.specs.Cutting.{recordAt};
-ghost use Rattle.shelf.specs.Walk.{nextPlace, Begun};
+ghost use Rattle.model.specs.Walk.{recordAt, nextPlace, Begun};
 
 pub struct Walker<'a> {
     pub src: &'a [u8],

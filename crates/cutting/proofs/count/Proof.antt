@@ -2,7 +2,7 @@ use native.Mathlib.Omega.{arith}
 use mathlib.Core.Path.{_≡_, sym, _∙_}
 use Prim.Native.Nat.{_+_, _-_, _≤_}
 use lib.ListN.{length, drop}
-use Rattle.cutting.specs.Cutting.{countOf}
+use Rattle.cutting.specs.Count.{countOf}
 use Rattle.cutting.proofs.Turn.{plus, count-begins, count-turn, count-stops, count-ends, step-fits}
 use borrow.Author.Needs.{needs}
 use Rattle.cutting.proofs.count.Statement.{statement}

@@ -5,7 +5,7 @@ use Prim.Native.Nat.{_+_, _≤_, _<_}
 use native.Mathlib.Nat.{zero-add}
 use lib.ListN.{length, drop}
 use Rattle.model.specs.Shelf.{recordsIn, endToEnd}
-use Rattle.cutting.specs.Cutting.{placeOf}
+use Rattle.model.specs.Walk.{placeOfRecord}
 use Rattle.cutting.proofs.Turn.{some-here, room, next-fits, next-end, place-turn, place-fewer, place-ends}
 use borrow.Author.Needs.{needs}
 use Rattle.cutting.proofs.place.Statement.{statement}
@@ -16,7 +16,7 @@ use Rattle.heads.proofs.field.Reads as field-reads
 
 abbrev Inv-loop : tie.InvT-loop
 Inv-loop bytes n at₀ left₀ at left = (endToEnd (drop at bytes) ≡ true) × (left < length (recordsIn (drop at bytes)))
-    × (at + placeOf (recordsIn (drop at bytes)) left ≡ placeOf (recordsIn bytes) n)
+    × (at + placeOfRecord (recordsIn (drop at bytes)) left ≡ placeOfRecord (recordsIn bytes) n)
 
 abbrev μ-loop : tie.MeasureT-loop
 μ-loop bytes n at₀ left₀ at left = left

@@ -1,8 +1,6 @@
 -- What the exported functions answer, in numbers: an enum cannot cross to C, so each of its values goes out by itself.
 --
---   edgesIn               the number of edges that reading gives
---   numberIn, usedIn      the number that shelving gives, and the used length after it
---   placeOfRecord         where a record stands; 0 if fetching it is refused
+--   fetchedPlace          where a record stands; 0 if fetching it is refused
 --   lengthFor             the length of a record; 0 if there is none of this kind and size
 --   WriteExport           all that jurnadel_write promises
 --   ReadExport            all that jurnadel_read promises
@@ -15,17 +13,14 @@ use mathlib.Core.List.{List}
 use lib.Dec.{eqb, ltb}
 use lib.IntN.{ℤ}
 use lib.ListN.{length, take, drop}
 use Rattle.model.specs.declared.ReadBack.{ReadBack}
-use Rattle.model.specs.declared.ReadBack.the-variants as readback
-use Rattle.model.specs.declared.Shelved.{Shelved}
-use Rattle.model.specs.declared.Shelved.the-variants as shelved
 use Rattle.model.specs.Map.{Plan, isKind}
 use Rattle.model.specs.Record.{recordLength}
 use Rattle.model.specs.Shelf.{recordsIn}
 use Rattle.model.specs.Calls.{zeros, writeAnswer, writtenOutput, numberOfWritten, lengthOfWritten, characteristicOfWritten}
-use Rattle.model.specs.Calls.{Reads, numberOfRead}
-use Rattle.model.specs.Calls.{shelveAnswer, shelvedBytes, numberOfShelved, fetchRefusal, fetched}
-use Rattle.cutting.specs.Cutting.{placeOf}
+use Rattle.model.specs.Calls.{Reads, numberOfRead, edgesOfRead}
+use Rattle.model.specs.Calls.{shelveAnswer, shelvedBytes, numberOfShelved, recordNumberOfShelved, usedOfShelved, fetchRefusal, fetched}
+use Rattle.model.specs.Walk.{placeOfRecord}
 
 -- ---- writing
 
@@ -38,44 +33,29 @@ pub record WriteExport (k : ℕ) (p : Plan) (work out : List ℕ) (r l : ℕ) (x
 
 -- ---- reading
 
--- 0 where reading is refused
-abbrev pub edgesIn : ReadBack → ℕ
-edgesIn (readback.Edges m) = m
-edgesIn (readback.Refused r) = 0
-
 -- the numbers are those of the answer that reading gives
 pub record ReadExport (bytes work out : List ℕ) (r m : ℕ) (work′ out′ : List ℕ) : Type 0 where
   pub answer : ReadBack
   pub outcome : Reads bytes (length work) out answer out′
   pub number-is : r ≡ numberOfRead answer
-  pub edges-are : m ≡ edgesIn answer
+  pub edges-are : m ≡ edgesOfRead answer
   pub cleared : work′ ≡ zeros work
 
 -- ---- the shelf
 
--- 0 where shelving is refused
-abbrev pub numberIn : Shelved → ℕ
-numberIn (shelved.At n used) = n
-numberIn (shelved.Refused r) = 0
-
--- as before where shelving is refused
-abbrev pub usedIn : ℕ → Shelved → ℕ
-usedIn before (shelved.At n used) = used
-usedIn before (shelved.Refused r) = before
-
 pub record ShelveExport (bytes shelf : List ℕ) (used : ℕ) (r n used′ : ℕ) (shelf′ : List ℕ) : Type 0 where
   pub refusal-is : r ≡ numberOfShelved (shelveAnswer bytes shelf used)
-  pub number-is : n ≡ numberIn (shelveAnswer bytes shelf used)
-  pub used-is : used′ ≡ usedIn used (shelveAnswer bytes shelf used)
+  pub number-is : n ≡ recordNumberOfShelved (shelveAnswer bytes shelf used)
+  pub used-is : used′ ≡ usedOfShelved used (shelveAnswer bytes shelf used)
   pub bytes-are : shelf′ ≡ shelvedBytes bytes shelf used
 
-unfoldable pub placeOfRecord : List ℕ → ℕ → ℕ → ℕ
-placeOfRecord shelf used n = cond (eqb (fetchRefusal shelf used n) 0) (placeOf (recordsIn (take used shelf)) n) 0
+unfoldable pub fetchedPlace : List ℕ → ℕ → ℕ → ℕ
+fetchedPlace shelf used n = cond (eqb (fetchRefusal shelf used n) 0) (placeOfRecord (recordsIn (take used shelf)) n) 0
 
 -- the fetched record is the part of the shelf at this place and of this length
 pub record FetchExport (shelf : List ℕ) (used n : ℕ) (r at l : ℕ) : Type 0 where
   pub refusal-is : r ≡ fetchRefusal shelf used n
-  pub place-is : at ≡ placeOfRecord shelf used n
+  pub place-is : at ≡ fetchedPlace shelf used n
   pub length-is : l ≡ length (fetched shelf used n)
   pub part-is : take l (drop at shelf) ≡ fetched shelf used n
 

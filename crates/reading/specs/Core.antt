@@ -1,6 +1,5 @@
--- What reading promises.
+-- Reading without an output.
 --
---   ReadCall r work out answer work′ out′   the whole call: what it answers, and the output and work area after it
 --   coreRefusal r n      the first of the refusals 1, 2, 3, 5, 7 for a work area of length n; 0 if none
 --   Planned r n answer w′     what the call answers without an output; where it is read, the standard plan stands at the front of the work area
 --   Core r w answer w′   the same, and the work area keeps its length
@@ -14,14 +13,8 @@ use Rattle.model.specs.declared.ReadBack.the-variants as readback
 use Rattle.model.specs.Map.{Plan}
 use Rattle.model.specs.Traversal.{standardPlan}
 use Rattle.model.specs.Shelf.{edgesOf}
-use Rattle.model.specs.Calls.{zeros, readRefusal, HasRecord, Reads}
+use Rattle.model.specs.Calls.{readRefusal, HasRecord}
 use Rattle.areas.specs.Area.{region}
-
-pub record ReadCall (r work out : List ℕ) (answer : ReadBack) (work′ out′ : List ℕ) : Type 0 where
-  pub outcome : Reads r (length work) out answer out′
-  pub cleared : work′ ≡ zeros work
-
--- ---- without an output
 
 -- an output as long as the plan is never too short: check 8 is not met
 abbrev pub coreRefusal : List ℕ → ℕ → ℕ
