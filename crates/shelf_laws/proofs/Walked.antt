@@ -4,7 +4,8 @@
 --   walk-yields           after k steps the record at that place is the one that fetching n + k gives
 --   fetched-some          a fetched record is not empty: fewer than 6 bytes at a place say that no record is left
 --   fetched-none          past the last record nothing is fetched
-use mathlib.Core.Path.{_≡_, refl, sym, ap, _∙_}
+--   walk-hands-out        the steps from the beginning at n hand out the records that a walk from n yields, one after another, then none
+use mathlib.Core.Path.{_≡_, refl, sym, ap, subst, _∙_}
 use mathlib.Core.Bool.{Bool, true, false, not, cond}
 use mathlib.Core.List.{List, [], _∷_}
 use Prim.Native.Nat.{ℕ, zero, suc, _+_, _≤_, _<_}
@@ -12,13 +13,13 @@ use native.Mathlib.Nat.{not-suc-le-zero, le-of-suc-le-suc, lt-of-not-le, add-zer
 use native.Mathlib.Decide.{decLe}
 use native.Mathlib.Omega.{arith}
 use lib.Dec.{eqb, ltb}
-use lib.ListN.{length, getD, take, length-append, List·getD-eq-default}
-use lib.Seq.{length-take-le}
+use lib.ListN.{length, getD, take, drop, length-append, List·getD-eq-default, drop-of-length-le}
+use lib.Seq.{length-take-le, drop-cons}
 use borrow.Author.Tests.{le-ltb, eq-eqb}
 use Rattle.model.specs.Numbers.{firstRefusal}
 use Rattle.model.specs.Shelf.{passes, recordsIn, allPass, endToEnd, shelfRefused}
 use Rattle.model.specs.Calls.{fetchRefusal, fetched}
-use Rattle.model.specs.Walk.{recordAt, placeOfRecord, beginPlace, nextPlace}
+use Rattle.model.specs.Walk.{recordAt, nextPlace, placeOfRecord, beginPlace, walked, HandsOut}
 use Rattle.model.proofs.Booleans.{and-left, and-right}
 use Rattle.heads.proofs.Head.{passes-long}
 use Rattle.cutting.proofs.Stands.{record-short}
@@ -140,3 +141,55 @@ unfolding fetched endToEnd
 fetched-some s u m z =
     let f = fine-parts s u m z in
     rw (eq-eqb (fetchRefusal s u m) 0 z) (passes-long _ (pass-at (records s u) m (f .1) (f .2)))
+
+-- ---- the whole walk
+
+module _ (bs : List ℕ) (t : endToEnd bs ≡ true) where
+  abbrev Rest : ℕ → Type 0
+  Rest n = HandsOut bs (placeOfRecord (recordsIn bs) n) (drop n (recordsIn bs))
+
+  rest-none : (n : ℕ) → length (recordsIn bs) ≤ n → Rest n
+  rest-none n h =
+      subst (HandsOut bs (placeOfRecord (recordsIn bs) n)) (sym (drop-of-length-le (recordsIn bs) h))
+      (record-at bs t n ∙ List·getD-eq-default (recordsIn bs) [] h)
+
+  rest-more : (n : ℕ) → n < length (recordsIn bs) → Rest (suc n) → Rest n
+  unfolding endToEnd
+  rest-more n h rest =
+      let long = passes-long _ (pass-at (recordsIn bs) n t h) in
+      subst (HandsOut bs (placeOfRecord (recordsIn bs) n)) (sym (drop-cons (recordsIn bs) n [] h))
+      (record-at bs t n, (omega arith, subst (λ (p : ℕ). HandsOut bs p (drop (suc n) (recordsIn bs))) (sym (next-at bs t n)) rest))
+
+  -- by the number of records that are left
+  rest-from : (k n : ℕ) → length (recordsIn bs) ≤ n + k → Rest n
+  rest-from zero n h = rest-none n (omega arith)
+  rest-from (suc k) n h = go (decLe (length (recordsIn bs)) n) (λ l. rest-from k (suc n) (omega arith))
+    where
+      go : Dec (length (recordsIn bs) ≤ n) → (n < length (recordsIn bs) → Rest (suc n)) → Rest n
+      go (yes l) more = rest-none n l
+      go (no l) more = rest-more n (lt-of-not-le l) (more (lt-of-not-le l))
+
+walked-rest : (s : List ℕ) (u n : ℕ) → shelfRefused s u ≡ false → walked s u n ≡ drop n (records s u)
+unfolding walked fetchRefusal firstRefusal
+walked-rest s u n e = go (decLe (length (records s u)) n)
+  where
+    go : Dec (length (records s u) ≤ n) → walked s u n ≡ drop n (records s u)
+    go (yes h) = rw (e, le-ltb n (length (records s u)) h) (sym (drop-of-length-le (records s u) h))
+    go (no h) = rw (eq-eqb (fetchRefusal s u n) 0 (fetch-refusal-zero s u n e (lt-of-not-le h)))
+
+walked-broken : (s : List ℕ) (u n : ℕ) → shelfRefused s u ≡ true → walked s u n ≡ []
+unfolding walked fetchRefusal firstRefusal
+walked-broken s u n e = rw e
+
+-- from its beginning a walk hands out the records that it yields, one after another, then none
+pub walk-hands-out : (s : List ℕ) (u n : ℕ) → HandsOut (take u s) (beginPlace s u n) (walked s u n)
+walk-hands-out s u n = go (shelfRefused s u) refl
+  where
+    go : (b : Bool) → shelfRefused s u ≡ b → HandsOut (take u s) (beginPlace s u n) (walked s u n)
+    go true e =
+        subst (HandsOut (take u s) (beginPlace s u n)) (sym (walked-broken s u n e))
+        (ap (recordAt (take u s)) (broken-begins s u e n) ∙ none-left s u)
+    go false e =
+        subst (HandsOut (take u s) (beginPlace s u n)) (sym (walked-rest s u n e))
+        (subst (λ (p : ℕ). HandsOut (take u s) p (drop n (records s u))) (sym (begins s u e n))
+        (rest-from (take u s) (used-fine s u e .1) (length (records s u)) n (omega arith)))
