@@ -1,9 +1,10 @@
--- The record of a fit plan, as a reader meets it.
+-- The record of a fit plan, as a reader meets it, and that reading it has one outcome.
 --
 --   kind-is, edges-are, record-passes, record-bytes, record-length   its fields, that it passes 1, 2, 3 and 5, its bytes and its length
 --   own-record           the plan has it
 --   standard-record      the standard plan is fit and has the same record
 --   one-standard         plans with one record have one standard plan
+--   reads-one            reading is determined: what it answers, and the output after it
 --   has-edges, has-passes   bytes that are a fit plan's record name its number of edges and pass 1, 2, 3 and 5
 use Prim.Native.Nat.{ℕ}
 use mathlib.Core.Path.{_≡_, sym, ap, subst, _∙_}
@@ -11,13 +12,14 @@ use mathlib.Core.Bool.{true}
 use mathlib.Core.List.{List}
 use lib.ListN.{length}
 use borrow.Author.Tests.{eq-eqb}
+use Rattle.model.specs.declared.ReadBack.{ReadBack}
 use Rattle.model.specs.Numbers.{allBelow}
 use Rattle.model.specs.Map.{Plan, edges, fit}
 use Rattle.model.specs.Traversal.{word, standardPlan}
 use Rattle.model.specs.LabelledTree.{treeBits, labels}
 use Rattle.model.specs.Record.{recordLength, recordOf}
 use Rattle.model.specs.Shelf.{kindOf, edgesOf, passes}
-use Rattle.model.specs.Calls.{HasRecord}
+use Rattle.model.specs.Calls.{front, HasRecord, Reads, refused, read, unreadable}
 use Rattle.words.specs.Word.{planOf}
 use Rattle.packing.specs.Unlay.{Laid}
 use Rattle.packing.proofs.Unlay.{layOut-length, layOut-head, layOut-passes, layOut-bytes}
@@ -65,6 +67,18 @@ module _ (k : ℕ) (p : Plan) (fits : fit k p ≡ true) where
 
 pub one-standard : (r : List ℕ) (p q : Plan) → HasRecord r p → HasRecord r q → standardPlan q ≡ standardPlan p
 one-standard r p q h g = read-back r (word p) q (has-decodes r p h) g ∙ sym (read-back r (word p) p (has-decodes r p h) h)
+
+pub reads-one : (r : List ℕ) (w : ℕ) (out : List ℕ) (a b : ReadBack) (o o′ : List ℕ) → Reads r w out a o → Reads r w out b o′ → (a ≡ b) × (o ≡ o′)
+reads-one r w out a b o o′ (refused d e f) (refused d′ e′ f′) = (e ∙ sym e′, f ∙ sym f′)
+reads-one r w out a b o o′ (refused d e f) (read z q g e′ f′) = absurd (d z)
+reads-one r w out a b o o′ (refused d e f) (unreadable z never e′ f′) = absurd (d z)
+reads-one r w out a b o o′ (read z p h e f) (refused d e′ f′) = absurd (d z)
+reads-one r w out a b o o′ (read z p h e f) (read z′ q g e′ f′) =
+    (e ∙ sym e′, f ∙ (ap (λ (s : Plan). front (s .rotation) out) (one-standard r q p g h) ∙ sym f′))
+reads-one r w out a b o o′ (read z p h e f) (unreadable z′ never e′ f′) = absurd (never p h)
+reads-one r w out a b o o′ (unreadable z never e f) (refused d e′ f′) = absurd (d z)
+reads-one r w out a b o o′ (unreadable z never e f) (read z′ q g e′ f′) = absurd (never q g)
+reads-one r w out a b o o′ (unreadable z never e f) (unreadable z′ never′ e′ f′) = (e ∙ sym e′, f ∙ sym f′)
 
 module _ (r : List ℕ) (p : Plan) (has : HasRecord r p) where
   pub has-edges : edgesOf r ≡ edges (p .rotation)
