@@ -19,6 +19,7 @@ use borrow.Author.Tests.{eq-eqb, ne-eqb}
 use Rattle.model.specs.Numbers.{some, tick, count, least, isLeast, cycles, firstRefusal, isPermutation}
 use Rattle.model.specs.Map.{Plan, darts, edges, next, faceNext, vertexOf, vertices, faces, opposite, connected, planar, characteristic, is, hasLoop, hasDegreeOne, degreeRefused, dartCountFits}
 use Rattle.model.specs.Traversal.{code, visits, word}
+use Rattle.model.specs.Calls.{lateRefusals}
 use Rattle.model.proofs.Booleans.{not-intro}
 use Rattle.model.proofs.Fitness.{opposite-bound, count-parts}
 use Rattle.traversal.proofs.Complete.{connected-long, long-connected}
@@ -135,7 +136,7 @@ module _ (k : ℕ) (p : Plan) (fits : dartCountFits (darts p) ≡ true) (low : p
   unjoined ne = not-intro (connected (p .rotation)) (λ e. ne (t .all-met ∙ connected-long p fits low entries e))
 
   pub parted : (s .met ≡ darts p → ⊥) → Judged k p w (Refused 9) w₂
-  unfolding verdictOf lateRefusal firstRefusal
+  unfolding verdictOf lateRefusal lateRefusals firstRefusal
   parted ne =
       let e = unjoined ne in
       record {
@@ -169,11 +170,11 @@ module _ (k : ℕ) (p : Plan) (fits : dartCountFits (darts p) ≡ true) (low : p
       euler = e ∙ counted (p .rotation) (s .vertices) f (t .counted) (l .counted)
 
       pub curved : is x 2 ≡ false → Judged k p w (NotPlanar x) w₃
-      unfolding verdictOf lateRefusal firstRefusal planar
+      unfolding verdictOf lateRefusal lateRefusals firstRefusal planar
       curved u = let u′ = rw euler at u in record { answered = rw (joined, u′, euler); letters = λ z. letters-kept; kept = length-kept }
 
       pub flat : is x 2 ≡ true → (v : Verdict) → v ≡ localOf k (p .rotation) → Judged k p w v w₃
-      unfolding verdictOf lateRefusal firstRefusal planar localOf degreeRefused
+      unfolding verdictOf lateRefusal lateRefusals firstRefusal planar localOf degreeRefused
       flat u v q =
           let u′ = rw euler at u in
           record {

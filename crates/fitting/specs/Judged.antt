@@ -7,13 +7,14 @@
 --   Judged               the verdict, and in the work area, at 3n, the contour word of a plan that fits
 use Prim.Native.Nat.{ℕ, _*_}
 use mathlib.Core.Path.{_≡_}
-use mathlib.Core.Bool.{not, _&&_, cond}
-use mathlib.Core.List.{List, [], _∷_, map}
+use mathlib.Core.Bool.{_&&_, cond}
+use mathlib.Core.List.{List, map}
 use lib.Dec.{eqb}
 use lib.ListN.{length}
-use Rattle.model.specs.Numbers.{firstRefusal, refuse}
-use Rattle.model.specs.Map.{Plan, darts, connected, planar, characteristic, vertices, hasLoop, hasDegreeOne, degreeRefused}
+use Rattle.model.specs.Numbers.{firstRefusal}
+use Rattle.model.specs.Map.{Plan, darts, characteristic, vertices, hasLoop, hasDegreeOne}
 use Rattle.model.specs.Traversal.{code, visits, word}
+use Rattle.model.specs.Calls.{lateRefusals}
 use Rattle.areas.specs.Area.{region}
 use Rattle.contour.specs.Steps.{Named}
 use Rattle.fitting.specs.declared.Survey.{Survey}
@@ -31,12 +32,7 @@ unfoldable pub localOf : ℕ → List ℕ → Verdict
 localOf k rot = cond (hasLoop rot) (Refused 11) (cond (eqb k 1 && hasDegreeOne rot) (Refused 12) Fits)
 
 unfoldable pub lateRefusal : ℕ → Plan → ℕ
-lateRefusal k p = firstRefusal
-    (refuse 9 (not (connected (p .rotation)))
-    ∷ refuse 10 (not (planar (p .rotation)))
-    ∷ refuse 11 (hasLoop (p .rotation))
-    ∷ refuse 12 (degreeRefused k p)
-    ∷ [])
+lateRefusal k p = firstRefusal (lateRefusals k p)
 
 unfoldable pub verdictOf : ℕ → Plan → Verdict
 verdictOf k p =

@@ -5,48 +5,42 @@
 --   accepted-fit          the plan of an accepted call is fit
 --   accepted-bytes        the bytes of an accepted call are the record of its plan
 --   refused-bytes         a refused call adds no byte
-use Prim.Native.Nat.{ℕ, suc, _*_, _≤_}
-use native.Mathlib.Nat.{suc-ne-zero}
-use mathlib.Core.Path.{_≡_, refl, sym, ap, _∙_}
+use Prim.Native.Nat.{ℕ, _*_, _≤_}
+use mathlib.Core.Path.{_≡_, sym, ap, _∙_}
 use mathlib.Core.Bool.{Bool, true, false, not}
-use mathlib.Core.List.{List, [], _∷_}
+use mathlib.Core.List.{[]}
 use lib.Dec.{ltb}
 use lib.ListN.{length, drop}
 use lib.Seq.{take-append-seam}
 use borrow.Author.Tests.{eqb-true, eq-eqb, ltb-true, ltb-false, not-false}
-use Rattle.model.specs.Numbers.{firstRefusal, Refusal, refuse, isPermutation}
+use Rattle.model.specs.Numbers.{isPermutation}
 use Rattle.model.specs.Map.{Plan, darts, edges, isKind, dartCountFits, connected, planar, hasLoop, degreeRefused, fit}
 use Rattle.model.specs.Record.{recordLength, recordOf}
-use Rattle.model.specs.Calls.{front, writeRefusal, writeAnswer, writtenOutput, numberOfWritten, lengthOfWritten}
+use Rattle.model.specs.Calls.{front, earlyRefusals, lateRefusals, writeRefusal, writeAnswer, writtenOutput, numberOfWritten, lengthOfWritten}
 use Rattle.model.specs.Writings.{Writing, Honest, isAccepted, bytesWritten}
 use Rattle.model.proofs.Fitness.{parts-fit}
+use Rattle.model.proofs.Refusals.{not-first}
 use Rattle.model.proofs.Answers.{number-of-written}
 
 -- ---- no refusal
-
--- the first of the refusals does not hold, nor any other
-passed : (n : ℕ) (b : Bool) (rs : List Refusal) → firstRefusal (refuse (suc n) b ∷ rs) ≡ 0 → (b ≡ false) × (firstRefusal rs ≡ 0)
-unfolding firstRefusal
-passed n true rs e = absurd (suc-ne-zero n e)
-passed n false rs e = (refl, e)
 
 pub record NotRefused (k : ℕ) (p : Plan) (workLength outLength : ℕ) : Type 0 where
   pub is-fit : fit k p ≡ true
   pub room : recordLength k (edges (p .rotation)) ≤ outLength
 
 pub not-refused : (k : ℕ) (p : Plan) (w o : ℕ) → writeRefusal k p w o ≡ 0 → NotRefused k p w o
-unfolding writeRefusal
+unfolding writeRefusal earlyRefusals lateRefusals
 not-refused k p w o e =
-    let c₂ = passed 1 (not (isKind k)) _ e in
-    let c₃ = passed 2 (not (dartCountFits (darts p))) _ (c₂ .1) in
-    let c₄ = passed 3 (not (ltb (p .root) (darts p))) _ (c₃ .1) in
-    let c₆ = passed 5 (not (isPermutation (p .rotation))) _ (c₄ .1) in
-    let c₇ = passed 6 (ltb w (32 * edges (p .rotation))) _ (c₆ .1) in
-    let c₈ = passed 7 (ltb o (recordLength k (edges (p .rotation)))) _ (c₇ .1) in
-    let c₉ = passed 8 (not (connected (p .rotation))) _ (c₈ .1) in
-    let c₁₀ = passed 9 (not (planar (p .rotation))) _ (c₉ .1) in
-    let c₁₁ = passed 10 (hasLoop (p .rotation)) _ (c₁₀ .1) in
-    let c₁₂ = passed 11 (degreeRefused k p) _ (c₁₁ .1) in
+    let c₂ = not-first 1 (not (isKind k)) _ e in
+    let c₃ = not-first 2 (not (dartCountFits (darts p))) _ (c₂ .1) in
+    let c₄ = not-first 3 (not (ltb (p .root) (darts p))) _ (c₃ .1) in
+    let c₆ = not-first 5 (not (isPermutation (p .rotation))) _ (c₄ .1) in
+    let c₇ = not-first 6 (ltb w (32 * edges (p .rotation))) _ (c₆ .1) in
+    let c₈ = not-first 7 (ltb o (recordLength k (edges (p .rotation)))) _ (c₇ .1) in
+    let c₉ = not-first 8 (not (connected (p .rotation))) _ (c₈ .1) in
+    let c₁₀ = not-first 9 (not (planar (p .rotation))) _ (c₉ .1) in
+    let c₁₁ = not-first 10 (hasLoop (p .rotation)) _ (c₁₀ .1) in
+    let c₁₂ = not-first 11 (degreeRefused k p) _ (c₁₁ .1) in
     record {
       is-fit = parts-fit k p (record {
         kind = not-false (isKind k) (c₂ .0);

@@ -5,6 +5,7 @@ pub mod Opposite
 pub mod Fitness
 pub mod Characteristic
 pub mod Standard
+pub mod Refusals
 pub mod Answers
 pub mod Line
 pub mod Unreadable

@@ -2,7 +2,8 @@
 --
 --   zeros w               the work area after a call
 --   front new old         the first entries are new, the others as they were
---   writeRefusal          the first refusal of writing; 0 if none
+--   earlyRefusals, lateRefusals   the refusals of writing: those that need no work area, and those of the plan itself
+--   writeRefusal          the first of them; 0 if none
 --   writeAnswer           the answer of writing
 --   writtenOutput         the output after writing
 --   Wrote                 all that writing promises
@@ -32,7 +33,7 @@ use Rattle.model.specs.declared.ReadBack.{ReadBack}
 use Rattle.model.specs.declared.ReadBack.the-variants as readback
 use Rattle.model.specs.declared.Shelved.{Shelved}
 use Rattle.model.specs.declared.Shelved.the-variants as shelved
-use Rattle.model.specs.Numbers.{firstRefusal, refuse, isPermutation}
+use Rattle.model.specs.Numbers.{Refusal, firstRefusal, refuse, isPermutation}
 use Rattle.model.specs.Map.{Plan, darts, edges, isKind, dartCountFits, connected, planar, characteristic, hasLoop, degreeRefused, fit}
 use Rattle.model.specs.Traversal.{standardPlan}
 use Rattle.model.specs.Record.{recordLength, recordOf}
@@ -49,19 +50,26 @@ front new old = new ++ drop (length new) old
 -- ---- writing
 
 -- "Writing meets 2, 3, 4, 6 to 12", for a work area and an output of these lengths
-unfoldable pub writeRefusal : ℕ → Plan → ℕ → ℕ → ℕ
-writeRefusal k p workLength outLength = firstRefusal
-    (refuse 2 (not (isKind k))
+unfoldable pub earlyRefusals : ℕ → Plan → ℕ → ℕ → List Refusal
+earlyRefusals k p workLength outLength =
+    refuse 2 (not (isKind k))
     ∷ refuse 3 (not (dartCountFits (darts p)))
     ∷ refuse 4 (not (ltb (p .root) (darts p)))
     ∷ refuse 6 (not (isPermutation (p .rotation)))
     ∷ refuse 7 (ltb workLength (32 * edges (p .rotation)))
     ∷ refuse 8 (ltb outLength (recordLength k (edges (p .rotation))))
-    ∷ refuse 9 (not (connected (p .rotation)))
+    ∷ []
+
+unfoldable pub lateRefusals : ℕ → Plan → List Refusal
+lateRefusals k p =
+    refuse 9 (not (connected (p .rotation)))
     ∷ refuse 10 (not (planar (p .rotation)))
     ∷ refuse 11 (hasLoop (p .rotation))
     ∷ refuse 12 (degreeRefused k p)
-    ∷ [])
+    ∷ []
+
+unfoldable pub writeRefusal : ℕ → Plan → ℕ → ℕ → ℕ
+writeRefusal k p workLength outLength = firstRefusal (earlyRefusals k p workLength outLength ++ lateRefusals k p)
 
 -- "Writing returns the record's length"; refusal 10 "also gives the characteristic"
 unfoldable pub writeAnswer : ℕ → Plan → ℕ → ℕ → Written

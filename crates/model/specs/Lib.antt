@@ -3,9 +3,9 @@ pub mod Map
 pub mod Traversal
 pub mod LabelledTree
 pub mod Record
-pub mod Renumbering
 pub mod Shelf
 pub mod Calls
 pub mod Walk
+pub mod Renumbering
 pub mod Writings
 pub mod Exports

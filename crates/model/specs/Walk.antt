@@ -19,6 +19,7 @@ use Rattle.model.specs.Calls.{fetchRefusal}
 
 -- ---- a step
 
+-- "length of the whole record (2 bytes)"
 abbrev pub headOf : List ℕ → List ℕ
 headOf bs = take (word16 bs 0) bs
 

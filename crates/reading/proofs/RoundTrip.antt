@@ -24,7 +24,7 @@ use Rattle.model.specs.Map.{Plan, edges, fit}
 use Rattle.model.specs.Traversal.{standardPlan}
 use Rattle.model.specs.Record.{recordLength, recordOf}
 use Rattle.model.specs.Shelf.{kindOf, edgesOf}
-use Rattle.model.specs.Calls.{front, writeRefusal, writeAnswer, writtenOutput, Wrote, readRefusal, HasRecord, Reads, refused, read, unreadable, ReadCall, edgesOfRead}
+use Rattle.model.specs.Calls.{front, earlyRefusals, lateRefusals, writeRefusal, writeAnswer, writtenOutput, Wrote, readRefusal, HasRecord, Reads, refused, read, unreadable, ReadCall, edgesOfRead}
 use Rattle.model.specs.Writings.{Writing, Honest, isAccepted, bytesWritten}
 use Rattle.model.proofs.Fitness.{fit-parts, even-darts}
 use Rattle.lists.proofs.Calls.{accepted-fit, accepted-bytes}
@@ -85,7 +85,7 @@ module _ (k : ℕ) (p : Plan) (w o : List ℕ) (n : ℕ) (w′ o′ : List ℕ) 
 -- a fit plan with room is not refused
 fit-accepted : (k : ℕ) (p : Plan) (w o : ℕ) → fit k p ≡ true → 32 * edges (p .rotation) ≤ w → recordLength k (edges (p .rotation)) ≤ o
     → writeRefusal k p w o ≡ 0
-unfolding writeRefusal firstRefusal
+unfolding writeRefusal earlyRefusals lateRefusals firstRefusal
 fit-accepted k p w o fits h l =
     let f = fit-parts k p fits in
     rw (f .kind, f .count, lt-ltb _ _ (f .root), f .entries, le-ltb w _ h, le-ltb o _ l, f .joined, f .flat, f .loopless, f .degrees)

@@ -19,7 +19,7 @@ use Rattle.model.specs.Numbers.{Refusal, firstRefusal}
 use Rattle.model.specs.Map.{Plan, darts, edges, characteristic, fit}
 use Rattle.model.specs.Traversal.{word}
 use Rattle.model.specs.Record.{recordLength, layOut, recordOf}
-use Rattle.model.specs.Calls.{front, writeRefusal, writeAnswer, writtenOutput}
+use Rattle.model.specs.Calls.{front, earlyRefusals, writeRefusal, writeAnswer, writtenOutput}
 use Rattle.model.proofs.Fitness.{fit-parts, even-darts}
 use Rattle.words.specs.Word.{valid}
 use Rattle.coding.proofs.FitPlans.{of-fit}
@@ -28,7 +28,7 @@ use Rattle.fitting.specs.declared.Verdict.{Verdict}
 use Rattle.fitting.specs.declared.Verdict.the-variants as verdict
 use Rattle.fitting.specs.Judged.{lateRefusal, verdictOf, Judged}
 use Rattle.letters.specs.Letters.{lettersIn}
-use Rattle.writing.specs.Early.{earlyRefusals, earlyRefusal, Ready, Laid, Made}
+use Rattle.writing.specs.Early.{earlyRefusal, Ready, Laid, Made}
 use Rattle.writing.proofs.Refusing.{refusal-split}
 use Rattle.letters.proofs.Word.{letters-code}
 

@@ -1,11 +1,9 @@
 -- Writing's refusals, the early ones before those of the plan itself.
 --
---   first-append         the first of two lists of refusals, one after the other
 --   refusal-split        writing's refusal is the early one, else the late one
 --   two .. eight, passed the early refusals, test by test
 --   Passed, early-parts  what a call that passes them is handed
 use Prim.Native.Nat.{ℕ, zero, suc, _*_, _/_, _%_, _≤_, _<_}
-use native.Mathlib.Nat.{suc-ne-zero}
 use native.Mathlib.Omega.{arith}
 use mathlib.Core.Path.{_≡_, refl, sym, ap, _∙_}
 use mathlib.Core.Bool.{Bool, true, false, not, _&&_, cond, false≢true}
@@ -13,32 +11,18 @@ use mathlib.Core.List.{List, [], _∷_, _++_}
 use lib.Dec.{eqb, ltb, leb}
 use lib.ListN.{length}
 use borrow.Author.Tests.{lt-ltb, le-ltb, eq-eqb, ne-eqb, le-leb, lt-leb, ltb-true, ltb-false, not-false}
-use Rattle.model.specs.Numbers.{Refusal, firstRefusal, refuse, isPermutation}
+use Rattle.model.specs.Numbers.{firstRefusal, isPermutation}
 use Rattle.model.specs.Map.{Plan, darts, edges, isKind, dartCountFits}
 use Rattle.model.specs.Record.{recordLength}
-use Rattle.model.specs.Calls.{writeRefusal}
+use Rattle.model.specs.Calls.{earlyRefusals, lateRefusals, writeRefusal}
 use Rattle.model.proofs.Fitness.{even-darts}
+use Rattle.model.proofs.Refusals.{not-first, first-append}
 use Rattle.fitting.specs.Judged.{lateRefusal}
-use Rattle.writing.specs.Early.{earlyRefusals, earlyRefusal}
-
--- every number is a refusal's
-abbrev pub Numbered : List Refusal → Type 0
-Numbered [] = Unit
-Numbered (r ∷ rs) = (eqb (r .number) 0 ≡ false) × Numbered rs
-
-pub first-append : (rs bs : List Refusal) → Numbered rs → firstRefusal (rs ++ bs) ≡ cond (eqb (firstRefusal rs) 0) (firstRefusal bs) (firstRefusal rs)
-unfolding firstRefusal
-first-append [] bs n = refl
-first-append (a ∷ rs) bs (n, ns) = go (a .holds) (first-append rs bs ns)
-  where
-    go : (b : Bool) → firstRefusal (rs ++ bs) ≡ cond (eqb (firstRefusal rs) 0) (firstRefusal bs) (firstRefusal rs)
-        → cond b (a .number) (firstRefusal (rs ++ bs)) ≡ cond (eqb (cond b (a .number) (firstRefusal rs)) 0) (firstRefusal bs) (cond b (a .number) (firstRefusal rs))
-    go true ih = rw n
-    go false ih = ih
+use Rattle.writing.specs.Early.{earlyRefusal}
 
 pub refusal-split : (k : ℕ) (p : Plan) (wl ol : ℕ) → writeRefusal k p wl ol ≡ cond (eqb (earlyRefusal k p wl ol) 0) (lateRefusal k p) (earlyRefusal k p wl ol)
 unfolding writeRefusal earlyRefusal earlyRefusals lateRefusal
-refusal-split k p wl ol = first-append (earlyRefusals k p wl ol) _ (refl, (refl, (refl, (refl, (refl, (refl, tt))))))
+refusal-split k p wl ol = first-append (earlyRefusals k p wl ol) (lateRefusals k p) (refl, (refl, (refl, (refl, (refl, (refl, tt))))))
 
 -- ---- the early refusals, test by test
 
@@ -97,11 +81,6 @@ unfolding dartCountFits
 fit-darts n z e h = rw (lt-ltb 0 n (omega arith), eq-eqb (n % 2) 0 e, le-leb n 8192 h)
 
 -- ---- what a call that passes is handed
-
-not-first : (n : ℕ) (b : Bool) (rs : List Refusal) → firstRefusal (refuse (suc n) b ∷ rs) ≡ 0 → (b ≡ false) × (firstRefusal rs ≡ 0)
-unfolding firstRefusal
-not-first n true rs e = absurd (suc-ne-zero n e)
-not-first n false rs e = (refl, e)
 
 pub record Passed (k : ℕ) (p : Plan) (wl ol : ℕ) : Type 0 where
   pub count : dartCountFits (darts p) ≡ true

@@ -6,27 +6,16 @@
 --   Made                 the answer and the output of writing, and the work area's length
 use Prim.Native.Nat.{ℕ, _*_, _/_, _≤_}
 use mathlib.Core.Path.{_≡_}
-use mathlib.Core.Bool.{true, false, not}
-use mathlib.Core.List.{List, [], _∷_}
-use lib.Dec.{ltb}
+use mathlib.Core.Bool.{true, false}
+use mathlib.Core.List.{List}
 use lib.ListN.{length}
 use Rattle.model.specs.declared.Written.{Written}
-use Rattle.model.specs.Numbers.{Refusal, firstRefusal, refuse, isPermutation}
-use Rattle.model.specs.Map.{Plan, darts, edges, isKind, dartCountFits}
+use Rattle.model.specs.Numbers.{firstRefusal}
+use Rattle.model.specs.Map.{Plan, isKind}
 use Rattle.model.specs.Record.{recordLength, layOut}
-use Rattle.model.specs.Calls.{front, writeAnswer, writtenOutput}
+use Rattle.model.specs.Calls.{front, earlyRefusals, writeAnswer, writtenOutput}
 use Rattle.words.specs.Word.{valid, wordBits, wordLabels}
 use Rattle.letters.specs.Letters.{lettersIn}
-
-unfoldable pub earlyRefusals : ℕ → Plan → ℕ → ℕ → List Refusal
-earlyRefusals k p workLength outLength =
-    refuse 2 (not (isKind k))
-    ∷ refuse 3 (not (dartCountFits (darts p)))
-    ∷ refuse 4 (not (ltb (p .root) (darts p)))
-    ∷ refuse 6 (not (isPermutation (p .rotation)))
-    ∷ refuse 7 (ltb workLength (32 * edges (p .rotation)))
-    ∷ refuse 8 (ltb outLength (recordLength k (edges (p .rotation))))
-    ∷ []
 
 unfoldable pub earlyRefusal : ℕ → Plan → ℕ → ℕ → ℕ
 earlyRefusal k p workLength outLength = firstRefusal (earlyRefusals k p workLength outLength)

@@ -1,0 +1,31 @@
+-- Lists of refusals.
+--
+--   not-first            none holds: not the first of them, nor any other
+--   Numbered             every number is a refusal's
+--   first-append         the first of two lists of refusals, one after the other
+use Prim.Native.Nat.{ℕ, suc}
+use native.Mathlib.Nat.{suc-ne-zero}
+use mathlib.Core.Path.{_≡_, refl}
+use mathlib.Core.Bool.{Bool, true, false, cond}
+use mathlib.Core.List.{List, [], _∷_, _++_}
+use lib.Dec.{eqb}
+use Rattle.model.specs.Numbers.{Refusal, firstRefusal, refuse}
+
+pub not-first : (n : ℕ) (b : Bool) (rs : List Refusal) → firstRefusal (refuse (suc n) b ∷ rs) ≡ 0 → (b ≡ false) × (firstRefusal rs ≡ 0)
+unfolding firstRefusal
+not-first n true rs e = absurd (suc-ne-zero n e)
+not-first n false rs e = (refl, e)
+
+abbrev pub Numbered : List Refusal → Type 0
+Numbered [] = Unit
+Numbered (r ∷ rs) = (eqb (r .number) 0 ≡ false) × Numbered rs
+
+pub first-append : (rs bs : List Refusal) → Numbered rs → firstRefusal (rs ++ bs) ≡ cond (eqb (firstRefusal rs) 0) (firstRefusal bs) (firstRefusal rs)
+unfolding firstRefusal
+first-append [] bs n = refl
+first-append (a ∷ rs) bs (n, ns) = go (a .holds) (first-append rs bs ns)
+  where
+    go : (b : Bool) → firstRefusal (rs ++ bs) ≡ cond (eqb (firstRefusal rs) 0) (firstRefusal bs) (firstRefusal rs)
+        → cond b (a .number) (firstRefusal (rs ++ bs)) ≡ cond (eqb (cond b (a .number) (firstRefusal rs)) 0) (firstRefusal bs) (cond b (a .number) (firstRefusal rs))
+    go true ih = rw n
+    go false ih = ih
