@@ -7,7 +7,7 @@
 --   refused-bytes         a refused call adds no byte
 use Prim.Native.Nat.{ℕ, _*_, _≤_}
 use mathlib.Core.Path.{_≡_, sym, ap, _∙_}
-use mathlib.Core.Bool.{Bool, true, false, not}
+use mathlib.Core.Bool.{true, false, not}
 use mathlib.Core.List.{[]}
 use lib.Dec.{ltb}
 use lib.ListN.{length, drop}

@@ -3,7 +3,6 @@
 --   starred              the lines of document 01 that are marked *; its last one names two records, and is two lines here
 --   starred-hold         the definitions yield every line of the table
 use mathlib.Core.List.{List, [], _∷_}
-use lib.Dec.{T}
 use lib.IntN.{pos}
 use Rattle.model.specs.Numbers.{count, some, elem, distinct, allBelow, isPermutation, position, least, cycles, firstRefusal}
 use Rattle.model.specs.Map.{opposite, next, vertexOf, faceNext, edges, vertices, faces, degreeOne, spread, spreads, reached, connected, characteristic, planar, hasLoop, hasDegreeOne, isKind, dartCountFits, degreeRefused}

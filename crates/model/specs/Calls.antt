@@ -19,9 +19,9 @@
 --   lengthOfWritten, characteristicOfWritten   the values of writing's answer
 --   edgesOfRead           the value of reading's answer
 --   recordNumberOfShelved, usedOfShelved   the values of shelving's answer
-use Prim.Native.Nat.{ℕ, zero, suc, _+_, _-_, _*_, _<_}
+use Prim.Native.Nat.{ℕ, _+_, _-_, _*_}
 use mathlib.Core.Path.{_≡_}
-use mathlib.Core.Bool.{Bool, true, false, not, _&&_, _||_, cond}
+use mathlib.Core.Bool.{true, not, _&&_, cond}
 use mathlib.Core.List.{List, [], _∷_, _++_}
 use mathlib.Core.Logic.{_≢_}
 use lib.Dec.{eqb, ltb}

@@ -5,7 +5,8 @@
 --   fetched-some          a fetched record is not empty: fewer than 6 bytes at a place say that no record is left
 --   fetched-none          past the last record nothing is fetched
 --   walk-hands-out        the steps from the beginning at n hand out the records that a walk from n yields, one after another, then none
-use mathlib.Core.Path.{_≡_, refl, sym, ap, subst, _∙_}
+--   hands-out-one         and no other list
+use mathlib.Core.Path.{_≡_, refl, sym, ap, ap₂, subst, _∙_}
 use mathlib.Core.Bool.{Bool, true, false, not, cond}
 use mathlib.Core.List.{List, [], _∷_}
 use Prim.Native.Nat.{ℕ, zero, suc, _+_, _≤_, _<_}
@@ -193,3 +194,11 @@ walk-hands-out s u n = go (shelfRefused s u) refl
         subst (HandsOut (take u s) (beginPlace s u n)) (sym (walked-rest s u n e))
         (subst (λ (p : ℕ). HandsOut (take u s) p (drop n (records s u))) (sym (begins s u e n))
         (rest-from (take u s) (used-fine s u e .1) (length (records s u)) n (omega arith)))
+
+-- and no other list
+pub hands-out-one : (bs : List ℕ) (rs ss : List (List ℕ)) (at : ℕ) → HandsOut bs at rs → HandsOut bs at ss → rs ≡ ss
+hands-out-one bs [] [] at h g = refl
+hands-out-one bs [] (s ∷ ss) at h (f, (l, g)) = let z = ap length (sym f ∙ h) in let x : ⊥ = omega arith in absurd x
+hands-out-one bs (r ∷ rs) [] at (e, (l, h)) g = let z = ap length (sym e ∙ g) in let x : ⊥ = omega arith in absurd x
+hands-out-one bs (r ∷ rs) (s ∷ ss) at (e, (l, h)) (f, (m, g)) =
+    ap₂ (λ (x : List ℕ) (xs : List (List ℕ)). x ∷ xs) (sym e ∙ f) (hands-out-one bs rs ss (nextPlace bs at) h g)

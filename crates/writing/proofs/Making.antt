@@ -5,22 +5,22 @@
 --   judged-away          a refusal of the plan itself
 --   to-lay               a plan that fits is ready to be laid out
 --   made                 and what is then written
-use Prim.Native.Nat.{ℕ, _*_, _/_, _≤_, _<_}
+use Prim.Native.Nat.{ℕ, _*_, _≤_}
 use native.Mathlib.Omega.{arith}
-use mathlib.Core.Path.{_≡_, refl, sym, ap, subst, _∙_}
-use mathlib.Core.Bool.{Bool, true, false, cond, true≢false, false≢true}
+use mathlib.Core.Path.{_≡_, refl, sym, ap, _∙_}
+use mathlib.Core.Bool.{Bool, true, false, cond}
 use mathlib.Core.List.{List, [], _∷_}
-use lib.Dec.{eqb, ltb}
+use lib.Dec.{eqb}
 use lib.ListN.{length}
-use borrow.Author.Tests.{eq-eqb, ne-eqb, eqb-true, ltb-false}
+use borrow.Author.Tests.{ne-eqb, eqb-true}
 use Rattle.model.specs.declared.Written.{Written}
 use Rattle.model.specs.declared.Written.the-variants as written
 use Rattle.model.specs.Numbers.{Refusal, firstRefusal}
 use Rattle.model.specs.Map.{Plan, darts, edges, characteristic, fit}
 use Rattle.model.specs.Traversal.{word}
-use Rattle.model.specs.Record.{recordLength, layOut, recordOf}
-use Rattle.model.specs.Calls.{front, earlyRefusals, writeRefusal, writeAnswer, writtenOutput}
-use Rattle.model.proofs.Fitness.{fit-parts, even-darts}
+use Rattle.model.specs.Record.{recordLength, recordOf}
+use Rattle.model.specs.Calls.{earlyRefusals, writeRefusal, writeAnswer, writtenOutput}
+use Rattle.model.proofs.Fitness.{fit-parts}
 use Rattle.words.specs.Word.{valid}
 use Rattle.coding.proofs.FitPlans.{of-fit}
 use Rattle.lists.proofs.Calls.{not-refused}

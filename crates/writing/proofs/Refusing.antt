@@ -3,13 +3,11 @@
 --   refusal-split        writing's refusal is the early one, else the late one
 --   two .. eight, passed the early refusals, test by test
 --   Passed, early-parts  what a call that passes them is handed
-use Prim.Native.Nat.{ℕ, zero, suc, _*_, _/_, _%_, _≤_, _<_}
+use Prim.Native.Nat.{ℕ, _*_, _%_, _≤_, _<_}
 use native.Mathlib.Omega.{arith}
-use mathlib.Core.Path.{_≡_, refl, sym, ap, _∙_}
-use mathlib.Core.Bool.{Bool, true, false, not, _&&_, cond, false≢true}
-use mathlib.Core.List.{List, [], _∷_, _++_}
-use lib.Dec.{eqb, ltb, leb}
-use lib.ListN.{length}
+use mathlib.Core.Path.{_≡_, refl}
+use mathlib.Core.Bool.{true, false, not, cond}
+use lib.Dec.{eqb, ltb}
 use borrow.Author.Tests.{lt-ltb, le-ltb, eq-eqb, ne-eqb, le-leb, lt-leb, ltb-true, ltb-false, not-false}
 use Rattle.model.specs.Numbers.{firstRefusal, isPermutation}
 use Rattle.model.specs.Map.{Plan, darts, edges, isKind, dartCountFits}
