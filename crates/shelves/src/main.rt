@@ -166,12 +166,16 @@ fn shelve_again(shelf: &mut [u8], used: usize) {
     shelve(&[8, 0, 2, 0, 3, 0, 0xCC, 0x12], shelf, used);
 }
 
-// Refusals 1, 2, 3 and 5, each twice.
-fn shelve_bad_heads(shelf: &mut [u8], used: usize) {
+// Refusals 1 and 2, each twice: what is wrong with the kind or the number of edges comes after.
+fn shelve_1_2(shelf: &mut [u8], used: usize) {
     shelve(&[5, 0, 1, 0, 2], shelf, used);
     shelve(&[8, 0, 3, 0, 0, 0, 0xC8], shelf, used);
     shelve(&[7, 0, 0, 0, 0, 0, 0xC8], shelf, used);
     shelve(&[7, 0, 3, 0, 2, 0, 0xC8], shelf, used);
+}
+
+// Refusals 3 and 5, each twice: no edge and 4,097 edges, and lengths for other numbers of edges.
+fn shelve_3_5(shelf: &mut [u8], used: usize) {
     shelve(&[7, 0, 1, 0, 0, 0, 0xC8], shelf, used);
     shelve(&[7, 0, 1, 0, 1, 16, 0xC8], shelf, used);
     shelve(&[7, 0, 1, 0, 3, 0, 0xC8], shelf, used);
@@ -229,12 +233,20 @@ fn walk_nowhere(shelf: &[u8]) {
     steps(shelf, 62, 47, 3);
 }
 
+// A shelf that holds equal records: the first one's number.
+fn shelve_twins() {
+    let mut shelf = [7, 0, 1, 0, 2, 0, 0xC8, 7, 0, 1, 0, 2, 0, 0xC8];
+    let used = shelve(&[7, 0, 1, 0, 2, 0, 0xC8], &mut shelf, 14);
+    fetch(&shelf, used, 1);
+}
+
 fn main() {
     let mut shelf = [0xEE; 70];
     let used = shelve_kind_1(&mut shelf);
     let full = shelve_kind_2(&mut shelf, used);
     shelve_again(&mut shelf, full);
-    shelve_bad_heads(&mut shelf, full);
+    shelve_1_2(&mut shelf, full);
+    shelve_3_5(&mut shelf, full);
     shelve_refused(&mut shelf);
     io::write_all(1, b"the shelf");
     show_bytes(&shelf);
@@ -246,4 +258,5 @@ fn main() {
     walk_nowhere(&shelf);
     shelve(&[7, 0, 1, 0, 2, 0, 0xCC], &mut shelf, full);
     fetch(&shelf, 70, 8);
+    shelve_twins();
 }
