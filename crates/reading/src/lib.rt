@@ -27,7 +27,8 @@ fn early(record: &[u8], work: usize, out: usize) -> u16
     0
 }
 
-// Reading without an output: the standard plan stays in the first 2m entries of the work area.
+// Reading without an output: the standard plan stays in the first 2m entries of the work area. It is no public call, since it leaves the work area as it is:
+// it is the inner call of `read`, and of shelving that reads its record without an output (request (b)).
 pub fn read_core(record: &[u8], w: &mut [u16]) -> ReadBack
     ensures { λ r. ⌜ Core (now («record» .entry)) (now (w .entry)) r (now (w .exit)) ⌝ }
 {

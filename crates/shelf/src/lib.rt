@@ -1,5 +1,6 @@
 // The shelf: a lent byte slice with a used length, whose used bytes are records end to end. Shelving, fetching and walking look at heads and lengths
-// only. The public calls are `shelve`, `fetch`, `walk_begin`, `walk_length` and `walk_step`; they have no `requires`.
+// only. The public calls are `shelve`, `fetch`, `walk_begin`, `walk_length` and `walk_step`, and for the walker `used_part` and `next_place`; they have no
+// `requires`.
 ghost use mathlib.Core.Path.{_≡_};
 ghost use mathlib.Core.List.{_++_};
 ghost use Prim.Native.Nat.{ℕ, _+_, _≤_};
@@ -10,14 +11,14 @@ ghost use Rattle.shelf.specs.Count.{shelfCount};
 ghost use Rattle.shelf.specs.Spot.{spotOf};
 
 // Where a record belongs: it is there under a number, it is new and gets a number, or it is refused.
-pub enum Spot {
+enum Spot {
     There(usize),
     New(usize),
     Refused(u16),
 }
 
 // How many records are on the shelf, if 14 does not concern it.
-pub fn count(shelf: &[u8], used: usize) -> cutting::Counted
+fn count(shelf: &[u8], used: usize) -> cutting::Counted
     ensures { λ r. ⌜ r ≡ shelfCount (now (shelf .entry)) used ⌝ }
 {
     if used > shelf.len() {
@@ -27,7 +28,7 @@ pub fn count(shelf: &[u8], used: usize) -> cutting::Counted
 }
 
 // The first of 14, 15 that concerns fetching record n; 0 if none does.
-pub fn fetch_refusal(shelf: &[u8], used: usize, n: usize) -> u16
+fn fetch_refusal(shelf: &[u8], used: usize, n: usize) -> u16
     ensures { λ r. ⌜ r ≡ fetchRefusal (now (shelf .entry)) used n ⌝ }
 {
     match count(shelf, used) {
@@ -98,7 +99,7 @@ pub fn fetch<'a>(shelf: &'a [u8], used: usize, n: usize, refusal: &mut u16) -> &
 
 // ---- shelving
 
-pub fn spot_of(record: &[u8], shelf: &[u8], used: usize) -> Spot
+fn spot_of(record: &[u8], shelf: &[u8], used: usize) -> Spot
     ensures { λ r. ⌜ r ≡ spotOf (now («record» .entry)) (now (shelf .entry)) used ⌝ }
 {
     let number = heads::head_refusal(record);
@@ -121,7 +122,7 @@ pub fn spot_of(record: &[u8], shelf: &[u8], used: usize) -> Spot
 }
 
 // The record is put into the shelf from this place on.
-pub fn put(shelf: &mut [u8], at: usize, record: &[u8])
+fn put(shelf: &mut [u8], at: usize, record: &[u8])
     requires { ⌜ at + length (now «record») ≤ length (now shelf) ⌝ }
     ensures { λ _. ⌜ now (shelf .exit) ≡ take at (now (shelf .entry)) ++ front (now («record» .entry)) (drop at (now (shelf .entry))) ⌝ }
 {
