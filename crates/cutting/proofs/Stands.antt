@@ -5,6 +5,7 @@
 --   record-short, record-long, record-refused    no record stands there
 --   record-is, record-length                     one does, and its length
 --   record-none           there is none where nothing passes
+--   part-none, part-is, begins-none, begins-there        the part that is handed back: its bytes, and where it begins
 use mathlib.Core.Path.{_≡_, refl, sym, ap, _∙_}
 use mathlib.Core.Bool.{Bool, true, false}
 use mathlib.Core.List.{List, []}
@@ -19,6 +20,7 @@ use Rattle.model.specs.Shelf.{word16, headRefusal, passes}
 use Rattle.model.specs.Walk.{headOf, recordAt}
 use Rattle.model.proofs.Booleans.{not-intro}
 use Rattle.heads.proofs.Head.{passes-long, passes-length}
+use Rattle.cutting.specs.Part.{cutPlace}
 
 field-take : (bs : List ℕ) (l : ℕ) → 2 ≤ l → word16 (take l bs) 0 ≡ word16 bs 0
 unfolding word16
@@ -116,3 +118,12 @@ module _ (bs : List ℕ) (at : ℕ) where
         let p = stands (λ z. d (l-is ∙ z)) in
         let e : at + l - at ≡ l = omega arith in
         ap (λ (k : ℕ). take k (drop at bs)) (e ∙ (l-is ∙ stands-length p .2)) ∙ sym (record-is p)
+
+    -- the byte where it begins, o being the byte where the bytes begin
+    pub begins-none : l ≡ 0 → (o : ℕ) → 0 + o ≡ o + cutPlace bs at
+    unfolding cutPlace
+    begins-none e o = rw (stands-not (sym l-is ∙ e)) (omega arith)
+
+    pub begins-there : (l ≡ 0 → ⊥) → (o : ℕ) → at + o ≡ o + cutPlace bs at
+    unfolding cutPlace
+    begins-there d o = rw (stands (λ z. d (l-is ∙ z))) (omega arith)

@@ -5,8 +5,9 @@ ghost use mathlib.Core.Bool.{true};
 ghost use Prim.Native.Nat.{ℕ, _+_, _-_, _<_, _≤_};
 ghost use lib.ListN.{length, take, drop};
 ghost use Rattle.model.specs.Shelf.{recordsIn, endToEnd, same, firstEqual};
-ghost use Rattle.model.specs.Walk.{recordAt, placeOfRecord};
+ghost use Rattle.model.specs.Walk.{placeOfRecord};
 ghost use Rattle.cutting.specs.Count.{countOf};
+ghost use Rattle.cutting.specs.Part.{CutOut};
 
 pub enum Counted {
     Records(usize),
@@ -54,7 +55,7 @@ pub fn count(bytes: &[u8]) -> Counted
 
 // The record that stands at this place, as the caller's own part of the bytes; empty if none that passes does.
 pub fn record_at<'a>(bytes: &'a [u8], at: usize) -> &'a [u8]
-    ensures { λ r. ⌜ now r ≡ recordAt (now (bytes .entry)) at ⌝ }
+    ensures { λ r. ⌜ CutOut (bytes .entry) at r ⌝ }
 {
     let length = length_at(bytes, at);
     if length == 0 {

@@ -8,6 +8,7 @@
 --   first-record          the record at a walk's beginning is the fetched one
 --   begun-refused, begun-fine    the two ways that a walk begins
 --   fetched-there         fetching, by the record at a beginning
+--   fetched-part          the same of the parts themselves: which part of the shelf it is
 --   next-is, whole-part   the next place by a record's length; the used part of a shelf that is shorter
 use mathlib.Core.Path.{_≡_, refl, sym, ap, _∙_}
 use mathlib.Core.Logic.{_⊎_, inl, inr}
@@ -26,8 +27,11 @@ use Rattle.model.specs.Calls.{fetchRefusal, fetched, Fetched}
 use Rattle.model.specs.Walk.{headOf, recordAt, placeOfRecord, beginPlace, nextPlace, Begun}
 use Rattle.model.proofs.Booleans.{or-none}
 use Rattle.heads.proofs.Head.{not-met}
-use Rattle.cutting.proofs.Stands.{head-whole, record-is, record-short, stands, stands-length}
+use denote.Ref.{RefT, now}
+use Rattle.cutting.specs.Part.{cutPlace, CutOut}
+use Rattle.cutting.proofs.Stands.{head-whole, record-is, record-short, stands, stands-length, stands-not}
 use Rattle.cutting.proofs.Cut.{rest, some-bytes, end-head, end-rest, end-records}
+use Rattle.shelf.specs.Part.{fetchedPlace, FetchedPart}
 use Rattle.shelf.proofs.Refusals.{used-part}
 
 record-drop : (bs : List ℕ) (l at : ℕ) → recordAt bs (l + at) ≡ recordAt (drop l bs) at
@@ -49,6 +53,21 @@ place-record (suc n) bs t h =
     ∙ (ap (λ (k : ℕ). recordAt bs (k + placeOfRecord (recordsIn (rest bs)) n)) (w .2)
     ∙ (record-drop bs (word16 bs 0) (placeOfRecord (recordsIn (rest bs)) n)
     ∙ (place-record n (rest bs) (end-rest bs t b) (omega arith) ∙ sym (ap (λ (rs : List (List ℕ)). getD rs (suc n) []) e))))
+
+-- a record that passes stands there
+place-stands : (n : ℕ) (bs : List ℕ) → endToEnd bs ≡ true → n < length (recordsIn bs)
+    → passes (headOf (drop (placeOfRecord (recordsIn bs) n) bs)) ≡ true
+unfolding placeOfRecord
+place-stands zero bs t h = end-head bs t (some-bytes bs 0 h)
+place-stands (suc n) bs t h =
+    let b = some-bytes bs (suc n) h in
+    let e = end-records bs t b in
+    let l = ap length e in
+    let w = head-whole bs (end-head bs t b) in
+    ap (λ (rs : List (List ℕ)). passes (headOf (drop (placeOfRecord rs (suc n)) bs))) e
+    ∙ (ap (λ (k : ℕ). passes (headOf (drop (k + placeOfRecord (recordsIn (rest bs)) n) bs))) (w .2)
+    ∙ (ap (λ (r : List ℕ). passes (headOf r)) (sym (drop-drop (placeOfRecord (recordsIn (rest bs)) n) (word16 bs 0) bs))
+    ∙ place-stands n (rest bs) (end-rest bs t b) (omega arith)))
 
 pub next-fits : (bs : List ℕ) (at : ℕ) → (length (recordAt bs at) ≡ 0) ⊎ (at + length (recordAt bs at) ≤ length bs)
 next-fits bs at = go (ℕ-discrete (length (recordAt bs at)) 0)
@@ -85,6 +104,16 @@ module _ (s : List ℕ) (u n : ℕ) where
       go true e = let f = fine-parts (eqb-true _ _ e) in place-record n (take u s) (f .1) (f .2)
       go false e = none-left s u
 
+  first-place : cutPlace (take u s) (beginPlace s u n) ≡ fetchedPlace s u n
+  unfolding beginPlace fetchedPlace cutPlace
+  first-place = go (eqb (fetchRefusal s u n) 0) refl
+    where
+      go : (b : Bool) → eqb (fetchRefusal s u n) 0 ≡ b
+          → let at = cond b (placeOfRecord (recordsIn (take u s)) n) u in
+          cond (passes (headOf (drop at (take u s)))) at 0 ≡ cond b (placeOfRecord (recordsIn (take u s)) n) 0
+      go true e = let f = fine-parts (eqb-true _ _ e) in rw (place-stands n (take u s) (f .1) (f .2))
+      go false e = rw (stands-not (take u s) u (ap length (none-left s u)))
+
   module _ (x : ℕ) (x-is : x ≡ fetchRefusal s u n) where
     pub begun-refused : (x ≡ 0 → ⊥) → Begun s u n u x
     unfolding beginPlace
@@ -108,6 +137,21 @@ module _ (s : List ℕ) (u n : ℕ) where
         part-is = p ∙ (ap (λ (r : List ℕ). recordAt r at) e ∙ (ap (recordAt (take u s)) (b .place-is) ∙ first-record));
         number-is = b .number-is;
       }
+
+-- t is the used part of the shelf s, and r the part of t that is handed over
+pub fetched-part : (s : RefT (List ℕ)) (u n at x : ℕ) (t r : RefT (List ℕ)) → Begun (now s) u n at x
+    → (now t ≡ take u (now s)) × (t .ptr ≡ s .ptr) → CutOut t at r → FetchedPart s u n r x
+fetched-part s u n at x t r b e c =
+    let place =
+        ap (λ (bs : List ℕ). cutPlace bs at) (e .0)
+        ∙ (ap (cutPlace (take u (now s))) (b .place-is) ∙ first-place (now s) u n)
+    in
+    record {
+      settled = fetched-there (now s) u n at x (now t) (now r) b (e .0) (c .bytes-are);
+      begins =
+        c .begins
+        ∙ (ap (λ (p : ℕ × ℕ). (p .0, p .1 + cutPlace (now t) at)) (e .1) ∙ ap (λ (k : ℕ). (s .ptr .0, s .ptr .1 + k)) place);
+    }
 
 pub next-is : (bs : List ℕ) (at l : ℕ) → l ≡ length (recordAt bs at) → at + l ≡ nextPlace bs at
 unfolding nextPlace

@@ -5,10 +5,11 @@ ghost use mathlib.Core.Path.{_≡_};
 ghost use mathlib.Core.List.{_++_};
 ghost use Prim.Native.Nat.{ℕ, _+_, _≤_};
 ghost use lib.ListN.{length, take, drop};
-ghost use Rattle.model.specs.Calls.{front, fetchRefusal, Stored, Fetched};
+ghost use Rattle.model.specs.Calls.{front, fetchRefusal, Stored};
 ghost use Rattle.model.specs.Walk.{recordAt, nextPlace, Begun};
 ghost use Rattle.shelf.specs.Count.{shelfCount};
 ghost use Rattle.shelf.specs.Spot.{spotOf};
+ghost use Rattle.shelf.specs.Part.{FetchedPart};
 
 // Where a record belongs: it is there under a number, it is new and gets a number, or it is refused.
 enum Spot {
@@ -44,7 +45,7 @@ fn fetch_refusal(shelf: &[u8], used: usize, n: usize) -> u16
 
 // The used bytes; the whole shelf if the used length exceeds it.
 pub fn used_part<'a>(shelf: &'a [u8], used: usize) -> &'a [u8]
-    ensures { λ r. ⌜ now r ≡ take used (now (shelf .entry)) ⌝ }
+    ensures { λ r. ⌜ (now r ≡ take used (now (shelf .entry))) × (r .ptr ≡ shelf .entry .ptr) ⌝ }
 {
     if used > shelf.len() {
         return shelf;
@@ -91,7 +92,7 @@ pub fn next_place(bytes: &[u8], at: usize) -> usize
 // ---- fetching: the first step of a walk
 
 pub fn fetch<'a>(shelf: &'a [u8], used: usize, n: usize, refusal: &mut u16) -> &'a [u8]
-    ensures { λ r. ⌜ Fetched (now (shelf .entry)) used n (now r) (now (refusal .exit)) ⌝ }
+    ensures { λ r. ⌜ FetchedPart (shelf .entry) used n r (now (refusal .exit)) ⌝ }
 {
     let at = walk_begin(shelf, used, n, refusal);
     cutting::record_at(used_part(shelf, used), at)

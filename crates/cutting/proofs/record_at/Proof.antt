@@ -1,7 +1,8 @@
 use native.Mathlib.Omega.{arith}
-use Prim.Native.Nat.{_+_, _≤_}
+use mathlib.Core.Path.{ap}
+use Prim.Native.Nat.{ℕ, _+_, _≤_}
 use lib.ListN.{length}
-use Rattle.cutting.proofs.Stands.{part-none, part-is}
+use Rattle.cutting.proofs.Stands.{part-none, part-is, begins-none, begins-there}
 use Rattle.cutting.proofs.Turn.{step-fits}
 use borrow.Author.Needs.{needs}
 use Rattle.cutting.proofs.record_at.Statement.{statement}
@@ -34,7 +35,12 @@ part-result-end c = search needs
 
 -- src/lib.rt:60:9
 returns : tie.Need-returns
-returns c = part-none _ _ _ (c .before .before .length-at .ensures) (c .before .if1 .taken)
+returns c = let l = c .before .before .length-at .ensures in
+    let s = c .before .before .before .before .args .bytes in
+    record {
+      bytes-are = part-none _ _ _ l (c .before .if1 .taken);
+      begins = ap (λ (o : ℕ). (s .ptr .0, o)) (begins-none _ _ _ l (c .before .if1 .taken) (s .ptr .1));
+    }
 
 -- src/lib.rt:62:15
 add-end : tie.Need-add-end
@@ -54,7 +60,12 @@ part-result-end-2 c = let f = fits c in omega arith
 
 -- src/lib.rt:55:1
 returns-2 : tie.Need-returns-2
-returns-2 c = part-is _ _ _ (c .before .before .length-at .ensures) (c .before .if1 .left)
+returns-2 c = let l = c .before .before .length-at .ensures in
+    let s = c .before .before .before .before .args .bytes in
+    record {
+      bytes-are = part-is _ _ _ l (c .before .if1 .left);
+      begins = ap (λ (o : ℕ). (s .ptr .0, o)) (begins-there _ _ _ l (c .before .if1 .left) (s .ptr .1));
+    }
 
 pub record-at-spec : {M : Type 1} → statement M
 record-at-spec =

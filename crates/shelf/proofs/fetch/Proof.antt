@@ -1,4 +1,4 @@
-use Rattle.shelf.proofs.Walking.{fetched-there}
+use Rattle.shelf.proofs.Walking.{fetched-part}
 use borrow.Author.Needs.{needs}
 use Rattle.shelf.proofs.fetch.Statement.{statement}
 use Rattle.shelf.proofs.fetch.Tie as tie
@@ -22,7 +22,7 @@ record-at-requires c κs = search needs
 
 -- src/lib.rt:91:1
 returns : tie.Need-returns
-returns c = fetched-there _ _ _ _ _ _ _ (c .before .before .walk-begin .ensures) (c .before .used-part .ensures) (c .record-at .ensures)
+returns c = fetched-part _ _ _ _ _ _ _ (c .before .before .walk-begin .ensures) (c .before .used-part .ensures) (c .record-at .ensures)
 
 pub fetch-spec : {M : Type 1} → statement M
 fetch-spec = tie.close (tie.spec walk-begin-requires used-part-requires record-at-requires returns)

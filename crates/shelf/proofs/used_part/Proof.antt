@@ -1,3 +1,6 @@
+use mathlib.Core.Path.{refl, ap}
+use Prim.Native.Nat.{ℕ}
+use native.Mathlib.Nat.{zero-add}
 use native.Mathlib.Omega.{arith}
 use Rattle.shelf.proofs.Refusals.{used-part}
 use Rattle.shelf.proofs.Walking.{whole-part}
@@ -9,7 +12,7 @@ use Rattle.shelf.proofs.used_part.Lts as lts
 
 -- src/lib.rt:48:9
 returns : tie.Need-returns
-returns c = let a = c .before .args in whole-part (a .shelf .now) (a .used) (omega arith)
+returns c = let a = c .before .args in (whole-part (a .shelf .now) (a .used) (omega arith), refl)
 
 -- src/lib.rt:50:5
 sub-result : tie.Need-sub-result
@@ -25,7 +28,9 @@ part-result-end c = search needs
 
 -- src/lib.rt:44:1
 returns-2 : tie.Need-returns-2
-returns-2 c = let a = c .before .before .args in used-part (a .shelf .now) (a .used)
+returns-2 c = let a = c .before .before .args in
+    let s = a .shelf in
+    (used-part (s .now) (a .used), ap (λ (o : ℕ). (s .ptr .0, o)) (zero-add (s .ptr .1)))
 
 pub used-part-spec : {M : Type 1} → statement M
 used-part-spec =

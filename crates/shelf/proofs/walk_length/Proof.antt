@@ -22,7 +22,7 @@ length-at-requires c κs = search needs
 -- src/lib.rt:69:1
 returns : tie.Need-returns
 returns c = let at = c .before .before .before .args .at in
-    c .length-at .ensures ∙ ap (λ (r : List ℕ). length (recordAt r at)) (c .before .used-part .ensures)
+    c .length-at .ensures ∙ ap (λ (r : List ℕ). length (recordAt r at)) (c .before .used-part .ensures .0)
 
 pub walk-length-spec : {M : Type 1} → statement M
 walk-length-spec = tie.close (tie.spec used-part-requires length-at-requires returns)

@@ -21,7 +21,7 @@ next-place-requires c κs = search needs
 -- src/lib.rt:76:1
 returns : tie.Need-returns
 returns c = let at = c .before .before .before .args .at in
-    c .next-place .ensures ∙ ap (λ (r : List ℕ). nextPlace r at) (c .before .used-part .ensures)
+    c .next-place .ensures ∙ ap (λ (r : List ℕ). nextPlace r at) (c .before .used-part .ensures .0)
 
 pub walk-step-spec : {M : Type 1} → statement M
 walk-step-spec = tie.close (tie.spec used-part-requires next-place-requires returns)
