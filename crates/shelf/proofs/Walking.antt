@@ -143,14 +143,14 @@ pub fetched-part : (s : RefT (List ℕ)) (u n at x : ℕ) (t r : RefT (List ℕ)
     → (now t ≡ take u (now s)) × (t .ptr ≡ s .ptr) → CutOut t at r → FetchedPart s u n r x
 fetched-part s u n at x t r b e c =
     let place =
-        ap (λ (bs : List ℕ). cutPlace bs at) (e .0)
-        ∙ (ap (cutPlace (take u (now s))) (b .place-is) ∙ first-place (now s) u n)
+    ap (λ (bs : List ℕ). cutPlace bs at) (e .0)
+    ∙ (ap (cutPlace (take u (now s))) (b .place-is) ∙ first-place (now s) u n)
     in
     record {
       settled = fetched-there (now s) u n at x (now t) (now r) b (e .0) (c .bytes-are);
       begins =
-        c .begins
-        ∙ (ap (λ (p : ℕ × ℕ). (p .0, p .1 + cutPlace (now t) at)) (e .1) ∙ ap (λ (k : ℕ). (s .ptr .0, s .ptr .1 + k)) place);
+          c .begins
+          ∙ (ap (λ (p : ℕ × ℕ). (p .0, p .1 + cutPlace (now t) at)) (e .1) ∙ ap (λ (k : ℕ). (s .ptr .0, s .ptr .1 + k)) place);
     }
 
 pub next-is : (bs : List ℕ) (at l : ℕ) → l ≡ length (recordAt bs at) → at + l ≡ nextPlace bs at

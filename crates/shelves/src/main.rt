@@ -1,7 +1,7 @@
 // Shelves the starred records of document 01, fetches them and walks over them, and meets each refusal of shelving, fetching and walking. Each answer is a
 // line: numbers and places in decimal, bytes in hexadecimal. The file stdout has what it must write.
 ghost use mathlib.Core.Path.{_≡_};
-ghost use Rattle.cutting.specs.Cutting.{recordAt};
+ghost use Rattle.cutting.specs.Part.{CutOut};
 ghost use Rattle.shelf.specs.Walk.{nextPlace};
 use model::Shelved;
 use walker::Walker;
@@ -80,7 +80,7 @@ fn fetch(shelf: &[u8], used: usize, n: usize) {
 
 // What a walker yields that holds these bytes and stands at this place.
 fn yielded<'a>(bytes: &'a [u8], at: usize) -> &'a [u8]
-    ensures { λ r. ⌜ now r ≡ recordAt (now (bytes .entry)) at ⌝ }
+    ensures { λ r. ⌜ CutOut (bytes .entry) at r ⌝ }
 {
     walker::here(Walker { src: bytes, at })
 }

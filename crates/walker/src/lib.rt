@@ -2,8 +2,9 @@
 // function of `shelf` or `cutting` with plain parameters, and is proved by a walk of its MIR.
 ghost use mathlib.Core.Path.{_≡_};
 ghost use lib.ListN.{take};
-ghost use Rattle.model.specs.Calls.{Fetched};
-ghost use Rattle.model.specs.Walk.{recordAt, nextPlace, Begun};
+ghost use Rattle.model.specs.Walk.{nextPlace, Begun};
+ghost use Rattle.cutting.specs.Part.{CutOut};
+ghost use Rattle.shelf.specs.Part.{FetchedPart};
 
 pub struct Walker<'a> {
     pub src: &'a [u8],
@@ -12,7 +13,7 @@ pub struct Walker<'a> {
 
 // The record at the walker's place, as a part of the bytes; empty if none is left, or none that passes 1, 2, 3 and 5 stands there.
 pub fn here<'a>(w: Walker<'a>) -> &'a [u8]
-    ensures { λ r. ⌜ now r ≡ recordAt (now (w .entry .src)) (w .entry .at) ⌝ }
+    ensures { λ r. ⌜ CutOut (w .entry .src) (w .entry .at) r ⌝ }
 {
     cutting::record_at(w.src, w.at)
 }
@@ -27,7 +28,7 @@ pub fn onward<'a>(w: Walker<'a>) -> Walker<'a>
 
 // A walk from record n on. Refused as fetching is, the walker stands where no record is left.
 pub fn begin<'a>(bytes: &'a [u8], used: usize, n: usize, refusal: &mut u16) -> Walker<'a>
-    ensures { λ r. ⌜ (now (r .src) ≡ take used (now (bytes .entry))) × Begun (now (bytes .entry)) used n (r .at) (now (refusal .exit)) ⌝ }
+    ensures { λ r. ⌜ (now (r .src) ≡ take used (now (bytes .entry))) × (r .src .ptr ≡ bytes .entry .ptr) × Begun (now (bytes .entry)) used n (r .at) (now (refusal .exit)) ⌝ }
 {
     let at = shelf::walk_begin(bytes, used, n, refusal);
     let src = shelf::used_part(bytes, used);
@@ -36,7 +37,7 @@ pub fn begin<'a>(bytes: &'a [u8], used: usize, n: usize, refusal: &mut u16) -> W
 
 // The record that a walk from record n yields first: for callers with plain parameters, who need no walk by hand.
 pub fn first<'a>(bytes: &'a [u8], used: usize, n: usize, refusal: &mut u16) -> &'a [u8]
-    ensures { λ r. ⌜ Fetched (now (bytes .entry)) used n (now r) (now (refusal .exit)) ⌝ }
+    ensures { λ r. ⌜ FetchedPart (bytes .entry) used n r (now (refusal .exit)) ⌝ }
 {
     here(begin(bytes, used, n, refusal))
 }

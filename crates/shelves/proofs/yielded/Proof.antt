@@ -40,7 +40,7 @@ use denote.Triple.Table.{entered, cited}
 use denote.Triple.Walked.{says, Stays, stay-none, stay-none-slice, walkOf, goes-none, goes-none-slice, Walks, ends-at, walked, walk-meets}
 use denote.Exit.{yes}
 use denote.Triple.Clauses.{ensured, lasts}
-use Rattle.cutting.specs.Cutting.{recordAt}
+use Rattle.cutting.specs.Part.{CutOut}
 use Rattle.walker.specs.declared.Walker.{Walker}
 use Rattle.walker.proofs.Walker as T
 use Rattle.walker.proofs.Walker.Laws as T′
@@ -113,10 +113,10 @@ module _ {M : Type 1} (𝓤 : URA M) (H : Heap 𝓤) (A : Atoms 𝓤) (W : Given
       use1 W (‵ (B .own d (w ∷ []))) made $ move ! (0 ∷ 2 ∷ []) $ use2 W (raw (Here 𝓤 H A mem run .pre to-here)) asked $ frame ! $ done !
 
   here-said : (t : RefT (List ℕ))
-      → ent 𝓤 (ensured 𝓤 H A here.ended (here.clauses 𝓤 H A mem run) (κ, tt) (d, tt) tt t) (fact 𝓤 (now t ≡ recordAt (now s) n))
-  here-said t = exE 𝓤 _ (λ ws. snd∗ 𝓤 (sem 𝓤 H A (lasts here.ended (κ, tt) (d, tt) ws)) (fact 𝓤 (now t ≡ recordAt (now s) n)))
+      → ent 𝓤 (ensured 𝓤 H A here.ended (here.clauses 𝓤 H A mem run) (κ, tt) (d, tt) tt t) (fact 𝓤 (CutOut s n t))
+  here-said t = exE 𝓤 _ (λ ws. snd∗ 𝓤 (sem 𝓤 H A (lasts here.ended (κ, tt) (d, tt) ws)) (fact 𝓤 (CutOut s n t)))
 
-  exits : (t : RefT (List ℕ)) (u : Val) → now t ≡ recordAt (now s) n
+  exits : (t : RefT (List ℕ)) (u : Val) → CutOut s n t
       → ent 𝓤 (⋆ 𝓤 H A (‵ (ShrSlice (named 0) κ u8 .own t (u ∷ [])) ∷ (‵ (flft κ q) ⊛ ‵ ftrue) ∷ ‵ Own ∷ [])) (Post u)
   exits t u e =
       qed W (‵ (ShrSlice (named 0) κ u8 .own t (u ∷ [])) ∷ (‵ (flft κ q) ⊛ ‵ ftrue) ∷ ‵ Own ∷ []) ∵
@@ -140,8 +140,8 @@ module _ {M : Type 1} (𝓤 : URA M) (H : Heap 𝓤) (A : Atoms 𝓤) (W : Given
         calls-at ! fm (Here 𝓤 H A mem run) known to-here (and-then ! (load ! (from ! (stop !)) (look ! 2 refl)) (no-more !)) (λ u.
         use1 W (later (some (λ (t : RefT (List ℕ)). ((‵ (flft κ q) ⊛ ‵ ftrue) ⊛ ‵ (ShrSlice (named 0) κ u8 .own t (u ∷ []))) ⊛ raw
         (ensured 𝓤 H A here.ended (here.clauses 𝓤 H A mem run) (κ, tt) (d, tt) tt t)))) (id⊢ 𝓤 _) $ await ! tt $ pick ! (λ t.
-        split ! $ move ! (1 ∷ []) $ use1 W (raw (fact 𝓤 (now t ≡ recordAt (now s) n))) (here-said t) $
-        heard ! (now t ≡ recordAt (now s) n) (λ e. split ! $ move ! (1 ∷ []) $
+        split ! $ move ! (1 ∷ []) $ use1 W (raw (fact 𝓤 (CutOut s n t))) (here-said t) $
+        heard ! (CutOut s n t) (λ e. split ! $ move ! (1 ∷ []) $
         -- [the part; the token; what s owns; _3; …; _2; …; _1; …; room for _0; …]
         peeks ! (ShrSlice (named 0) κ u8) (Is (ShrSlice (named 0) κ u8)) (shows 𝓤 H A (ShrSlice (named 0) κ u8)) t (u ∷ []) (λ is.
         land ! (from ! (stop !)) (init ! 9 refl (shr-slice-lawful 𝓤 H A W (named 0) κ u8 .typed t (u ∷ []) is .0)) $

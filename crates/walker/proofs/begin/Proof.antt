@@ -145,9 +145,12 @@ module _ {M : Type 1} (𝓤 : URA M) (H : Heap 𝓤) (A : Atoms 𝓤) (W : Given
         (u, tt),
       ) (v ∷ [], (vint w64 u ∷ [], tt))) ∷ []) ∵ join ! $ frame ! $ done !) $ frame ! $ done !
 
-  part-said : (t : RefT (List ℕ)) → ent 𝓤 (ensured 𝓤 H A part.ended (part.clauses 𝓤 H A mem run) (κ, tt) (s, (u, tt)) tt t) (fact 𝓤 (now t ≡ take u
-      (now s)))
-  part-said t = exE 𝓤 _ (λ ws. snd∗ 𝓤 (sem 𝓤 H A (lasts part.ended (κ, tt) (s, (u, tt)) ws)) (fact 𝓤 (now t ≡ take u (now s))))
+  -- t is the used part of the shelf
+  abbrev Used : RefT (List ℕ) → Type 0
+  Used t = (now t ≡ take u (now s)) × (t .ptr ≡ s .ptr)
+
+  part-said : (t : RefT (List ℕ)) → ent 𝓤 (ensured 𝓤 H A part.ended (part.clauses 𝓤 H A mem run) (κ, tt) (s, (u, tt)) tt t) (fact 𝓤 (Used t))
+  part-said t = exE 𝓤 _ (λ ws. snd∗ 𝓤 (sem 𝓤 H A (lasts part.ended (κ, tt) (s, (u, tt)) ws)) (fact 𝓤 (Used t)))
 
   -- the walker that is made, of the part t and the place r
   abbrev made : RefT (List ℕ) → ℕ → Walker
@@ -156,13 +159,13 @@ module _ {M : Type 1} (𝓤 : URA M) (H : Heap 𝓤) (A : Atoms 𝓤) (W : Given
   abbrev tv : RefT (List ℕ) → Val
   tv t = sliceVal (t .ptr) (length (t .now))
 
-  exits : (r y : ℕ) (t : RefT (List ℕ)) → Begun (now s) u n r y → now t ≡ take u (now s) → r < 2 ^ 64
+  exits : (r y : ℕ) (t : RefT (List ℕ)) → Begun (now s) u n r y → Used t → r < 2 ^ 64
       → ent 𝓤 (⋆ 𝓤 H A (‵ (ShrSlice (named 0) κ u8 .own t (tv t ∷ [])) ∷ (‵ (flft κ q) ⊛ ‵ ftrue) ∷ ‵ Own ∷ (‵ (flft κ′ q′) ⊛ ‵ ftrue) ∷ ‵
       (Left y) ∷ [])) (Post (T′.lowered (made t r)))
   exits r y t e e₂ r-fits =
       qed W (‵ (ShrSlice (named 0) κ u8 .own t (tv t ∷ [])) ∷ (‵ (flft κ q) ⊛ ‵ ftrue) ∷ ‵ Own ∷ (‵ (flft κ′ q′) ⊛ ‵ ftrue) ∷ ‵ (Left y) ∷ []) ∵
       suffices ! _ (ends-at 𝓤 H A begin.ended stayed (begin.clauses 𝓤 H A mem run) W (((κ, (κ′, tt)), (q, (q′, tt)), tt, a, vals), tt) (T′.lowered
-      (made t r)) (made t r) (tt, (tt, (tt, (y, tt)))) (tt, (tt, (tt, (tt, tt))))) $ says ! (e₂, e) $
+      (made t r)) (made t r) (tt, (tt, (tt, (y, tt)))) (tt, (tt, (tt, (tt, tt))))) $ says ! (e₂ .0, e₂ .1, e) $
       move ! (1 ∷ []) $ split ! $ move ! (1 ∷ []) $ drop ! $ move ! (0 ∷ 3 ∷ []) $ join ! $ frame ! $
       -- [what the part owns; what s owns; the lent number's last value]
       nothing ! $ move ! (3 ∷ 0 ∷ []) $ fjoin ! $ owned ! usize (Is usize) (uint-makes 𝓤 H A W w64) n _ (refl, n-fits) $ fjoin ! $
@@ -210,7 +213,7 @@ module _ {M : Type 1} (𝓤 : URA M) (H : Heap 𝓤) (A : Atoms 𝓤) (W : Given
         (from ! (stop !)) (look ! 14 refl)) (no-more !))) (λ w₂.
         use1 W (later (some (λ (t : RefT (List ℕ)). ((‵ (flft κ q) ⊛ ‵ ftrue) ⊛ ‵ (ShrSlice (named 0) κ u8 .own t (w₂ ∷ []))) ⊛ raw
         (ensured 𝓤 H A part.ended (part.clauses 𝓤 H A mem run) (κ, tt) (s, (u, tt)) tt t)))) (id⊢ 𝓤 _) $ await ! tt $ pick ! (λ t.
-        split ! $ move ! (1 ∷ []) $ use1 W (raw (fact 𝓤 (now t ≡ take u (now s)))) (part-said t) $ heard ! (now t ≡ take u (now s)) (λ e₂. split ! $
+        split ! $ move ! (1 ∷ []) $ use1 W (raw (fact 𝓤 (Used t))) (part-said t) $ heard ! (Used t) (λ e₂. split ! $
         move ! (1 ∷ []) $
         -- [the part; the token of 'a; what s owns; the other token; the lent number's last value; _7; …; room for _6; …; _5; …; _4; …; _3; …; _2; …; _1; …; room for _0; …]
         peeks ! (ShrSlice (named 0) κ u8) (Is (ShrSlice (named 0) κ u8)) (shows 𝓤 H A (ShrSlice (named 0) κ u8)) t (w₂ ∷ []) (λ is₂.

@@ -40,8 +40,9 @@ use denote.Triple.Walked.{says, Stays, stay-none, stay-none-slice, gave-ref, wal
 use denote.Triple.Walked.{walked, walk-meets}
 use denote.Exit.{yes}
 use denote.Triple.Clauses.{ensured, lasts}
-use Rattle.model.specs.Walk.{recordAt, Begun}
-use Rattle.shelf.proofs.Walking.{fetched-there}
+use Rattle.model.specs.Walk.{Begun}
+use Rattle.cutting.specs.Part.{CutOut}
+use Rattle.shelf.proofs.Walking.{fetched-part}
 use Rattle.walker.specs.declared.Walker.{Walker}
 use Rattle.walker.proofs.Walker as T
 use Rattle.walker.proofs.Walker.Laws as T′
@@ -138,12 +139,16 @@ module _ {M : Type 1} (𝓤 : URA M) (H : Heap 𝓤) (A : Atoms 𝓤) (W : Given
   goes-here d w = qed W (‵ (B .own d (w ∷ [])) ∷ (‵ (flft κ q) ⊛ ‵ ftrue) ∷ []) ∵ nothing ! $ move ! (1 ∷ 0 ∷ []) $ fjoin ! $ move ! (1 ∷ 0 ∷ []) $
       join ! $ frame ! $ done !
 
-  here-said : (d : Walker) (t : RefT (List ℕ))
-      → ent 𝓤 (ensured 𝓤 H A here.ended (here.clauses 𝓤 H A mem run) (κ, tt) (d, tt) tt t) (fact 𝓤 (now t ≡ recordAt (now (d .src)) (d .at)))
-  here-said d t = exE 𝓤 _ (λ ws. snd∗ 𝓤 (sem 𝓤 H A (lasts here.ended (κ, tt) (d, tt) ws)) (fact 𝓤 (now t ≡ recordAt (now (d .src)) (d .at))))
+  -- what is said of the walker that `begin` returns
+  abbrev Begins : Walker → ℕ → Type 0
+  Begins d y = (now (d .src) ≡ take u (now s)) × (d .src .ptr ≡ s .ptr) × Begun (now s) u n (d .at) y
 
-  exits : (y : ℕ) (d : Walker) (t : RefT (List ℕ)) (w : Val) → (now (d .src) ≡ take u (now s)) × Begun (now s) u n (d .at) y
-      → now t ≡ recordAt (now (d .src)) (d .at)
+  here-said : (d : Walker) (t : RefT (List ℕ))
+      → ent 𝓤 (ensured 𝓤 H A here.ended (here.clauses 𝓤 H A mem run) (κ, tt) (d, tt) tt t) (fact 𝓤 (CutOut (d .src) (d .at) t))
+  here-said d t = exE 𝓤 _ (λ ws. snd∗ 𝓤 (sem 𝓤 H A (lasts here.ended (κ, tt) (d, tt) ws)) (fact 𝓤 (CutOut (d .src) (d .at) t)))
+
+  exits : (y : ℕ) (d : Walker) (t : RefT (List ℕ)) (w : Val) → Begins d y
+      → CutOut (d .src) (d .at) t
       → ent 𝓤 (⋆ 𝓤 H A (‵ (ShrSlice (named 0) κ u8 .own t (w ∷ [])) ∷ (‵ (flft κ q) ⊛ ‵ ftrue) ∷ (‵ (flft κ′ q′) ⊛ ‵ ftrue) ∷ ‵
       (Left y) ∷ ‵ Own ∷ [])) (Post w)
   exits y d t w e e₂ =
@@ -155,7 +160,7 @@ module _ {M : Type 1} (𝓤 : URA M) (H : Heap 𝓤) (A : Atoms 𝓤) (W : Given
           (tt, (y, tt)),
         ),
       ) (tt, (tt, (tt, (tt, tt))))) $
-      says ! (fetched-there (now s) u n (d .at) y (now (d .src)) (now t) (e .1) (e .0) e₂) $
+      says ! (fetched-part s u n (d .at) y (d .src) t (e .2) (e .0, e .1) e₂) $
       move ! (1 ∷ []) $ split ! $ move ! (1 ∷ []) $ drop ! $ move ! (0 ∷ 2 ∷ []) $ join ! $ frame ! $
       -- [what the part owns; the lent number's last value; what s owns]
       nothing ! $ move ! (2 ∷ 0 ∷ []) $ fjoin ! $ owned ! usize (Is usize) (uint-makes 𝓤 H A W w64) n _ (refl, n-fits) $ fjoin ! $
@@ -186,8 +191,8 @@ module _ {M : Type 1} (𝓤 : URA M) (H : Heap 𝓤) (A : Atoms 𝓤) (W : Given
         split ! $ move ! (1 ∷ []) $ use1 W (some (λ (ys : Unit {0} × (Unit {0} × (Unit {0} × (ℕ × Unit {0})))). ‵ (lasts begin.ended (
           κ,
           (κ′, tt),
-        ) a ys) ⊛ raw (fact 𝓤 ((now (d .src) ≡ take u (now s)) × Begun (now s) u n (d .at) (ys .1 .1 .1 .0))))) (id⊢ 𝓤 _) $ pick ! (λ ys.
-        split ! $ move ! (1 ∷ []) $ heard ! ((now (d .src) ≡ take u (now s)) × Begun (now s) u n (d .at) (ys .1 .1 .1 .0)) (λ e. fsplit ! $ drop ! $
+        ) a ys) ⊛ raw (fact 𝓤 (Begins d (ys .1 .1 .1 .0))))) (id⊢ 𝓤 _) $ pick ! (λ ys.
+        split ! $ move ! (1 ∷ []) $ heard ! (Begins d (ys .1 .1 .1 .0)) (λ e. fsplit ! $ drop ! $
         fsplit ! $ drop ! $ fsplit ! $ drop ! $ fsplit ! $ move ! (1 ∷ []) $ drop ! $
         move ! (1 ∷ []) $ split ! $ move ! (1 ∷ []) $
         -- [what the walker owns; the tokens; the lent number's last value; what s owns; _6; …; room for _5; …; _4; …; _3; …; _2; …; _1; …; room for _0; …]
@@ -198,8 +203,8 @@ module _ {M : Type 1} (𝓤 : URA M) (H : Heap 𝓤) (A : Atoms 𝓤) (W : Given
         calls-at ! fm (Here 𝓤 H A mem run) known-here (to-here d w) (and-then ! (load ! (from ! (stop !)) (look ! 6 refl)) (no-more !)) (λ w₂.
         use1 W (later (some (λ (t : RefT (List ℕ)). ((‵ (flft κ q) ⊛ ‵ ftrue) ⊛ ‵ (ShrSlice (named 0) κ u8 .own t (w₂ ∷ []))) ⊛ raw
         (ensured 𝓤 H A here.ended (here.clauses 𝓤 H A mem run) (κ, tt) (d, tt) tt t)))) (id⊢ 𝓤 _) $ await ! tt $ pick ! (λ t.
-        split ! $ move ! (1 ∷ []) $ use1 W (raw (fact 𝓤 (now t ≡ recordAt (now (d .src)) (d .at)))) (here-said d t) $
-        heard ! (now t ≡ recordAt (now (d .src)) (d .at)) (λ e₂. split ! $ move ! (1 ∷ []) $
+        split ! $ move ! (1 ∷ []) $ use1 W (raw (fact 𝓤 (CutOut (d .src) (d .at) t))) (here-said d t) $
+        heard ! (CutOut (d .src) (d .at) t) (λ e₂. split ! $ move ! (1 ∷ []) $
         -- [the part; the token of 'a; the other token; the lent number's last value; what s owns; _6; …; _5; …; _4; …; _3; …; _2; …; _1; …; room for _0; …]
         peeks ! (ShrSlice (named 0) κ u8) (Is (ShrSlice (named 0) κ u8)) (shows 𝓤 H A (ShrSlice (named 0) κ u8)) t (w₂ ∷ []) (λ is₂.
         land ! (from ! (stop !)) (init ! 17 refl (shr-slice-lawful 𝓤 H A W (named 0) κ u8 .typed t (w₂ ∷ []) is₂ .0)) $
