@@ -240,23 +240,35 @@ fn shelve_twins() {
     fetch(&shelf, used, 1);
 }
 
+fn shelve_all(shelf: &mut [u8]) {
+    let used = shelve_kind_1(shelf);
+    let full = shelve_kind_2(shelf, used);
+    shelve_again(shelf, full);
+    shelve_1_2(shelf, full);
+    shelve_3_5(shelf, full);
+    shelve_refused(shelf);
+}
+
+fn look(shelf: &[u8]) {
+    io::write_all(1, b"the shelf");
+    show_record(shelf);
+    fetch_kind_1(shelf);
+    fetch_kind_2(shelf);
+    fetch_refused(shelf);
+    walk_all(shelf);
+    walk_nowhere(shelf);
+}
+
+// A record that just fits.
+fn shelve_last(shelf: &mut [u8]) {
+    let used = shelve(&[7, 0, 1, 0, 2, 0, 0xCC], shelf, 63);
+    fetch(shelf, used, 8);
+}
+
 fn main() {
     let mut shelf = [0xEE; 70];
-    let used = shelve_kind_1(&mut shelf);
-    let full = shelve_kind_2(&mut shelf, used);
-    shelve_again(&mut shelf, full);
-    shelve_1_2(&mut shelf, full);
-    shelve_3_5(&mut shelf, full);
-    shelve_refused(&mut shelf);
-    io::write_all(1, b"the shelf");
-    show_bytes(&shelf);
-    io::write_all(1, b"\n");
-    fetch_kind_1(&shelf);
-    fetch_kind_2(&shelf);
-    fetch_refused(&shelf);
-    walk_all(&shelf);
-    walk_nowhere(&shelf);
-    shelve(&[7, 0, 1, 0, 2, 0, 0xCC], &mut shelf, full);
-    fetch(&shelf, 70, 8);
+    shelve_all(&mut shelf);
+    look(&shelf);
+    shelve_last(&mut shelf);
     shelve_twins();
 }
