@@ -20,7 +20,7 @@ use Rattle.model.specs.Shelf.{word16, headRefusal, passes}
 use Rattle.model.specs.Walk.{headOf, recordAt}
 use Rattle.model.proofs.Booleans.{not-intro}
 use Rattle.heads.proofs.Head.{passes-long, passes-length}
-use Rattle.cutting.specs.Part.{cutPlace}
+use Rattle.model.specs.Parts.{cutPlace}
 
 field-take : (bs : List ℕ) (l : ℕ) → 2 ≤ l → word16 (take l bs) 0 ≡ word16 bs 0
 unfolding word16

@@ -5,9 +5,9 @@ ghost use mathlib.Core.Bool.{true};
 ghost use Prim.Native.Nat.{ℕ, _+_, _-_, _<_, _≤_};
 ghost use lib.ListN.{length, take, drop};
 ghost use Rattle.model.specs.Shelf.{recordsIn, endToEnd, same, firstEqual};
-ghost use Rattle.model.specs.Walk.{placeOfRecord};
+ghost use Rattle.model.specs.Walk.{recordAt, placeOfRecord};
 ghost use Rattle.cutting.specs.Count.{countOf};
-ghost use Rattle.cutting.specs.Part.{CutOut};
+ghost use Rattle.model.specs.Parts.{CutOut};
 
 pub enum Counted {
     Records(usize),

@@ -13,7 +13,8 @@ use lib.Seq.{take-take}
 use borrow.Author.Tests.{eq-eqb, ne-eqb}
 use Rattle.model.specs.Calls.{fetchRefusal, fetched}
 use Rattle.model.specs.Walk.{recordAt, beginPlace, Begun}
-use Rattle.model.specs.Exports.{FetchExport, fetchedPlace}
+use Rattle.model.specs.Parts.{fetchedPlace}
+use Rattle.model.specs.Exports.{FetchExport}
 use Rattle.cutting.proofs.Stands.{stands, stands-length, part-none, part-is}
 use Rattle.shelf.proofs.Walking.{first-record}
 

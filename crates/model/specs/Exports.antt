@@ -1,6 +1,5 @@
 -- What the exported functions answer, in numbers: an enum cannot cross to C, so each of its values goes out by itself.
 --
---   fetchedPlace          where a record stands; 0 if fetching it is refused
 --   lengthFor             the length of a record; 0 if there is none of this kind and size
 --   WriteExport           all that jurnadel_write promises
 --   ReadExport            all that jurnadel_read promises
@@ -16,11 +15,10 @@ use lib.ListN.{length, take, drop}
 use Rattle.model.specs.declared.ReadBack.{ReadBack}
 use Rattle.model.specs.Map.{Plan, isKind}
 use Rattle.model.specs.Record.{recordLength}
-use Rattle.model.specs.Shelf.{recordsIn}
 use Rattle.model.specs.Calls.{zeros, writeAnswer, writtenOutput, numberOfWritten, lengthOfWritten, characteristicOfWritten}
 use Rattle.model.specs.Calls.{Reads, numberOfRead, edgesOfRead}
 use Rattle.model.specs.Calls.{shelveAnswer, shelvedBytes, numberOfShelved, recordNumberOfShelved, usedOfShelved, fetchRefusal, fetched}
-use Rattle.model.specs.Walk.{placeOfRecord}
+use Rattle.model.specs.Parts.{fetchedPlace}
 
 -- ---- writing
 
@@ -48,9 +46,6 @@ pub record ShelveExport (bytes shelf : List ℕ) (used : ℕ) (r n used′ : ℕ
   pub number-is : n ≡ recordNumberOfShelved (shelveAnswer bytes shelf used)
   pub used-is : used′ ≡ usedOfShelved used (shelveAnswer bytes shelf used)
   pub bytes-are : shelf′ ≡ shelvedBytes bytes shelf used
-
-unfoldable pub fetchedPlace : List ℕ → ℕ → ℕ → ℕ
-fetchedPlace shelf used n = cond (eqb (fetchRefusal shelf used n) 0) (placeOfRecord (recordsIn (take used shelf)) n) 0
 
 -- the fetched record is the part of the shelf at this place and of this length
 pub record FetchExport (shelf : List ℕ) (used n : ℕ) (r at l : ℕ) : Type 0 where

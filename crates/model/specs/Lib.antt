@@ -6,6 +6,7 @@ pub mod Record
 pub mod Shelf
 pub mod Calls
 pub mod Walk
+pub mod Parts
 pub mod Renumbering
 pub mod Writings
 pub mod Exports

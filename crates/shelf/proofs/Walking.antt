@@ -28,10 +28,10 @@ use Rattle.model.specs.Walk.{headOf, recordAt, placeOfRecord, beginPlace, nextP
 use Rattle.model.proofs.Booleans.{or-none}
 use Rattle.heads.proofs.Head.{not-met}
 use denote.Ref.{RefT, now}
-use Rattle.cutting.specs.Part.{cutPlace, CutOut}
+use Rattle.model.specs.Parts.{cutPlace, CutOut}
 use Rattle.cutting.proofs.Stands.{head-whole, record-is, record-short, stands, stands-length, stands-not}
 use Rattle.cutting.proofs.Cut.{rest, some-bytes, end-head, end-rest, end-records}
-use Rattle.shelf.specs.Part.{fetchedPlace, FetchedPart}
+use Rattle.model.specs.Parts.{fetchedPlace, FetchedPart}
 use Rattle.shelf.proofs.Refusals.{used-part}
 
 record-drop : (bs : List ℕ) (l at : ℕ) → recordAt bs (l + at) ≡ recordAt (drop l bs) at

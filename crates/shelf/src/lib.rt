@@ -9,7 +9,7 @@ ghost use Rattle.model.specs.Calls.{front, fetchRefusal, Stored};
 ghost use Rattle.model.specs.Walk.{recordAt, nextPlace, Begun};
 ghost use Rattle.shelf.specs.Count.{shelfCount};
 ghost use Rattle.shelf.specs.Spot.{spotOf};
-ghost use Rattle.shelf.specs.Part.{FetchedPart};
+ghost use Rattle.model.specs.Parts.{FetchedPart};
 
 // Where a record belongs: it is there under a number, it is new and gets a number, or it is refused.
 enum Spot {

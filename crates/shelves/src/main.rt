@@ -1,8 +1,8 @@
 // Shelves the starred records of document 01, fetches them and walks over them, and meets each refusal of shelving, fetching and walking. Each answer is a
 // line: numbers and places in decimal, bytes in hexadecimal. The file stdout has what it must write.
 ghost use mathlib.Core.Path.{_≡_};
-ghost use Rattle.cutting.specs.Part.{CutOut};
-ghost use Rattle.shelf.specs.Walk.{nextPlace};
+ghost use Rattle.model.specs.Parts.{CutOut};
+ghost use Rattle.model.specs.Walk.{nextPlace};
 use model::Shelved;
 use walker::Walker;
 

@@ -3,8 +3,8 @@
 ghost use mathlib.Core.Path.{_≡_};
 ghost use lib.ListN.{take};
 ghost use Rattle.model.specs.Walk.{nextPlace, Begun};
-ghost use Rattle.cutting.specs.Part.{CutOut};
-ghost use Rattle.shelf.specs.Part.{FetchedPart};
+ghost use Rattle.model.specs.Parts.{CutOut};
+ghost use Rattle.model.specs.Parts.{FetchedPart};
 
 pub struct Walker<'a> {
     pub src: &'a [u8],

@@ -41,7 +41,7 @@ use denote.Triple.Walked.{walked, walk-meets}
 use denote.Exit.{yes}
 use denote.Triple.Clauses.{ensured, lasts}
 use Rattle.model.specs.Walk.{Begun}
-use Rattle.cutting.specs.Part.{CutOut}
+use Rattle.model.specs.Parts.{CutOut}
 use Rattle.shelf.proofs.Walking.{fetched-part}
 use Rattle.walker.specs.declared.Walker.{Walker}
 use Rattle.walker.proofs.Walker as T
