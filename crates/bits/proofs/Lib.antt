@@ -1,2 +1,1 @@
-pub mod Clear
 pub mod Places

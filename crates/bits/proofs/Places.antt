@@ -1,21 +1,18 @@
 -- Bits and labels at their places in a byte list. Assumes nothing.
 --
 --   bit-read, label-read       by dividing
---   bit-fits, label-fits       the byte after a put
---   bit-put, label-put         the bits, or labels, after a put
+--   bit-fits                   the byte after a bit is put
+--   bit-put                    the bits after a bit is put
 use Prim.Native.Nat.{ℕ, suc, _+_, _-_, _*_, _/_, _%_, _^_, _≤_, _<_}
 use native.Mathlib.Nat.{mod-eq-of-lt}
 use native.Mathlib.Omega.{arith}
 use mathlib.Core.Path.{_≡_}
-use mathlib.Core.Bool.{true}
 use mathlib.Core.List.{List}
 use lib.ListN.{length, getD, set, drop, length-set, length-drop}
-use lib.Seq.{getD-drop, getD-set-other, drop-set-add}
-use Rattle.model.specs.Numbers.{allBelow}
+use lib.Seq.{getD-drop}
 use Rattle.packing.specs.Unpack.{bits, groups}
-use Rattle.packing.proofs.Below.{below-at, below-set}
 use Rattle.packing.proofs.Place.{unpack-read, put-fits, unpack-put}
-use Rattle.bits.specs.Places.{labelsFrom, BitPut, LabelPut}
+use Rattle.bits.specs.Places.{labelsFrom}
 
 -- ---- bits
 
@@ -42,13 +39,11 @@ module _ (s : List ℕ) (k : ℕ) (h : k < 8 * length s) where
     pub bit-fits : bit-byte < 256
     bit-fits = rw no-wrap sum-fits
 
-    pub bit-put : BitPut s k b (set s (k / 8) bit-byte)
+    pub bit-put : bits (set s (k / 8) bit-byte) ≡ set (bits s) k b
     unfolding bits
-    bit-put = record {
-      put = rw (length-set s (k / 8) bit-byte, no-wrap)
-          (rw bit-power at (unpack-put 2 8 (length s) k s (omega arith) (omega arith) (omega arith) b b-fits (omega arith) byte free));
-      other-bytes = λ i d. getD-set-other s (k / 8) i bit-byte 0 d;
-    }
+    bit-put =
+        rw (length-set s (k / 8) bit-byte, no-wrap)
+        (rw bit-power at (unpack-put 2 8 (length s) k s (omega arith) (omega arith) (omega arith) b b-fits (omega arith) byte free))
 
 -- ---- labels
 
@@ -59,33 +54,6 @@ module _ (s : List ℕ) (from i : ℕ) (f : from ≤ length s) (h : i < 5 * (len
   room : i < length (drop from s) * 5
   room = let e = length-drop from s in omega arith
 
-  here : i / 5 < length (drop from s)
-  here = let e = length-drop from s in omega arith
-
   pub label-read : getD s (from + i / 5) 0 / 3 ^ (4 - i % 5) % 3 ≡ getD (labelsFrom s from) i 0
   unfolding groups labelsFrom
   label-read = rw (label-power, getD-drop from s (i / 5) 0) at (unpack-read 3 5 (length (drop from s)) i (drop from s) (omega arith) room)
-
-  module _ (l : ℕ) (l-fits : l < 3) (fit : allBelow 243 (drop from s) ≡ true) (free : getD (labelsFrom s from) i 0 ≡ 0) where
-    -- the byte after the put
-    abbrev label-byte : ℕ
-    label-byte = getD s (from + i / 5) 0 + l * 3 ^ (4 - i % 5)
-
-    old-fits : getD (drop from s) (i / 5) 0 < 243
-    old-fits = below-at 243 (drop from s) fit (i / 5) here
-
-    pub label-fits : label-byte < 243
-    unfolding groups labelsFrom
-    label-fits =
-        rw (label-power, getD-drop from s (i / 5) 0) at
-        (put-fits 3 5 (length (drop from s)) i (drop from s) (omega arith) room (omega arith) l l-fits here old-fits free)
-
-    pub label-put : LabelPut s from i l (set s (from + i / 5) label-byte)
-    unfolding groups labelsFrom
-    label-put = record {
-      put = rw (drop-set-add from s (i / 5) label-byte, length-set (drop from s) (i / 5) label-byte)
-          (rw (label-power, getD-drop from s (i / 5) 0) at
-          (unpack-put 3 5 (length (drop from s)) i (drop from s) (omega arith) room (omega arith) l l-fits here old-fits free));
-      groups-fit = rw (drop-set-add from s (i / 5) label-byte) (below-set 243 (drop from s) (i / 5) label-byte label-fits fit);
-      other-bytes = λ j d. getD-set-other s (from + i / 5) j label-byte 0 d;
-    }

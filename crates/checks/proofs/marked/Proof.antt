@@ -57,7 +57,7 @@ loop-less c = search needs
 loop-again : tie.Need-loop-again Inv-loop μ-loop
 loop-again c = let at = c .before .before .before .before .before .before .before .before .before .before .loop in (
   omega arith,
-  ap (run _ _) (c .before .before .put-bit .ensures .put)
+  ap (run _ _) (c .before .before .put-bit .ensures)
       ∙ sym (next _ _ (bits (at .marks)) (at .i) (omega arith) (omega arith) (sym (c .before .before .before .before .before .bit-at .ensures) ∙ c .before .before .before .before .if2 .left))
       ∙ at .inv .1,
   c .before .before .put-bit .kept .0 ∙ at .inv .2,
