@@ -5,39 +5,30 @@ use borrow.Author.Needs.{needs}
 use Rattle.contour.proofs.note.Statement.{statement}
 use Rattle.contour.proofs.note.Tie as tie
 
--- src/lib.rt:26:7
 add-w : tie.Need-add-w
 add-w c = search needs
 
--- src/lib.rt:26:5
 mul-w : tie.Need-mul-w
 mul-w c = search needs
 
--- src/lib.rt:26:5
 slice-write-w : tie.Need-slice-write-w
 slice-write-w c = search needs
 
--- src/lib.rt:27:7
 mul-w-2 : tie.Need-mul-w-2
 mul-w-2 c = search needs
 
--- src/lib.rt:27:7
 add-w-2 : tie.Need-add-w-2
 add-w-2 c = search needs
 
--- src/lib.rt:27:5
 mul-w-3 : tie.Need-mul-w-3
 mul-w-3 c = search needs
 
--- src/lib.rt:27:5
 slice-write-w-2 : tie.Need-slice-write-w-2
 slice-write-w-2 c = simp length-set (omega arith)
 
--- src/lib.rt:22:1
 same-length : tie.Need-same-length
 same-length c = search needs
 
--- src/lib.rt:22:1
 returns : tie.Need-returns
 returns c = noted _ _ _ _ _ (omega arith) (omega arith) (omega arith)
 

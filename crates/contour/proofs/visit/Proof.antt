@@ -14,159 +14,122 @@ at c =
     here (a .args .order .now) (a .args .w .now) (a .args .d) (a .args .i) (c .other .result)
     (a .pre .0) (a .pre .1) (a .pre .2) (a .pre .3) (a .pre .4) (a .pre .5) (c .other .ensures)
 
--- src/lib.rt:37:9
 other-requires : tie.Need-other-requires
 other-requires c κs = let k = count-parts _ (c .before .before .pre .0) in omega arith
 
--- src/lib.rt:38:17
 add-met : tie.Need-add-met
 add-met c = let f = at c in omega arith
 
--- src/lib.rt:38:15
 mul-met : tie.Need-mul-met
 mul-met c = let f = at c in omega arith
 
--- src/lib.rt:38:15
 slice-read-met : tie.Need-slice-read-met
 slice-read-met c = let f = at (c .before) in omega arith
 
--- src/lib.rt:40:17
 mul-s : tie.Need-mul-s
 mul-s c = let f = at (c .before .before) in omega arith
 
--- src/lib.rt:40:25
 mul-s-2 : tie.Need-mul-s-2
 mul-s-2 c = let f = at (c .before .before) in omega arith
 
--- src/lib.rt:40:25
 slice-read-s : tie.Need-slice-read-s
 slice-read-s c = let f = at (c .before .before .before) in omega arith
 
--- src/lib.rt:40:25
 cast-s : tie.Need-cast-s
 cast-s c = let f = at (c .before .before .before) in omega arith
 
--- src/lib.rt:40:17
 add-s : tie.Need-add-s
 add-s c = let f = at (c .before .before .before) in omega arith
 
--- src/lib.rt:41:12
 mul-if2 : tie.Need-mul-if2
 mul-if2 c = let f = at (c .before .before .before) in omega arith
 
--- src/lib.rt:41:12
 slice-read-if2 : tie.Need-slice-read-if2
 slice-read-if2 c = let f = at (c .before .before .before .before) in omega arith
 
--- src/lib.rt:42:13
 mul-w : tie.Need-mul-w
 mul-w c = let f = at (c .before .before .before .before .before) in omega arith
 
--- src/lib.rt:42:13
 slice-write-w : tie.Need-slice-write-w
 slice-write-w c = let f = at (c .before .before .before .before .before) in omega arith
 
--- src/lib.rt:43:13
 note-requires : tie.Need-note-requires
 note-requires c κs = let f = at (c .before .before .before .before .before .before) in (f .few, f .dart, f .place, simp length-set (f .room))
 
--- src/lib.rt:44:20
 mul-result : tie.Need-mul-result
 mul-result c = let f = at (c .before .before .before .before .before .before .before .before .before) in omega arith
 
--- src/lib.rt:44:20
 shared-slice-read-result : tie.Need-shared-slice-read-result
 shared-slice-read-result c = let f = at (c .before .before .before .before .before .before .before .before .before .before) in omega arith
 
--- src/lib.rt:44:20
 cast-result : tie.Need-cast-result
 cast-result c = let f = at (c .before .before .before .before .before .before .before .before .before .before) in omega arith
 
--- src/lib.rt:44:13
 returns : tie.Need-returns
 returns c =
     goes-down (at (c .before .before .before .before .before .before .before .before .before .before)) _
     (c .before .before .before .before .before .before .before .before .if1 .taken)
     (c .before .before .before .before .before .if2 .taken) (c .before .before .before .note .ensures)
 
--- src/lib.rt:44:13
 same-length : tie.Need-same-length
 same-length c = returns c .kept
 
--- src/lib.rt:46:9
 note-requires-2 : tie.Need-note-requires-2
 note-requires-2 c κs = let f = at (c .before .before .before .before .before .before) in (f .few, f .dart, f .place, f .room)
 
--- src/lib.rt:47:16
 mul-result-2 : tie.Need-mul-result-2
 mul-result-2 c = let f = at (c .before .before .before .before .before .before .before .before .before) in omega arith
 
--- src/lib.rt:47:16
 shared-slice-read-result-2 : tie.Need-shared-slice-read-result-2
 shared-slice-read-result-2 c = let f = at (c .before .before .before .before .before .before .before .before .before .before) in omega arith
 
--- src/lib.rt:47:16
 cast-result-2 : tie.Need-cast-result-2
 cast-result-2 c = let f = at (c .before .before .before .before .before .before .before .before .before .before) in omega arith
 
--- src/lib.rt:47:9
 same-length-2 : tie.Need-same-length-2
 same-length-2 c = search needs
 
--- src/lib.rt:47:9
 returns-2 : tie.Need-returns-2
 returns-2 c =
     is-noted (at (c .before .before .before .before .before .before .before .before .before .before)) _
     (c .before .before .before .before .before .before .before .before .if1 .taken)
     (c .before .before .before .before .before .if2 .left) (c .before .before .before .note2 .ensures)
 
--- src/lib.rt:50:9
 note-requires-3 : tie.Need-note-requires-3
 note-requires-3 c κs = let f = at (c .before .before .before .before) in (f .few, f .dart, f .place, f .room)
 
--- src/lib.rt:51:16
 mul-result-3 : tie.Need-mul-result-3
 mul-result-3 c = let f = at (c .before .before .before .before .before .before .before) in omega arith
 
--- src/lib.rt:51:16
 shared-slice-read-result-3 : tie.Need-shared-slice-read-result-3
 shared-slice-read-result-3 c = let f = at (c .before .before .before .before .before .before .before .before) in omega arith
 
--- src/lib.rt:51:16
 cast-result-3 : tie.Need-cast-result-3
 cast-result-3 c = let f = at (c .before .before .before .before .before .before .before .before) in omega arith
 
--- src/lib.rt:51:9
 same-length-3 : tie.Need-same-length-3
 same-length-3 c = search needs
 
--- src/lib.rt:51:9
 returns-3 : tie.Need-returns-3
 returns-3 c =
     comes-up (at (c .before .before .before .before .before .before .before .before)) _ (c .before .before .before .before .before .if3 .taken)
     (c .before .before .before .note3 .ensures)
 
--- src/lib.rt:53:5
 note-requires-4 : tie.Need-note-requires-4
 note-requires-4 c κs = let f = at (c .before .before .before .before) in (f .few, f .dart, f .place, f .room)
 
--- src/lib.rt:54:5
 mul-result-4 : tie.Need-mul-result-4
 mul-result-4 c = let f = at (c .before .before .before .before .before .before .before) in omega arith
 
--- src/lib.rt:54:5
 shared-slice-read-result-4 : tie.Need-shared-slice-read-result-4
 shared-slice-read-result-4 c = let f = at (c .before .before .before .before .before .before .before .before) in omega arith
 
--- src/lib.rt:54:5
 cast-result-4 : tie.Need-cast-result-4
 cast-result-4 c = let f = at (c .before .before .before .before .before .before .before .before) in omega arith
 
--- src/lib.rt:31:1
 same-length-4 : tie.Need-same-length-4
 same-length-4 c = search needs
 
--- src/lib.rt:31:1
 returns-4 : tie.Need-returns-4
 returns-4 c =
     is-noted-again (at (c .before .before .before .before .before .before .before .before)) _

@@ -20,86 +20,68 @@ start c =
     started (a .args .order .now) (a .args .root) (a .args .w .now) (c .before .before .before .fill .last .0)
     (a .pre .0) (a .pre .1) (a .pre .2) (a .pre .3) (a .pre .4) (c .before .before .before .fill .ensures)
 
--- src/lib.rt:64:23
 mul-fill : tie.Need-mul-fill Inv-loop μ-loop
 mul-fill c = let k = count-parts _ (c .before .before .before .pre .0) in omega arith
 
--- src/lib.rt:64:5
 fill-requires : tie.Need-fill-requires Inv-loop μ-loop
 fill-requires c κs = let r = c .before .before .before .pre .3 in omega arith
 
--- src/lib.rt:65:13
 mul-v : tie.Need-mul-v Inv-loop μ-loop
 mul-v c = let k = count-parts _ (c .before .before .before .before .before .before .pre .0) in omega arith
 
--- src/lib.rt:65:13
 slice-read-v : tie.Need-slice-read-v Inv-loop μ-loop
 slice-read-v c = let s = start c in omega arith
 
--- src/lib.rt:65:13
 cast-v : tie.Need-cast-v Inv-loop μ-loop
 cast-v c = let s = start c in omega arith
 
--- src/lib.rt:66:7
 mul-w : tie.Need-mul-w Inv-loop μ-loop
 mul-w c = let s = start c in omega arith
 
--- src/lib.rt:66:7
 add-w : tie.Need-add-w Inv-loop μ-loop
 add-w c = let s = start c in omega arith
 
--- src/lib.rt:66:5
 mul-w-2 : tie.Need-mul-w-2 Inv-loop μ-loop
 mul-w-2 c = let s = start c in omega arith
 
--- src/lib.rt:66:5
 slice-write-w : tie.Need-slice-write-w Inv-loop μ-loop
 slice-write-w c = let s = start c in omega arith
 
--- src/lib.rt:69:5
 loop-holds : tie.Need-loop-holds Inv-loop μ-loop
 loop-holds c = begun (start c)
 
--- src/lib.rt:70:9
 visit-requires : tie.Need-visit-requires Inv-loop μ-loop
 visit-requires c κs =
     let s = start (c .before .before .before) in
     let at = c .before .before .loop .inv in
     (s .count, s .perm, at .inside, c .before .loop-test .taken, at .room, at .names)
 
--- src/lib.rt:71:9
 add-i : tie.Need-add-i Inv-loop μ-loop
 add-i c =
     let s = start (c .before .before .before .before .before .before) in
     let p = c .before .before .before .before .before .loop .inv .places in
     omega arith
 
--- src/lib.rt:73:13
 returns : tie.Need-returns Inv-loop μ-loop
 returns c =
     walked-back (start (c .before .before .before .before .before .before .before)) (c .before .before .before .before .before .before .loop .inv)
     (c .before .before .before .before .before .loop-test .taken) (c .before .before .before .visit .ensures) (simp length-set) (c .if1 .taken)
 
--- src/lib.rt:73:13
 same-length : tie.Need-same-length Inv-loop μ-loop
 same-length c = returns c .kept
 
--- src/lib.rt:69:5
 loop-less : tie.Need-loop-less Inv-loop μ-loop
 loop-less c = let t = c .before .before .before .before .before .loop-test .taken in omega arith
 
--- src/lib.rt:69:5
 loop-again : tie.Need-loop-again Inv-loop μ-loop
 loop-again c =
     going-on (start (c .before .before .before .before .before .before .before)) (c .before .before .before .before .before .before .loop .inv)
     (c .before .before .before .before .before .loop-test .taken) (c .before .before .before .visit .ensures) (c .if1 .left)
 
--- src/lib.rt:58:1
 returns-2 : tie.Need-returns-2 Inv-loop μ-loop
 returns-2 c =
     walked-all (start (c .before .before)) (c .before .loop .inv) (simp length-set) (let t = c .loop-test .left in omega arith)
 
--- src/lib.rt:58:1
 same-length-2 : tie.Need-same-length-2 Inv-loop μ-loop
 same-length-2 c = returns-2 c .kept
 

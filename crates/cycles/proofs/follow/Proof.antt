@@ -18,13 +18,11 @@ Inv-loop order across w₀ a start name x₀ w x =
 abbrev μ-loop : tie.MeasureT-loop
 μ-loop order across w₀ a start name x₀ w x = free w
 
--- src/lib.rt:40:16
 cast-name : tie.Need-cast-name Inv-loop μ-loop
 cast-name c =
     let n = count-parts _ (c .before .before .pre .size) in
     omega arith
 
--- src/lib.rt:42:5
 loop-holds : tie.Need-loop-holds Inv-loop μ-loop
 loop-holds c =
     let st = c .before .before in
@@ -32,35 +30,27 @@ loop-holds c =
     let perm = step-perm (st .args .order .now) (st .pre .entries) (st .args .across) (st .pre .size) in
     (search needs, search needs, following-start _ _ perm (n .2) _ (st .pre .below) _ _ (st .pre .fits) (st .pre .names) (st .pre .own))
 
--- src/lib.rt:42:13
 add-if1 : tie.Need-add-if1 Inv-loop μ-loop
 add-if1 c = search needs
 
--- src/lib.rt:42:11
 mul-if1 : tie.Need-mul-if1 Inv-loop μ-loop
 mul-if1 c = search needs
 
--- src/lib.rt:42:11
 slice-read-if1 : tie.Need-slice-read-if1 Inv-loop μ-loop
 slice-read-if1 c = search needs
 
--- src/lib.rt:43:11
 add-w : tie.Need-add-w Inv-loop μ-loop
 add-w c = search needs
 
--- src/lib.rt:43:9
 mul-w : tie.Need-mul-w Inv-loop μ-loop
 mul-w c = search needs
 
--- src/lib.rt:43:9
 slice-write-w : tie.Need-slice-write-w Inv-loop μ-loop
 slice-write-w c = search needs
 
--- src/lib.rt:44:9
 step-requires : tie.Need-step-requires Inv-loop μ-loop
 step-requires c κs = search needs
 
--- src/lib.rt:42:5
 loop-less : tie.Need-loop-less Inv-loop μ-loop
 loop-less c =
     let at = c .before .before .before .loop in
@@ -69,7 +59,6 @@ loop-less c =
     let z = free-set (at .w) (st .args .a + at .x) (st .args .start) (omega arith) (c .before .if1 .taken) (λ e. omega arith) in
     omega arith
 
--- src/lib.rt:42:5
 loop-again : tie.Need-loop-again Inv-loop μ-loop
 loop-again c =
     let at = c .before .before .before .loop in
@@ -79,11 +68,9 @@ loop-again c =
     let s = following-step _ _ perm (n .2) _ (st .pre .below) _ _ (st .pre .fits) _ _ (at .inv .2) in
     rw (c .step .ensures) (s .naming .here, s .as-long, s)
 
--- src/lib.rt:36:1
 same-length : tie.Need-same-length Inv-loop μ-loop
 same-length c = search needs
 
--- src/lib.rt:36:1
 returns : tie.Need-returns Inv-loop μ-loop
 returns c =
     let at = c .before .before .loop in

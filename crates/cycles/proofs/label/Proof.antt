@@ -18,29 +18,23 @@ Inv-loop order across w₀ a n count₀ d₀ w count d =
 abbrev μ-loop : tie.MeasureT-loop
 μ-loop order across w₀ a n count₀ d₀ w count d = length order - d
 
--- src/lib.rt:54:5
 fill-requires : tie.Need-fill-requires Inv-loop μ-loop
 fill-requires c κs = search needs
 
--- src/lib.rt:57:5
 loop-holds : tie.Need-loop-holds Inv-loop μ-loop
 loop-holds c =
     let st = c .before .before .before .before .before .before in
     (search needs, search needs, half-start _ _ _ (st .args .w .now) (st .pre .2) _ (c .before .before .fill .ensures))
 
--- src/lib.rt:58:14
 add-if1 : tie.Need-add-if1 Inv-loop μ-loop
 add-if1 c = search needs
 
--- src/lib.rt:58:12
 mul-if1 : tie.Need-mul-if1 Inv-loop μ-loop
 mul-if1 c = search needs
 
--- src/lib.rt:58:12
 slice-read-if1 : tie.Need-slice-read-if1 Inv-loop μ-loop
 slice-read-if1 c = search needs
 
--- src/lib.rt:59:13
 follow-requires : tie.Need-follow-requires Inv-loop μ-loop
 follow-requires c κs =
     let at = c .before .before .before .before .loop in
@@ -56,21 +50,17 @@ follow-requires c κs =
       own = ready-own _ _ _ _ (omega arith) perm (n .2) (at .d) _ (omega arith) (at .w) (at .inv .2) (c .before .if1 .taken);
     }
 
--- src/lib.rt:60:13
 add-count : tie.Need-add-count Inv-loop μ-loop
 add-count c =
     let k = half-count _ _ _ _ _ _ _ (c .before .before .before .before .before .before .before .loop .inv .2) in
     omega arith
 
--- src/lib.rt:62:9
 add-d : tie.Need-add-d Inv-loop μ-loop
 add-d c = search needs
 
--- src/lib.rt:57:5
 loop-less : tie.Need-loop-less Inv-loop μ-loop
 loop-less c = search needs
 
--- src/lib.rt:57:5
 loop-again : tie.Need-loop-again Inv-loop μ-loop
 loop-again c =
     let at = c .before .before .before .loop in
@@ -90,11 +80,9 @@ loop-again c =
     ))
     (c .if1 .came)
 
--- src/lib.rt:49:1
 same-length : tie.Need-same-length Inv-loop μ-loop
 same-length c = search needs
 
--- src/lib.rt:49:1
 returns : tie.Need-returns Inv-loop μ-loop
 returns c =
     let at = c .before .loop in

@@ -4,19 +4,15 @@ use borrow.Author.Needs.{needs}
 use Rattle.cycles.proofs.other.Statement.{statement}
 use Rattle.cycles.proofs.other.Tie as tie
 
--- src/lib.rt:20:5
 add-result : tie.Need-add-result
 add-result c = search needs
 
--- src/lib.rt:20:13
 mul-result : tie.Need-mul-result
 mul-result c = search needs
 
--- src/lib.rt:20:5
 sub-result : tie.Need-sub-result
 sub-result c = search needs
 
--- src/lib.rt:16:1
 returns : tie.Need-returns
 unfolding opposite
 returns c = omega arith

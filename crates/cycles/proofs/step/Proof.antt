@@ -5,14 +5,12 @@ use borrow.Author.Needs.{needs}
 use Rattle.cycles.proofs.step.Statement.{statement}
 use Rattle.cycles.proofs.step.Tie as tie
 
--- src/lib.rt:29:13
 other-requires : tie.Need-other-requires
 other-requires c κs =
     let st = c .before .before in
     let n = count-parts _ (st .pre .0) in
     omega arith
 
--- src/lib.rt:30:16
 mul-result : tie.Need-mul-result
 mul-result c =
     let st = c .before .before .before in
@@ -20,7 +18,6 @@ mul-result c =
     let o = opposite-bound _ _ (n .1) (st .pre .1) in
     omega arith
 
--- src/lib.rt:30:16
 shared-slice-read-result : tie.Need-shared-slice-read-result
 shared-slice-read-result c =
     let st = c .before .before .before .before in
@@ -28,27 +25,21 @@ shared-slice-read-result c =
     let o = opposite-bound _ _ (n .1) (st .pre .1) in
     omega arith
 
--- src/lib.rt:30:16
 cast-result : tie.Need-cast-result
 cast-result c = omega (arith, c .shared-slice-known2 .given (c .before .other .result))
 
--- src/lib.rt:30:9
 returns : tie.Need-returns
 returns c = step-across _ _ _ _ (c .before .before .if1 .taken) (c .before .other .ensures)
 
--- src/lib.rt:32:5
 mul-result-2 : tie.Need-mul-result-2
 mul-result-2 c = search needs
 
--- src/lib.rt:32:5
 shared-slice-read-result-2 : tie.Need-shared-slice-read-result-2
 shared-slice-read-result-2 c = search needs
 
--- src/lib.rt:32:5
 cast-result-2 : tie.Need-cast-result-2
 cast-result-2 c = omega (arith, c .shared-slice-known3 .given (c .before .before .before .args .d))
 
--- src/lib.rt:24:1
 returns-2 : tie.Need-returns-2
 returns-2 c = step-round _ _ _ (c .before .if1 .left)
 

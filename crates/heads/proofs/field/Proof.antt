@@ -7,36 +7,28 @@ use Rattle.heads.proofs.field.Tie as tie
 use Rattle.heads.proofs.field.Reads as reads
 use Rattle.heads.proofs.field.Lts as lts
 
--- src/lib.rt:14:13
 add-j : tie.Need-add-j
 add-j c = search needs
 
--- src/lib.rt:15:15
 shared-slice-read-low : tie.Need-shared-slice-read-low
 shared-slice-read-low c = search needs
 
--- src/lib.rt:15:15
 cast-low : tie.Need-cast-low
 cast-low c = omega (arith, c .shared-slice-known .given (c .before .args .i))
 
--- src/lib.rt:16:16
 shared-slice-read-high : tie.Need-shared-slice-read-high
 shared-slice-read-high c = search needs
 
--- src/lib.rt:16:16
 cast-high : tie.Need-cast-high
 cast-high c = omega (arith, c .shared-slice-known2 .given (c .before .before .args .i + 1))
 
--- src/lib.rt:17:11
 mul-result : tie.Need-mul-result
 mul-result c = omega (arith, c .shared-slice-known2 .given (c .before .before .args .i + 1))
 
--- src/lib.rt:17:5
 add-result : tie.Need-add-result
 add-result c = let i = c .before .before .args .i in
     omega (arith, c .shared-slice-known2 .given (i + 1), c .before .shared-slice-known .given i)
 
--- src/lib.rt:10:1
 returns : tie.Need-returns
 returns c = field-value _ _
 

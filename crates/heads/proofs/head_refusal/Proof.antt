@@ -11,59 +11,47 @@ use Rattle.heads.proofs.field.Reads as field-reads
 use Rattle.heads.proofs.is_kind.Reads as is-kind-reads
 use Rattle.heads.proofs.record_length.Reads as record-length-reads
 
--- src/lib.rt:45:9
 returns : tie.Need-returns
 returns c = refuse-short _ (omega arith)
 
--- src/lib.rt:47:8
 field-requires : tie.Need-field-requires
 field-requires c κs = search needs
 
--- src/lib.rt:47:8
 cast-if2 : tie.Need-cast-if2
 cast-if2 c = search needs
 
--- src/lib.rt:48:9
 returns-2 : tie.Need-returns-2
 returns-2 c = refuse-length _ (omega arith) _ (c .before .field .ensures) (c .if2 .taken)
 
--- src/lib.rt:50:9
 field-requires-2 : tie.Need-field-requires-2
 field-requires-2 c κs = search needs
 
--- src/lib.rt:51:9
 is-kind-requires : tie.Need-is-kind-requires
 is-kind-requires c κs = search needs
 
--- src/lib.rt:52:9
 returns-3 : tie.Need-returns-3
 returns-3 c = let kind = c .before .is-kind in
     refuse-kind _ (omega arith) _ (c .before .before .before .before .field .ensures) (omega arith) _ (c .before .before .field2 .ensures)
     (sym (kind .ensures) ∙ not-true (kind .result) (c .if3 .taken))
 
--- src/lib.rt:54:9
 field-requires-3 : tie.Need-field-requires-3
 field-requires-3 c κs = search needs
 
--- src/lib.rt:56:9
 returns-4 : tie.Need-returns-4
 returns-4 c = let k = c .before .before in
     let kind = k .before .is-kind in
     refuse-none _ (omega arith) _ (k .before .before .before .before .field .ensures) (omega arith) _ (k .before .before .field2 .ensures)
     (sym (kind .ensures) ∙ not-false (kind .result) (k .if3 .left)) _ (c .before .field3 .ensures) (c .if4 .taken)
 
--- src/lib.rt:59:9
 returns-5 : tie.Need-returns-5
 returns-5 c = let k = c .before .before .before in
     let kind = k .before .is-kind in
     refuse-many _ (omega arith) _ (k .before .before .before .before .field .ensures) (omega arith) _ (k .before .before .field2 .ensures)
     (sym (kind .ensures) ∙ not-false (kind .result) (k .if3 .left)) _ (c .before .before .field3 .ensures) (c .before .if4 .left) (omega arith)
 
--- src/lib.rt:61:8
 record-length-requires : tie.Need-record-length-requires
 record-length-requires c κs = search needs
 
--- src/lib.rt:62:9
 returns-6 : tie.Need-returns-6
 returns-6 c = let k = c .before .before .before .before .before in
     let kind = k .before .is-kind in
@@ -71,7 +59,6 @@ returns-6 c = let k = c .before .before .before .before .before in
     (sym (kind .ensures) ∙ not-false (kind .result) (k .if3 .left)) _ (c .before .before .before .before .field3 .ensures) (c .before .before .before .if4 .left) (omega arith)
     _ (c .before .record-length .ensures) (c .if6 .taken)
 
--- src/lib.rt:41:1
 returns-7 : tie.Need-returns-7
 returns-7 c = let k = c .before .before .before .before .before in
     let kind = k .before .is-kind in

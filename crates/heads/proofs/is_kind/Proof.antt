@@ -4,11 +4,9 @@ use Rattle.heads.proofs.is_kind.Tie as tie
 use Rattle.heads.proofs.is_kind.Reads as reads
 use Rattle.heads.proofs.is_kind.Lts as lts
 
--- src/lib.rt:24:9
 returns : tie.Need-returns
 returns c = is-one _ (c .if1 .taken)
 
--- src/lib.rt:20:1
 returns-2 : tie.Need-returns-2
 returns-2 c = is-two _ (c .if1 .left)
 
