@@ -2,10 +2,9 @@
 --
 --   length-region, getD-region          a region's length and entries
 --   region-region, region-split         a region of a region; a region in two adjacent ones
---   region-ext                          regions with equal entries are equal
 --   region-set, region-set-other        a store inside the region, and outside it
 --   length-placed                       placing what fits keeps the length
---   getD-placed, getD-placed-other      an entry of what was placed, and one beside it
+--   getD-placed                         an entry of what was placed
 --   region-placed, region-placed-other  the region where it was placed, and one beside it
 --   placed-placed, placed-region        placing twice; placing what is there
 --   set-placed, placed-snoc             a store into what was placed; a store just behind it
@@ -50,13 +49,6 @@ region-region a n b k w h =
 pub region-split : (a n k : ℕ) (w : List ℕ) → region a (n + k) w ≡ region a n w ++ region (a + n) k w
 unfolding region
 region-split a n k w = take-add n k (drop a w) ∙ ap (λ (r : List ℕ). take n (drop a w) ++ take k r) (drop-drop n a w)
-
-pub region-ext : (a n : ℕ) (w w′ : List ℕ) → a + n ≤ length w → a + n ≤ length w′
-    → ((i : ℕ) → i < n → getD w (a + i) 0 ≡ getD w′ (a + i) 0) → region a n w ≡ region a n w′
-region-ext a n w w′ h h′ e =
-    ext-getD 0 (region a n w) (region a n w′) (length-region a n w h ∙ sym (length-region a n w′ h′))
-    (λ i l. let b = length-region a n w h in
-    getD-region a n w i (omega arith) ∙ e i (omega arith) ∙ sym (getD-region a n w′ i (omega arith)))
 
 pub region-set : (a n : ℕ) (w : List ℕ) (i v : ℕ) → i < n → region a n (set w (a + i) v) ≡ set (region a n w) i v
 unfolding region
@@ -105,18 +97,6 @@ module _ (a : ℕ) (xs w : List ℕ) (fits : a + length xs ≤ length w) where
   pub getD-placed : (i : ℕ) → i < length xs → getD (placed a xs w) (a + i) 0 ≡ getD xs i 0
   getD-placed i h =
       sym (getD-drop a (placed a xs w) i 0) ∙ ap (λ (r : List ℕ). getD r i 0) drop-placed ∙ List·getD-append xs (drop (a + length xs) w) 0 i h
-
-  pub getD-placed-other : (i : ℕ) → (a ≤ i → a + length xs ≤ i) → getD (placed a xs w) i 0 ≡ getD w i 0
-  getD-placed-other i out = le-or a i behind (λ h.
-      sym (getD-take a (placed a xs w) i 0 h) ∙ ap (λ (r : List ℕ). getD r i 0) take-placed ∙ getD-take a w i 0 h)
-    where
-      behind : a ≤ i → getD (placed a xs w) i 0 ≡ getD w i 0
-      behind h =
-          let o = out h in
-          let k = i - (a + length xs) in
-          let e : a + length xs + k ≡ i = omega arith in
-          subst (λ (j : ℕ). getD (placed a xs w) j 0 ≡ getD w j 0) e
-          (sym (getD-drop (a + length xs) (placed a xs w) k 0) ∙ ap (λ (r : List ℕ). getD r k 0) drop-placed-end ∙ getD-drop (a + length xs) w k 0)
 
   pub region-placed : (n : ℕ) → n ≡ length xs → region a n (placed a xs w) ≡ xs
   unfolding region

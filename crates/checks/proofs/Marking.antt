@@ -3,7 +3,7 @@
 --   run n xs marks       every number of xs is below n and finds its mark not set
 --   decides              from no marks, that is `isPermutation`
 --   next, stop-big, stop-seen, end   one turn of the loop
-use mathlib.Core.Path.{_≡_, refl, sym, ap, _∙_, subst}
+use mathlib.Core.Path.{_≡_, refl, sym, _∙_, subst}
 use mathlib.Core.Logic.{_⊎_, inl, inr, _≢_, ⊎-elim}
 use mathlib.Core.Bool.{Bool, true, false, not, _&&_, cond, false≢true, true≢false}
 use mathlib.Core.List.{List, [], _∷_}
@@ -15,7 +15,7 @@ use native.Mathlib.Numerals.{add-one}
 use lib.Dec.{eqb, ltb}
 use lib.ListN.{length, getD, set, drop, replicate, length-set, getD-replicate, length-replicate}
 use lib.Seq.{getD-set-same, getD-set-other, drop-cons, drop-length}
-use borrow.Author.Tests.{ltb-true, lt-ltb, le-ltb, eqb-true, eq-eqb, ne-eqb, eqb-false, not-true}
+use borrow.Author.Tests.{ltb-true, lt-ltb, le-ltb, eqb-true, eq-eqb, ne-eqb, not-true}
 use Rattle.model.specs.Numbers.{elem, distinct, allBelow, isPermutation}
 use Rattle.model.proofs.Booleans.{and-left, and-right, both, bool-ext}
 use Rattle.model.proofs.Fitness.{below-all}

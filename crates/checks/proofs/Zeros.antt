@@ -1,11 +1,11 @@
 -- Bytes of zeros have bits of zeros.
 --
 --   zero-bits            the bits of n zero bytes
-use Prim.Native.Nat.{ℕ, zero, suc, _+_, _*_}
+use Prim.Native.Nat.{ℕ, zero, suc, _*_}
 use native.Mathlib.Omega.{arith}
 use mathlib.Core.Path.{_≡_, refl, sym, ap, _∙_}
-use mathlib.Core.List.{List, [], _∷_, _++_}
-use lib.ListN.{length, replicate, length-replicate}
+use mathlib.Core.List.{List, _∷_}
+use lib.ListN.{replicate, length-replicate}
 use Rattle.packing.specs.Unpack.{digitsOf, unpack, bits}
 
 -- the same entry eight times in front

@@ -3,27 +3,25 @@
 --   noted                        the two stores of a letter
 --   other-bound, entry-bound, onward-bound   opposites, entries and the dart after a dart are darts
 --   name-at, name-bound          a dart's vertex, read in the work area, and its bound
---   labelled-named               the names that the crate of cycles leaves at 0
 --   Here, here                   what a step of dart d at position i relies on, o being the other dart of its edge
 --   goes-down, is-noted          the other dart is not met: its vertex is not seen, or it is
 --   comes-up, is-noted-again     the other dart is met: it went down, or it was only noted
 use mathlib.Core.Path.{_≡_, refl, sym, ap, _∙_}
 use mathlib.Core.Logic.{_≢_}
-use mathlib.Core.Bool.{true, false}
+use mathlib.Core.Bool.{true}
 use mathlib.Core.List.{List, [], _∷_, _++_}
 use Prim.Native.Nat.{ℕ, _+_, _*_, _≤_, _<_}
 use native.Mathlib.Omega.{arith}
 use lib.ListN.{length, getD, set, take, length-set}
 use lib.Seq.{getD-set-same, drop-cons}
 use borrow.Author.Tests.{eq-eqb, ne-eqb}
-use Rattle.model.specs.Numbers.{least, isPermutation}
+use Rattle.model.specs.Numbers.{isPermutation}
 use Rattle.model.specs.Map.{opposite, next, vertexOf, dartCountFits}
 use Rattle.model.specs.Traversal.{Letter, down, up, first, second, code, letterAt, onward, seenAfter}
 use Rattle.model.proofs.Fitness.{opposite-bound, count-parts}
 use Rattle.orbits.proofs.Cycle.{least-le}
-use Rattle.areas.specs.Area.{region, tabulate}
-use Rattle.areas.proofs.Regions.{getD-region, length-tabulate, getD-tabulate, region-placed, region-set, region-set-other, region-split}
-use Rattle.cycles.specs.Cycles.{stepOf, Labelled}
+use Rattle.areas.specs.Area.{region}
+use Rattle.areas.proofs.Regions.{getD-region, getD-tabulate, region-set, region-set-other, region-split}
 use Rattle.cycles.proofs.Steps.{next-perm}
 use Rattle.contour.specs.Steps.{Named, letterIn, Noted, Visited}
 
@@ -80,14 +78,6 @@ module _ (rot w : List ℕ) (named : Named rot w) (d : ℕ) (h : d < length rot)
   pub name-bound : getD w d 0 < length rot
   unfolding vertexOf
   name-bound = let e = name-at in let b = least-le (next rot) (length rot) d in omega arith
-
--- what naming the vertices at 0 leaves is what the walk asks for
-pub labelled-named : (rot w : List ℕ) (c : ℕ) (w′ : List ℕ) → length rot ≤ length w → Labelled (stepOf rot false) (length rot) 0 w c w′ → Named rot w′
-unfolding vertexOf
-labelled-named rot w c w′ fits s =
-    let n = length rot in
-    let e = length-tabulate (least (next rot) n) 0 n in
-    ap (region 0 n) (s .named) ∙ region-placed 0 (tabulate (least (next rot) n) 0 n) w (omega arith) n (sym e)
 
 -- ---- one step
 

@@ -1,17 +1,15 @@
 -- What callers use of `Labelled`: n names stand from place a on, and the rest is as it was.
 --
 --   labelled-length      the work area is as long
---   labelled-at          the entry of dart x is the least dart of its cycle
 --   labelled-other       parts beside the names are as they were
 use mathlib.Core.Path.{_≡_, ap, _∙_}
 use mathlib.Core.List.{List}
 use Prim.Native.Nat.{ℕ, _+_, _≤_, _<_}
-use native.Mathlib.Nat.{zero-add}
 use native.Mathlib.Omega.{arith}
-use lib.ListN.{length, getD}
+use lib.ListN.{length}
 use Rattle.model.specs.Numbers.{least}
 use Rattle.areas.specs.Area.{region, tabulate}
-use Rattle.areas.proofs.Regions.{length-placed, getD-placed, region-placed-other, length-tabulate, getD-tabulate}
+use Rattle.areas.proofs.Regions.{length-placed, region-placed-other, length-tabulate}
 use Rattle.cycles.specs.Cycles.{Labelled}
 
 module _ (f : ℕ → ℕ) (n a : ℕ) (w : List ℕ) (c : ℕ) (w′ : List ℕ) (fits : a + n ≤ length w) (s : Labelled f n a w c w′) where
@@ -20,12 +18,6 @@ module _ (f : ℕ → ℕ) (n a : ℕ) (w : List ℕ) (c : ℕ) (w′ : List ℕ
 
   pub labelled-length : length w′ ≡ length w
   labelled-length = ap length (s .named) ∙ length-placed a (tabulate (least f n) 0 n) w room
-
-  pub labelled-at : (x : ℕ) → x < n → getD w′ (a + x) 0 ≡ least f n x
-  labelled-at x h =
-      ap (λ (v : List ℕ). getD v (a + x) 0) (s .named)
-      ∙ getD-placed a (tabulate (least f n) 0 n) w room x (omega (arith, length-tabulate (least f n) 0 n))
-      ∙ getD-tabulate (least f n) 0 n x h ∙ ap (least f n) (zero-add x)
 
   pub labelled-other : (b k : ℕ) → (a < b + k → a + n ≤ b) → region b k w′ ≡ region b k w
   labelled-other b k out =

@@ -4,17 +4,16 @@
 --   linked-end            after the last letter dart 0 is entered
 --   first-dart            a word that the machine reads from where nothing is open begins with dart 0
 --   linked-whole          such a word, linked from the start, gives its rotation
-use Prim.Native.Nat.{ℕ, zero, suc, _+_, _*_}
+use Prim.Native.Nat.{ℕ, zero, suc}
 use native.Mathlib.Omega.{arith}
 use mathlib.Core.Path.{_≡_, refl, sym, ap, _∙_}
 use mathlib.Core.Logic.{_≢_}
-use mathlib.Core.Bool.{Bool, true, false, true≢false}
-use mathlib.Core.List.{List, [], _∷_, _++_}
+use mathlib.Core.List.{List, [], _∷_}
 use lib.ListN.{length, set, replicate}
 use Rattle.model.specs.Traversal.{Letter, down, up, first}
 use Rattle.words.specs.Word.{head, wordDarts, placeOf, link, rotationOf, Found, found, none, after, Machine}
 use Rattle.decoding.specs.Reading.{run}
-use Rattle.decoding.proofs.Decoding.{wordIn, none-found}
+use Rattle.decoding.proofs.Decoding.{wordIn}
 use Rattle.decoding.proofs.Runs.{run-goes, run-done, run-stuck}
 use Rattle.decoding.proofs.Turns.{Step, closes, rises, leafs, backs, enters, finishes, halts, step, turn-star, turn-back, turn-tree, turn-done}
 use Rattle.decoder.specs.States.{linked}

@@ -12,12 +12,10 @@ use native.Mathlib.Numerals.{add-one}
 use native.Mathlib.Omega.{arith}
 use mathlib.Core.Path.{_≡_, refl, sym, ap, _∙_}
 use mathlib.Core.Logic.{_≢_}
-use mathlib.Core.Bool.{true}
 use mathlib.Core.List.{List, [], _∷_}
 use lib.ListN.{length, getD, set, drop, length-drop}
 use lib.Seq.{drop-cons}
-use Rattle.model.specs.Numbers.{allBelow}
-use Rattle.model.specs.Traversal.{Letter, down, up, first, second}
+use Rattle.model.specs.Traversal.{down, up, first, second}
 use Rattle.model.specs.LabelledTree.{star}
 use Rattle.model.proofs.Below.{below-cons}
 use Rattle.model.proofs.Opposite.{opposite-even, opposite-odd}
@@ -29,7 +27,7 @@ use Rattle.areas.proofs.Regions.{getD-region}
 use Rattle.areas.proofs.Stacks.{length-stack, stack-pop}
 use Rattle.decoder.specs.declared.Cursor.{Cursor}
 use Rattle.decoder.specs.declared.State.{State}
-use Rattle.decoder.specs.States.{labelsOf, machineOf, linked, outcome, before, Fits, Room, Ready, Moved, lastOpen, lastTree}
+use Rattle.decoder.specs.States.{labelsOf, machineOf, outcome, before, Fits, Room, Ready, Moved, lastOpen, lastTree}
 use Rattle.decoder.specs.States.{closedState, risenState, leafedState, backedState, enteredState}
 use Rattle.decoder.specs.States.{closedArea, risenArea, leafedArea, backedArea, enteredArea}
 use Rattle.decoder.proofs.Linking.{linked-step}

@@ -20,7 +20,7 @@ use Rattle.model.specs.Numbers.{allBelow}
 use Rattle.model.specs.Traversal.{Letter}
 use Rattle.model.specs.Shelf.{kindOf, edgesOf}
 use Rattle.packing.specs.Unlay.{bitsIn, labelsIn, readable}
-use Rattle.words.specs.Word.{Found, found, none, after, Machine, done, stuck, turn, start, head, wordDarts, rotationOf, rootDegree, checkRoot, decodeWord}
+use Rattle.words.specs.Word.{Found, found, none, after, done, stuck, turn, start, head, wordDarts, rotationOf, rootDegree, checkRoot, decodeWord}
 use Rattle.decoding.specs.Reading.{left, run}
 use Rattle.decoding.proofs.Decoding.{wordIn}
 use Rattle.decoding.proofs.Runs.{turn-left, turn-none, run-on, run-done, run-stuck, decodeWord-run}

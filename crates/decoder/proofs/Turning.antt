@@ -4,7 +4,7 @@
 --   ready                 what a descent needs of the cursor after its first bit
 --   leaf-turn, back-turn, enter-turn   the three descents
 --   rise-turn             the way up
-use Prim.Native.Nat.{ℕ, _+_, _-_, _*_, _<_}
+use Prim.Native.Nat.{ℕ, _+_, _-_, _*_}
 use native.Mathlib.Omega.{arith}
 use mathlib.Core.Path.{_≡_, sym, ap, _∙_, subst}
 use mathlib.Core.Logic.{_≢_}

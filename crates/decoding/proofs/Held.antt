@@ -3,24 +3,21 @@
 --   Held s             the bits and labels of the state s are in range, and it has one label for each open edge
 --   starts-held        so at the start
 --   held-close, held-up, held-star, held-back, held-tree   and after each kind of turn
---   turn-held          and so after any turn
 --   bit-one            a bit that is not 0 is 1
 use Prim.Native.Nat.{ℕ, suc, _<_}
 use native.Mathlib.Omega.{arith}
-use mathlib.Core.Path.{_≡_, refl, ap, _∙_, subst}
+use mathlib.Core.Path.{_≡_, refl, ap, _∙_}
 use mathlib.Core.Logic.{_≢_}
 use mathlib.Core.Bool.{true}
 use mathlib.Core.List.{List, _∷_}
 use lib.ListN.{length}
 use Rattle.model.specs.Numbers.{allBelow}
-use Rattle.model.specs.Traversal.{Letter}
 use Rattle.model.specs.LabelledTree.{star}
 use Rattle.model.proofs.Below.{below-cons}
-use Rattle.words.specs.Word.{Machine, done, stuck, goes, turn, start}
+use Rattle.words.specs.Word.{Machine, start}
 use Rattle.decoding.specs.Reading.{closed, risen, leafed, backed, entered}
 use Rattle.decoding.proofs.Bounds.{all-part, head-below, tail-below}
 use Rattle.decoding.proofs.Lengths.{length-tail}
-use Rattle.decoding.proofs.Turns.{Next, next-of, Step, closes, rises, leafs, backs, enters, finishes, halts, step, turn-close, turn-up, turn-star, turn-back, turn-tree, turn-done}
 
 pub record Held (s : Machine) : Type 0 where
   pub bits-low : allBelow 2 (s .bits) ≡ true
@@ -113,15 +110,3 @@ starts-held bits labels h l = record {
   ups-match = refl;
   seconds-match = refl;
 }
-
-pub turn-held : (s : Machine) → Held s → (ls : List Letter) (t : Machine) → turn s ≡ goes ls t → Held t
-turn-held s k ls t e = subst (Next Held) e (go (step s))
-  where
-    go : Step s → Next Held (turn s)
-    go (closes o os t e h) = next-of Held s _ (turn-close s o os t e h) (held-close s k o os e)
-    go (rises v vs bs t e q) = next-of Held s _ (turn-up s v vs bs t e q) (held-up s k v vs bs e q)
-    go (leafs b l c bs ls t e z q h) = next-of Held s _ (turn-star s b l c bs ls t e z q h) (held-star s k b l c bs ls e q)
-    go (backs b l c bs ls t e z q h j) = next-of Held s _ (turn-back s b l c bs ls t e z q h j) (held-back s k b l c bs ls e q h)
-    go (enters b l c bs ls t e z q h j) = next-of Held s _ (turn-tree s b l c bs ls t e z q h j) (held-tree s k b l c bs ls e q h)
-    go (finishes t e p q r) = next-of Held s done (turn-done s t e p q r) tt
-    go (halts e) = next-of Held s stuck e tt

@@ -9,4 +9,3 @@ pub mod Within
 pub mod Held
 pub mod Encoding
 pub mod Decoding
-pub mod Inverse

@@ -5,7 +5,6 @@
 --   turn-left, turn-none   the same for a turn that goes on, and for one that is done
 --   decode-fuel        fuel above what is left makes no difference
 --   run-is             so `decode` is `run` with such fuel
---   decode-goes, decode-done, decode-stuck   one turn of `decode`, by its kind
 --   run-turn           the run is a turn and the run from there
 --   run-goes, run-done, run-stuck   the same by the kind of turn
 --   after-after        letters read before letters that were read before
@@ -64,20 +63,6 @@ decode-fuel (suc f) (suc g) s h k =
 pub run-is : (f : ℕ) (s : Machine) → left s < f → decode f s ≡ run s
 unfolding run
 run-is f s h = decode-fuel f (suc (left s)) s h (omega arith)
-
--- ---- one turn
-
-pub decode-goes : (f : ℕ) (s t : Machine) (ls : List Letter) → turn s ≡ goes ls t → decode (suc f) s ≡ after ls (decode f t)
-unfolding decode
-decode-goes f s t ls e = ap (follow (decode f)) e
-
-pub decode-done : (f : ℕ) (s : Machine) → turn s ≡ done → decode (suc f) s ≡ found []
-unfolding decode
-decode-done f s e = ap (follow (decode f)) e
-
-pub decode-stuck : (f : ℕ) (s : Machine) → turn s ≡ stuck → decode (suc f) s ≡ none
-unfolding decode
-decode-stuck f s e = ap (follow (decode f)) e
 
 -- ---- the run
 

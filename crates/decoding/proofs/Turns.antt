@@ -9,19 +9,18 @@
 --   stuck-none, stuck-early   the machine is stuck: no edge is open that could end; the one that could began here or earlier
 --   stuck-left, stuck-root, stuck-bit, stuck-label   the bits are at an end and something is left; up from the root; no second bit; no label
 --   Step, step         one of these cases holds of every state
---   Next P t           P holds of the state after the turn t; `next-of` carries it to a turn that is known
 use Prim.Native.Nat.{ℕ, zero, suc, _+_, _≤_, _<_}
 use native.Mathlib.Nat.{lt-of-not-le, suc-ne-zero}
 use native.Mathlib.Decide.{decLe, ℕ-discrete}
 use native.Mathlib.Omega.{arith}
-use mathlib.Core.Path.{_≡_, refl, sym, subst}
+use mathlib.Core.Path.{_≡_, refl}
 use mathlib.Core.Logic.{_≢_}
 use mathlib.Core.List.{List, [], _∷_}
 use lib.ListN.{length}
 use borrow.Author.Tests.{lt-ltb, le-ltb, ne-eqb}
 use Rattle.model.specs.Traversal.{down, up, first, second}
 use Rattle.model.specs.LabelledTree.{star}
-use Rattle.words.specs.Word.{Machine, Turn, done, stuck, goes, closeEdge, finish, goUp, goDown, readBit, turn}
+use Rattle.words.specs.Word.{Machine, done, stuck, goes, closeEdge, finish, goUp, goDown, readBit, turn}
 use Rattle.decoding.specs.Reading.{closed, risen, leafed, backed, entered}
 
 finish-stuck : (below opens labels : List ℕ) → 0 < length below + (length opens + length labels) → finish below opens labels ≡ stuck
@@ -129,13 +128,3 @@ module _ (s : Machine) where
 
   pub step : Step s
   step = elim (ℕ-discrete (s .label) 1) [ yes t ↦ step-close t (s .opens) refl | no t ↦ step-bit t (s .bits) refl ]
-
--- ---- what holds after a turn that goes on
-
-abbrev pub Next : (Machine → Type 0) → Turn → Type 0
-Next P done = Unit
-Next P stuck = Unit
-Next P (goes ls t) = P t
-
-pub next-of : (P : Machine → Type 0) (s : Machine) (t : Turn) → turn s ≡ t → Next P t → Next P (turn s)
-next-of P s t e h = subst (Next P) (sym e) h

@@ -4,21 +4,18 @@
 --                      there are at most m + 1 vertices, and at most m edges are open or still to be opened
 --   starts-within      so at the start
 --   within-close, within-up, within-star, within-back, within-tree   and after each kind of turn
---   turn-within        and so after any turn
 use Prim.Native.Nat.{ℕ, suc, _+_, _≤_, _<_}
 use native.Mathlib.Nat.{le-step, lt-suc-self}
 use native.Mathlib.Omega.{arith}
-use mathlib.Core.Path.{_≡_, refl, ap, subst}
+use mathlib.Core.Path.{_≡_, refl, ap}
 use mathlib.Core.Bool.{true}
 use mathlib.Core.List.{List, _∷_}
 use lib.ListN.{length}
 use Rattle.model.specs.Numbers.{allBelow}
-use Rattle.model.specs.Traversal.{Letter}
 use Rattle.model.proofs.Below.{below-cons, below-mono}
-use Rattle.words.specs.Word.{Machine, done, stuck, goes, turn, start}
+use Rattle.words.specs.Word.{Machine, start}
 use Rattle.decoding.specs.Reading.{closed, risen, leafed, backed, entered}
 use Rattle.decoding.proofs.Bounds.{all-part}
-use Rattle.decoding.proofs.Turns.{Next, next-of, Step, closes, rises, leafs, backs, enters, finishes, halts, step, turn-close, turn-up, turn-star, turn-back, turn-tree, turn-done}
 
 pub record Within (m : ℕ) (s : Machine) : Type 0 where
   pub here-in : s .here < s .n
@@ -84,15 +81,3 @@ module _ (m : ℕ) (s : Machine) (i : Within m s) where
           vertices = omega arith;
           open-edges = omega arith;
         }
-
-  pub turn-within : (ls : List Letter) (t : Machine) → turn s ≡ goes ls t → Within m t
-  turn-within ls t e = subst (Next (Within m)) e (go (step s))
-    where
-      go : Step s → Next (Within m) (turn s)
-      go (closes o os t e h) = next-of (Within m) s _ (turn-close s o os t e h) (within-close o os e)
-      go (rises v vs bs t e q) = next-of (Within m) s _ (turn-up s v vs bs t e q) (within-up v vs bs q)
-      go (leafs b l c bs ls t e z q h) = next-of (Within m) s _ (turn-star s b l c bs ls t e z q h) (within-star l bs ls q c)
-      go (backs b l c bs ls t e z q h j) = next-of (Within m) s _ (turn-back s b l c bs ls t e z q h j) (within-back l bs ls q)
-      go (enters b l c bs ls t e z q h j) = next-of (Within m) s _ (turn-tree s b l c bs ls t e z q h j) (within-tree l (c ∷ bs) ls q)
-      go (finishes t e p q r) = next-of (Within m) s done (turn-done s t e p q r) tt
-      go (halts e) = next-of (Within m) s stuck e tt

@@ -7,9 +7,8 @@
 --   run s              the word that the machine reads from s on
 use Prim.Native.Nat.{ℕ, suc, _+_}
 use mathlib.Core.Path.{_≡_}
-use mathlib.Core.Bool.{true, false, cond}
+use mathlib.Core.Bool.{true, false}
 use mathlib.Core.List.{List, _∷_}
-use lib.Dec.{eqb}
 use lib.ListN.{length}
 use Rattle.model.specs.Traversal.{Letter}
 use Rattle.words.specs.Word.{nested, startsSecond, head, tail, ends, wordBits, Found, Machine, decode}

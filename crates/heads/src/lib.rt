@@ -1,6 +1,6 @@
 // The heads of records: their three fields, the length of a record of a kind, and refusals 1, 2, 3 and 5. Payloads and shelves are not known here.
 ghost use mathlib.Core.Path.{_≡_};
-ghost use Prim.Native.Nat.{ℕ, suc, _<_};
+ghost use Prim.Native.Nat.{suc, _<_};
 ghost use lib.ListN.{length};
 ghost use Rattle.model.specs.Map.{isKind};
 ghost use Rattle.model.specs.Record.{recordLength};

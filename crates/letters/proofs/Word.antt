@@ -6,7 +6,7 @@
 --   is-down, is-up, is-first, is-second   which letter a code stands for
 --   length-letters     as many letters as darts
 --   letters-from       the word from position i on begins with the letter at i
---   letters-set, letters-set-behind   a store below 3n leaves the word, and one from 4n on
+--   letters-set-behind   a store from 4n on leaves the word
 use mathlib.Core.Path.{_≡_, refl, ap, _∙_}
 use mathlib.Core.List.{List, [], _∷_, map}
 use mathlib.Core.Logic.{_≢_}
@@ -65,10 +65,6 @@ module _ (n : ℕ) (w : List ℕ) where
   letters-from i h l =
       let e = length-letters h in
       drop-cons (lettersIn n w) i (toLetter 0) (omega arith) ∙ ap (λ (x : Letter). x ∷ drop (suc i) (lettersIn n w)) (letter-at i l)
-
-  pub letters-set : (i x : ℕ) → i < 3 * n → lettersIn n (set w i x) ≡ lettersIn n w
-  unfolding lettersIn
-  letters-set i x h = ap (map toLetter) (region-set-other (3 * n) n w i x (λ g. absurd (omega arith)))
 
   pub letters-set-behind : (i x : ℕ) → 4 * n ≤ i → lettersIn n (set w i x) ≡ lettersIn n w
   unfolding lettersIn

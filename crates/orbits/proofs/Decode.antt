@@ -1,5 +1,4 @@
--- Every balanced word is the word of a nested involution, of the one that the stack machine joins; by `nested-unique` of Stack it is the only one.
--- Assumes nothing.
+-- Every balanced word is the word of a nested involution, of the one that the stack machine joins. Assumes nothing.
 --
 --   Each, Falls, In    a list of positions: P holds of each; they fall, from below i; x is one of them
 --   Waits, Kept, Held  what holds before position i: of those that wait, of each position, of all
@@ -7,8 +6,6 @@
 --   put-same, put-other   a function changed at one place
 --   held               it holds
 --   decoded-inv, decoded-nested, decoded-kind   at the end: an involution, nested, with the word
---   kind-balanced      the word of a nested involution is balanced
---   decode-encode      and is joined to that involution
 use Prim.Native.Nat.{ℕ, zero, suc, _≤_, _<_}
 use native.Mathlib.Nat.{le-step, lt-suc-self}
 use native.Mathlib.Omega.{arith}
@@ -19,7 +16,7 @@ use mathlib.Core.List.{List, [], _∷_}
 use borrow.Author.Tests.{eq-eqb, ne-eqb}
 use Rattle.orbits.specs.Chord.{Involution, Nested}
 use Rattle.orbits.specs.Stack.{Kind, flat, open′, close, kind, push, stack, put, join, matched, Served, Balanced}
-use Rattle.orbits.proofs.Stack.{kind-flat, kind-open, kind-close, close-lt, stack-top, stack-end, nested-unique}
+use Rattle.orbits.proofs.Stack.{kind-flat, kind-open, kind-close}
 use Rattle.orbits.proofs.Order.{lt-suc-split, lt-or-le, eq-split}
 
 -- ---- lists of positions
@@ -296,20 +293,3 @@ module _ (w : ℕ → Kind) (N : ℕ) (balanced : Balanced w N) where
       go flat e = kind-flat x (matched w N x) (k .is-flat e) ∙ sym e
       go open′ e = kind-open x (matched w N x) (⊎-elim (λ y. y) (λ y. absurd y) (k .is-open e)) ∙ sym e
       go close e = kind-close x (matched w N x) (k .is-close e) ∙ sym e
-
--- ---- the word of a nested involution is balanced, and reading it back gives the involution
-
-module _ (N : ℕ) (μ : ℕ → ℕ) (inv : Involution N μ) (nested : Nested μ N) where
-  pub kind-balanced : Balanced (kind μ) N
-  kind-balanced = record {
-    served = λ i l c e.
-        let top = stack-top N μ inv nested i l (close-lt i (μ i) c) in
-        let z : _≡_ {A = ℕ} 0 1 = cc in
-        omega arith;
-    ended = stack-end N μ inv nested;
-  }
-
-  pub decode-encode : (i : ℕ) → i < N → matched (kind μ) N i ≡ μ i
-  decode-encode =
-      nested-unique N μ (matched (kind μ) N) inv (decoded-inv (kind μ) N kind-balanced) nested (decoded-nested (kind μ) N kind-balanced)
-      (λ i l. sym (decoded-kind (kind μ) N kind-balanced i l))

@@ -6,7 +6,6 @@
 --   stack-top          so a closer finds its opener on top
 --   stack-end          and the stack is empty at the end
 --   stack-ext          words that agree have one stack
---   nested-unique      μ is the only nested involution with its word
 use Prim.Native.Nat.{ℕ, zero, suc, _≤_, _<_, zero-le}
 use native.Mathlib.Nat.{le-refl, le-of-lt, le-step, lt-suc-self}
 use native.Mathlib.Omega.{arith}
@@ -123,25 +122,3 @@ flat-eq i m e =
     (λ l. let k = kind-open i m l in let z : _≡_ {A = ℕ} 0 1 = cc in absurd (omega arith))
     (λ q. sym q)
     (λ g. let k = kind-close i m g in let z : _≡_ {A = ℕ} 0 1 = cc in absurd (omega arith))
-
-module _ (N : ℕ) (μ ν : ℕ → ℕ) (inv-μ : Involution N μ) (inv-ν : Involution N ν) (nested-μ : Nested μ N) (nested-ν : Nested ν N)
-    (same : (i : ℕ) → i < N → kind μ i ≡ kind ν i) where
-  unique-close : (i : ℕ) → i < N → μ i < i → ν i ≡ μ i
-  unique-close i h c =
-      let d : ν i < i = close-lt i (ν i) (sym (same i h) ∙ kind-close i (μ i) c) in
-      let t = stack-top N μ inv-μ nested-μ i h c in
-      let u = stack-top N ν inv-ν nested-ν i h d in
-      let e = stack-ext (kind μ) (kind ν) i (λ x l. same x (omega arith)) in
-      cc
-
-  pub nested-unique : (i : ℕ) → i < N → ν i ≡ μ i
-  nested-unique i h =
-      tri i (μ i)
-      (λ l.
-      let hb : μ i < N = inv-μ .bound i h in
-      let back : μ (μ i) ≡ i = inv-μ .back i h in
-      let there : ν (μ i) ≡ μ (μ i) = unique-close (μ i) hb (omega arith) in
-      let again : ν (ν (μ i)) ≡ μ i = inv-ν .back (μ i) hb in
-      cc)
-      (λ e. flat-eq i (ν i) (sym (same i h) ∙ kind-flat i (μ i) (sym e)) ∙ e)
-      (unique-close i h)

@@ -1,22 +1,18 @@
 -- The head of a record: its three fields, and what passing 1, 2, 3 and 5 says. Assumes nothing.
 --
---   word16-le16          a field of two bytes holds its number
 --   le16-word16          two bytes are the field of their number
 --   le16-bytes           two bytes
 --   kind-cases           what holds of 1 and 2 holds of every kind
 --   recordLength-range   a record has from 7 to 1850 bytes
 --   Passes               what passing says
 --   passes-facts, facts-passes    from the test, and to headRefusal r ≡ 0
---   passes-length        a record that passes has at least 6 bytes, as many as its length field says, and at most 65535
---   headRefusal-head, passes-head   the first six bytes and the length decide
-use Prim.Native.Nat.{ℕ, suc, _+_, _*_, _/_, _%_, _≤_, _<_}
+use Prim.Native.Nat.{ℕ, _+_, _*_, _/_, _%_, _≤_, _<_}
 use native.Mathlib.Omega.{arith}
-use mathlib.Core.Path.{_≡_, refl, sym, ap, _∙_, subst}
+use mathlib.Core.Path.{_≡_, refl, sym, subst}
 use mathlib.Core.Bool.{Bool, true, false, not, _||_, cond, false≢true}
-use mathlib.Core.List.{List, [], _∷_, _++_}
+use mathlib.Core.List.{List, [], _∷_}
 use lib.Dec.{eqb, ltb}
-use lib.ListN.{length, getD, take}
-use lib.Seq.{getD-take}
+use lib.ListN.{length}
 use borrow.Author.Tests.{le-ltb, eq-eqb, ne-eqb, ltb-false, eqb-true, eqb-false, not-false}
 use Rattle.model.specs.Numbers.{allBelow, firstRefusal, refuse}
 use Rattle.model.specs.Map.{isKind}
@@ -24,10 +20,6 @@ use Rattle.model.specs.Record.{le16, recordLength}
 use Rattle.model.specs.Shelf.{word16, kindOf, edgesOf, headRefusal, passes}
 use Rattle.model.proofs.Booleans.{or-split, or-none}
 use Rattle.model.proofs.Below.{below-cons}
-
-pub word16-le16 : (n : ℕ) (rest : List ℕ) → n < 65536 → word16 (le16 n ++ rest) 0 ≡ n
-unfolding word16 le16
-word16-le16 n rest h = omega arith
 
 pub le16-word16 : (a b : ℕ) → a < 256 → b < 256 → le16 (a + 256 * b) ≡ a ∷ b ∷ []
 unfolding le16
@@ -107,27 +99,3 @@ facts-passes r p =
       le-ltb 4096 (edgesOf r) (p .few-edges),
       eq-eqb (length r) _ (p .right-length),
     )
-
-pub passes-length : (r : List ℕ) → passes r ≡ true → (6 ≤ length r) × (word16 r 0 ≡ length r) × (length r ≤ 65535)
-passes-length r e =
-    let p = passes-facts r e in
-    let b = recordLength-range (kindOf r) (edgesOf r) (p .some-edge) (p .few-edges) in
-    let l = p .right-length in
-    (p .whole-head, p .length-field, omega arith)
-
--- ---- the first six bytes and the length decide
-
-word16-head : (r s : List ℕ) (i : ℕ) → suc i < 6 → take 6 r ≡ take 6 s → word16 r i ≡ word16 s i
-unfolding word16
-word16-head r s i h e =
-    let at : (j : ℕ) → j < 6 → getD r j 0 ≡ getD s j 0 = λ j l. sym (getD-take 6 r j 0 l) ∙ ap (λ (x : List ℕ). getD x j 0) e ∙ getD-take 6 s j 0 l in
-    rw (at i (omega arith), at (suc i) h)
-
-pub headRefusal-head : (r s : List ℕ) → take 6 r ≡ take 6 s → length r ≡ length s → headRefusal r ≡ headRefusal s
-unfolding headRefusal
-headRefusal-head r s e l =
-    rw (word16-head r s 0 (omega arith) e, word16-head r s 2 (omega arith) e, word16-head r s 4 (omega arith) e, l)
-
-pub passes-head : (r s : List ℕ) → take 6 r ≡ take 6 s → length r ≡ length s → passes r ≡ passes s
-unfolding passes
-passes-head r s e l = rw (headRefusal-head r s e l)

@@ -5,12 +5,11 @@
 --   layOut-head          its three fields
 --   layOut-passes        it passes 1, 2, 3 and 5
 --   layOut-bytes         its entries are bytes
---   layOut-bits, layOut-labels, unlay-layOut   its bits and labels come back
+--   layOut-bits, layOut-labels   its bits and labels come back
 --   layOut-readable      its padding and fill are 0
 --   layOut-injective     kind, size, bits and labels are told apart
 --   unlay-laid           what is taken out of any record that passes is such as a record holds
---   readable-is          a record that passes and is readable is told by kind, size, bits and labels
---   bitsIn-at, labelsIn-one, labelsIn-two   where the bits and labels stand among all bits, or all groups past the tree bits
+--   bitsIn-at, labelsIn-one   where the bits, and the labels of kind 1, stand among all bits
 --   readable-layOut      a record that passes is readable exactly if it is laid out from what is taken out of it
 use Prim.Native.Nat.{ℕ, _+_, _*_, _≤_, _<_}
 use native.Mathlib.Nat.{add-zero}
@@ -24,11 +23,11 @@ use lib.ListN.{getD, length, drop, length-drop}
 use lib.Seq.{getD-take, getD-drop, drop-drop}
 use Rattle.model.specs.Numbers.{allBelow}
 use Rattle.model.specs.Map.{isKind}
-use Rattle.model.specs.Record.{bytesFor, le16, recordLength, payload, layOut}
+use Rattle.model.specs.Record.{le16, recordLength, payload, layOut}
 use Rattle.model.specs.Shelf.{word16, kindOf, edgesOf, headRefusal, passes}
 use Rattle.model.proofs.Below.{below-append, below-drop, below-head, below-tail}
-use Rattle.packing.specs.Unpack.{bits, groups}
-use Rattle.packing.specs.Unlay.{payloadBits, payloadLabels, Laid, bitsIn, labelsIn, unlay, readable}
+use Rattle.packing.specs.Unpack.{bits}
+use Rattle.packing.specs.Unlay.{payloadBits, payloadLabels, Laid, bitsIn, labelsIn, readable}
 use Rattle.packing.proofs.Packed.{unpack-drop}
 use Rattle.packing.proofs.Head.{le16-word16, le16-bytes, kind-cases, recordLength-range, Passes, passes-facts, facts-passes}
 use Rattle.packing.proofs.Payload.{payload-length, Parts, payload-bits, payload-labels, payload-clean, payload-bytes, unpayload-parts}
@@ -91,9 +90,6 @@ module _ (k m : ℕ) (bs ls : List ℕ) (laid : Laid k m bs ls) where
   pub layOut-labels : labelsIn (layOut k m bs ls) ≡ ls
   unfolding labelsIn
   layOut-labels = rw (kind-is, edges-are, payload-is) (payload-labels k m bs ls (laid .kind) parts)
-
-  pub unlay-layOut : unlay (layOut k m bs ls) ≡ (bs, ls)
-  unlay-layOut = rw (layOut-bits, layOut-labels)
 
   pub layOut-readable : readable (layOut k m bs ls) ≡ true
   unfolding readable
@@ -161,11 +157,6 @@ module _ (r : List ℕ) (pass : passes r ≡ true) where
   readable-layOut e =
       (from-clean e, λ q. ap readable q ∙ layOut-readable (kindOf r) (edgesOf r) (bitsIn r) (labelsIn r) unlay-laid)
 
-  -- a record is told by its fields, bits and labels
-  pub readable-is : (k m : ℕ) (bs ls : List ℕ) → allBelow 256 r ≡ true → readable r ≡ true → kindOf r ≡ k → edgesOf r ≡ m
-      → bitsIn r ≡ bs → labelsIn r ≡ ls → r ≡ layOut k m bs ls
-  readable-is k m bs ls e z p q s t = from-clean e z ∙ rw (p, q, s, t)
-
 -- ---- where the bits and labels of a record stand
 
 pub bitsIn-at : (r : List ℕ) (i : ℕ) → i < 2 * edgesOf r → getD (bitsIn r) i 0 ≡ getD (bits r) (48 + i) 0
@@ -178,9 +169,3 @@ unfolding labelsIn payloadLabels bits
 labelsIn-one r i k h =
     rw k (getD-take (edgesOf r) (drop (2 * edgesOf r) (bits (drop 6 r))) i 0 h ∙ getD-drop (2 * edgesOf r) (bits (drop 6 r)) i 0
     ∙ ap (λ (ds : List ℕ). getD ds (2 * edgesOf r + i) 0) (sym (unpack-drop 2 8 6 r)) ∙ getD-drop 48 (bits r) (2 * edgesOf r + i) 0)
-
-pub labelsIn-two : (r : List ℕ) (i : ℕ) → kindOf r ≡ 2 → i < edgesOf r
-    → getD (labelsIn r) i 0 ≡ getD (groups (drop (6 + bytesFor (2 * edgesOf r) 8) r)) i 0
-unfolding labelsIn payloadLabels
-labelsIn-two r i k h =
-    rw (k, drop-drop (bytesFor (2 * edgesOf r) 8) 6 r) (getD-take (edgesOf r) (groups (drop (6 + bytesFor (2 * edgesOf r) 8) r)) i 0 h)

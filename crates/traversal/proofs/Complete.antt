@@ -4,11 +4,10 @@
 --   connected-met         a connected plan: every dart is met
 --   connected-long        so there are as many visits as darts
 --   long-connected        a plan with as many visits as darts is connected
---   walk-short            a plan that is not connected has fewer
 use Prim.Native.Nat.{ℕ, _<_}
 use native.Mathlib.Omega.{arith}
 use mathlib.Core.Path.{_≡_, refl, sym, ap, subst, _∙_}
-use mathlib.Core.Bool.{Bool, true, false, true≢false}
+use mathlib.Core.Bool.{Bool, true}
 use lib.Dec.{T}
 use lib.ListN.{length}
 use Rattle.model.specs.Numbers.{elem, isPermutation}
@@ -18,7 +17,6 @@ use Rattle.model.proofs.Booleans.{T-true, true-T}
 use Rattle.model.proofs.Opposite.{opposite-opposite}
 use Rattle.model.proofs.Permutations.{elem-at, at-elem}
 use Rattle.model.proofs.Fitness.{count-even}
-use Rattle.orbits.proofs.Order.{le-split}
 use Rattle.orbits.proofs.Tally.{count-inj, count-tight}
 use Rattle.orbits.proofs.Number.{count-all}
 use Rattle.words.specs.Toured.{dartsMet, dartAt}
@@ -103,6 +101,3 @@ module _ (p : Plan) (fits : dartCountFits (darts p) ≡ true) (hr : p .root < da
 
   pub connected-long : connected (p .rotation) ≡ true → length (visits p) ≡ N
   connected-long e = all-long (connected-met e)
-
-  pub walk-short : connected (p .rotation) ≡ false → length (visits p) < N
-  walk-short e = le-split (w .few-met) (λ q. absurd (true≢false (sym (long-connected q) ∙ e))) (λ h. h)

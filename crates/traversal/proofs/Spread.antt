@@ -65,11 +65,6 @@ module _ (rot : List ℕ) where
   spread-in S c zero h m all = all
   spread-in S c (suc d) h m all = put-in S c d h (spread rot d m) (spread-in S c d (le-of-lt h) m all) (eqb (getD (spread rot d m) d 0) 0) refl
 
-  spreads-length : (k : ℕ) (m : List ℕ) → length (spreads rot k m) ≡ length m
-  unfolding spreads
-  spreads-length zero m = refl
-  spreads-length (suc k) m = spreads-length k (spread rot N m) ∙ spread-length N m
-
   spreads-still : (k : ℕ) (m : List ℕ) (x : ℕ) → Marked m x → Marked (spreads rot k m) x
   unfolding spreads
   spreads-still zero m x s = s

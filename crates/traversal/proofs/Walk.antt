@@ -1,7 +1,6 @@
 -- The visits of a plan are the steps of its first round; so all that is known of those holds of the visits, position by position.
 --
 --   length-word, length-darts   as many letters and darts as visits: passed on from words
---   dart-steps, letter-steps    the visit at position i is step i of the walk
 --   walked                      all that is known of the traversal of a plan
 --   walk-closed, walk-least     the darts met are a closed set, and every closed set that has the root has them
 use Prim.Native.Nat.{ℕ, zero, suc, _+_, _≤_, _<_}
@@ -190,12 +189,6 @@ module _ (p : Plan) (fits : dartCountFits (darts p) ≡ true) (hr : p .root < da
 
   pub walked : Walked p
   walked = walked-perm p turn cross hr
-
-  pub dart-steps : (i : ℕ) → i < length (visits p) → dartAt p i ≡ dart (p .rotation) (p .root) i
-  dart-steps i h = dart-is p turn cross hr i (within p turn cross hr i h)
-
-  pub letter-steps : (i : ℕ) → i < length (visits p) → letterOf p i ≡ letterAfter (p .rotation) (p .root) i
-  letter-steps i h = letter-is p turn cross hr i (within p turn cross hr i h)
 
   pub walk-closed : Closed (p .rotation) (Among p)
   walk-closed = record { across = λ d h a. walked .across d a; turn = λ d h a. walked .turn d a }

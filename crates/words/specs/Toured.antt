@@ -9,7 +9,7 @@
 --   isTree l         the letter of a dart of a tree edge
 --   Toured p         the traversal meets every dart once, step by step, and its letters say what is seen
 --   Bracketed p      the darts of the tree edges match like brackets along the traversal, and so do those of the other edges
-use Prim.Native.Nat.{ℕ, zero, suc, _≤_, _<_}
+use Prim.Native.Nat.{ℕ, suc, _≤_, _<_}
 use mathlib.Core.Path.{_≡_}
 use mathlib.Core.Logic.{_≢_}
 use mathlib.Core.Bool.{Bool, true, false}

@@ -2,8 +2,6 @@
 use fitting::Verdict;
 use model::Written;
 ghost use mathlib.Core.Path.{_≡_};
-ghost use Prim.Native.Nat.{ℕ};
-ghost use lib.ListN.{length};
 ghost use Rattle.model.specs.Calls.{Wrote};
 ghost use Rattle.writing.specs.Early.{earlyRefusal, Ready, Laid, Made};
 

@@ -1,6 +1,4 @@
 -- `checks::euler` meets its contract.
-use mathlib.Core.Path.{_≡_, refl, sym, ap, _∙_}
-use lib.IntN.{ℤ, pos, _+ℤ_, _-ℤ_}
 use native.Mathlib.Omega.{arith}
 use mir.Facts.{toZ-ofZ}
 use Rattle.checks.proofs.Signed.{fits-less, back-less, fits-all, small}

@@ -1,7 +1,6 @@
-use Prim.Native.Nat.{ℕ, _-_, _%_, _≤_, _<_}
+use Prim.Native.Nat.{_-_, _%_, _≤_}
 use native.Mathlib.Omega.{arith}
-use mathlib.Core.Path.{_≡_, refl, sym, ap, _∙_}
-use lib.ListN.{length}
+use mathlib.Core.Path.{_≡_}
 use Rattle.checks.proofs.Search.{NoneBelow, loopAt, loop-pair, even-below, found, none-found}
 use borrow.Author.Needs.{needs}
 use Rattle.checks.proofs.has_loop.Statement.{statement}

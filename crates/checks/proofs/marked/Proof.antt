@@ -1,8 +1,7 @@
-use Prim.Native.Nat.{ℕ, _+_, _*_, _-_, _≤_, _<_}
+use Prim.Native.Nat.{_-_, _≤_}
 use native.Mathlib.Omega.{arith}
 use mathlib.Core.Path.{_≡_, refl, sym, ap, _∙_}
-use mathlib.Core.List.{List}
-use lib.ListN.{length, drop, set, getD, replicate, length-set}
+use lib.ListN.{length, drop}
 use Rattle.model.specs.Numbers.{isPermutation}
 use Rattle.packing.specs.Unpack.{bits}
 use Rattle.checks.proofs.Marking.{run, next, stop-big, stop-seen, end, decides}

@@ -1,13 +1,7 @@
 use mir.Facts.{toZ-ofZ}
 use mir.Syntax.{w32}
 use mir.Val.{SFits}
-use Rattle.fitting.specs.Judged.{Judged}
-use Rattle.fitting.specs.declared.Verdict.the-variants.{NotPlanar}
-use lib.IntN.{ℤ}
-use Prim.Native.Nat.{ℕ, _+_, _*_, _≤_, _<_}
 use native.Mathlib.Omega.{arith}
-use mathlib.Core.Path.{_≡_, refl, sym, ap, _∙_}
-use lib.ListN.{length}
 use Rattle.model.proofs.Fitness.{count-parts}
 use Rattle.checks.proofs.Signed.{bits-is, bits-not}
 use Rattle.fitting.proofs.Cases.{few, few-vertices, room-local, parted, curved, flat, still-named}

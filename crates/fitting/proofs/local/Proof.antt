@@ -1,8 +1,4 @@
-use Prim.Native.Nat.{ℕ, _+_, _*_, _≤_, _<_}
-use native.Mathlib.Omega.{arith}
-use mathlib.Core.Path.{_≡_, refl, sym, ap, _∙_}
-use lib.ListN.{length}
-use borrow.Author.Tests.{not-false}
+use mathlib.Core.Path.{sym, _∙_}
 use Rattle.model.proofs.Fitness.{count-parts}
 use Rattle.fitting.proofs.Cases.{loop-names, looped, dead-end, no-dead-end, other-kind}
 use borrow.Author.Needs.{needs}

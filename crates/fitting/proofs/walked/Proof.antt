@@ -1,8 +1,4 @@
-use Prim.Native.Nat.{ℕ, _+_, _*_, _≤_, _<_}
 use native.Mathlib.Omega.{arith}
-use mathlib.Core.Path.{_≡_, refl, sym, ap, _∙_}
-use lib.ListN.{length}
-use borrow.Author.Tests.{not-false}
 use Rattle.fitting.proofs.Cases.{named, room-kept, surveyed}
 use borrow.Author.Needs.{needs}
 use Rattle.fitting.proofs.walked.Statement.{statement}

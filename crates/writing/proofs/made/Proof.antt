@@ -4,10 +4,8 @@ use mir.Val.{SFits}
 use Rattle.model.specs.declared.Written.the-variants as written
 use Rattle.fitting.specs.declared.Verdict.the-variants as verdict
 use Rattle.writing.specs.Early.{Made}
-use Prim.Native.Nat.{ℕ, _+_, _*_, _/_, _≤_, _<_}
-use native.Mathlib.Omega.{arith}
-use mathlib.Core.Path.{_≡_, refl, sym, ap, subst, _∙_}
-use lib.ListN.{length}
+use Prim.Native.Nat.{ℕ}
+use mathlib.Core.Path.{_≡_, sym, ap, subst, _∙_}
 use Rattle.model.specs.Map.{Plan, edges}
 use Rattle.model.specs.Record.{recordLength}
 use Rattle.fitting.specs.declared.Verdict.{Verdict}
