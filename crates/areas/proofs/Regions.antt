@@ -3,16 +3,22 @@
 --   length-region, getD-region          a region's length and entries
 --   region-region, region-split         a region of a region; a region in two adjacent ones
 --   region-set, region-set-other        a store inside the region, and outside it
+--   region-front                        a store right before the entries from place t to c of a part that begins at a
 --   length-placed                       placing what fits keeps the length
 --   getD-placed                         an entry of what was placed
 --   region-placed, region-placed-other  the region where it was placed, and one beside it
 --   placed-placed, placed-region        placing twice; placing what is there
 --   set-placed, placed-snoc             a store into what was placed; a store just behind it
 --   placed-none                         placing nothing
+--   placed-cons                         the first entry placed is a store
+--   placed-next                         what is placed just behind other entries is placed with them
+--   region-grow                         entries placed just behind a region make it longer
+--   sets-placed                         a run of stores places the entries
+--   front-placed                        placing at 0 is `front`
 --   length-tabulate, getD-tabulate      a table's length and entries
 --   tabulate-ext, is-tabulate           tables with equal entries; a list with a table's entries
 use mathlib.Core.Path.{_≡_, refl, sym, ap, _∙_, subst}
-use mathlib.Core.List.{List, [], _∷_, _++_}
+use mathlib.Core.List.{List, [], _∷_, _++_, append-assoc}
 use Prim.Native.Nat.{ℕ, zero, suc, _+_, _-_, _≤_, _<_}
 use native.Mathlib.Nat.{not-suc-le-zero, le-of-suc-le-suc, suc-add, add-suc, zero-add, add-zero, lt-of-not-le}
 use native.Mathlib.Decide.{decLe}
@@ -20,6 +26,8 @@ use native.Mathlib.Omega.{arith}
 use lib.ListN.{length, getD, set, take, drop, length-append, length-drop, length-set, List·getD-append, take-append-drop}
 use lib.Seq.{length-take-le, take-at, drop-at, take-take, take-add, drop-drop, drop-append-seam, getD-take, getD-drop}
 use lib.Seq.{set-append-left, set-append-seam, drop-cons, append-snoc, take-set-lt, take-set-le, drop-set-add, drop-set-lt, take-nil, ext-getD}
+use lib.Seq.{sets, sets-eq, take-suc-set, getD-set-same, lt-length-set}
+use Rattle.model.specs.Calls.{front}
 use Rattle.areas.specs.Area.{region, placed, tabulate}
 
 -- one of two cases
@@ -62,6 +70,20 @@ region-set-other a n w i v out = le-or a i behind (λ h. ap (take n) (drop-set-l
     behind : a ≤ i → take n (drop a (set w i v)) ≡ take n (drop a w)
     behind h =
         take-drop a n (set w i v) ∙ ap (drop a) (take-set-le (a + n) w i v (out h)) ∙ sym (take-drop a n w)
+
+region-first : (a k x : ℕ) (w : List ℕ) → a < length w → region a (suc k) (set w a x) ≡ x ∷ region (suc a) k w
+unfolding region
+region-first a k x w h =
+    ap (take (suc k)) (drop-cons (set w a x) a 0 (lt-length-set w a x h))
+    ∙ ap (λ (y : ℕ). y ∷ take k (drop (suc a) (set w a x))) (getD-set-same w a x 0 h)
+    ∙ ap (λ (r : List ℕ). x ∷ take k r) (drop-set-lt (suc a) w a x (omega arith))
+
+pub region-front : (a c t x : ℕ) (w : List ℕ) → t < c → a + t < length w
+    → region (a + t) (c - t) (set w (a + t) x) ≡ x ∷ region (a + suc t) (c - suc t) w
+region-front a c t x w l h =
+    let z : c - t ≡ suc (c - suc t) = omega arith in
+    ap (λ (k : ℕ). region (a + t) k (set w (a + t) x)) z ∙ region-first (a + t) (c - suc t) x w h
+    ∙ ap (λ (p : ℕ). x ∷ region p (c - suc t) w) (sym (add-suc a t))
 
 -- ---- what is placed
 
@@ -161,6 +183,40 @@ placed-region a n w h =
 pub placed-none : (a : ℕ) (w : List ℕ) → placed a [] w ≡ w
 unfolding placed
 placed-none a w = ap (λ (k : ℕ). take a w ++ drop k w) (add-zero a) ∙ take-append-drop a w
+
+-- ---- entries placed one after the other
+
+pub placed-cons : (a x : ℕ) (xs w : List ℕ) → a < length w → placed a (x ∷ xs) w ≡ placed (suc a) xs (set w a x)
+unfolding placed
+placed-cons a x xs w h =
+    let rest = xs ++ drop (suc a + length xs) w in
+    ap (λ (k : ℕ). take a w ++ (x ∷ (xs ++ drop k w))) (add-suc a (length xs) ∙ sym (suc-add a (length xs)))
+    ∙ sym (append-snoc (take a w) x rest)
+    ∙ ap (λ (r : List ℕ). r ++ rest) (sym (take-suc-set w a x h))
+    ∙ ap (λ (r : List ℕ). take (suc a) (set w a x) ++ (xs ++ r)) (sym (drop-set-lt (suc a + length xs) w a x (omega arith)))
+
+pub placed-next : (a : ℕ) (xs ys w : List ℕ) → a + length xs ≤ length w → placed (a + length xs) ys (placed a xs w) ≡ placed a (xs ++ ys) w
+placed-next a [] ys w h = ap (λ (r : List ℕ). placed (a + 0) ys r) (placed-none a w) ∙ ap (λ (k : ℕ). placed k ys w) (add-zero a)
+placed-next a (x ∷ xs) ys w h =
+    let e = length-set w a x in
+    ap (λ (r : List ℕ). placed (a + suc (length xs)) ys r) (placed-cons a x xs w (omega arith))
+    ∙ ap (λ (k : ℕ). placed k ys (placed (suc a) xs (set w a x))) (add-suc a (length xs) ∙ sym (suc-add a (length xs)))
+    ∙ placed-next (suc a) xs ys (set w a x) (omega arith)
+    ∙ sym (placed-cons a x (xs ++ ys) w (omega arith))
+
+pub region-grow : (a n k : ℕ) (ys w : List ℕ) → length ys ≡ k → a + n + k ≤ length w → region a (n + k) (placed (a + n) ys w) ≡ region a n w ++ ys
+region-grow a n k ys w e h =
+    region-split a n k (placed (a + n) ys w)
+    ∙ ap (λ (r : List ℕ). r ++ region (a + n) k (placed (a + n) ys w)) (region-placed-other (a + n) ys w (omega arith) a n (λ l. absurd (omega arith)))
+    ∙ ap (λ (r : List ℕ). region a n w ++ r) (region-placed (a + n) ys w (omega arith) k (sym e))
+
+pub sets-placed : (xs w : List ℕ) (a : ℕ) → a + length xs ≤ length w → sets w a xs ≡ placed a xs w
+unfolding placed
+sets-placed xs w a h = sets-eq xs w a h ∙ append-assoc (take a w) xs (drop (a + length xs) w)
+
+pub front-placed : (xs w : List ℕ) → placed 0 xs w ≡ front xs w
+unfolding placed front
+front-placed xs w = ap (λ (k : ℕ). xs ++ drop k w) (zero-add (length xs))
 
 -- ---- tables
 

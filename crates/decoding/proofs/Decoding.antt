@@ -18,9 +18,9 @@ use Rattle.model.specs.Map.{isKind, dartCountFits}
 use Rattle.model.specs.Traversal.{Letter, down, up, first, second}
 use Rattle.model.specs.LabelledTree.{star}
 use Rattle.model.specs.Record.{labelBase}
-use Rattle.words.specs.Word.{nested, startsUp, rootDegree, valid, startsSecond, head, tail, endsOne, ends, wordLabels, wordBits, Found, found, none, after, Machine, goes, turn, follow, decode, start, checkRoot, decodeWord}
+use Rattle.words.specs.Word.{nested, startsUp, rootDegree, valid, startsSecond, head, tail, endsOne, ends, wordLabels, wordBits, Found, found, none, after, Machine, goes, turn, follow, decode, start, checkRoot, decodeWord, closed, risen, leafed, backed, entered}
 use Rattle.words.proofs.Validity.{valid-of}
-use Rattle.decoding.specs.Reading.{Reads, closed, risen, leafed, backed, entered}
+use Rattle.decoding.specs.Reading.{Reads}
 use Rattle.decoding.proofs.Sizes.{bound-three, bound-two}
 use Rattle.decoding.proofs.Bounds.{plain-labels}
 use Rattle.decoding.proofs.Nesting.{second-nests, not-up, bits-after}

@@ -17,9 +17,9 @@ use Rattle.model.specs.Numbers.{allBelow}
 use Rattle.model.specs.Traversal.{Letter, down, up, first, second}
 use Rattle.model.specs.LabelledTree.{star}
 use Rattle.model.proofs.Below.{below-head}
-use Rattle.words.specs.Word.{nested, startsUp, valid, startsSecond, head, tail, endsOne, ends, wordLabels, wordBits, found, none, after, Machine, goes, turn, start, checkRoot, decodeWord}
+use Rattle.words.specs.Word.{nested, startsUp, valid, startsSecond, head, tail, endsOne, ends, wordLabels, wordBits, found, none, after, Machine, goes, turn, start, checkRoot, decodeWord, closed, risen, leafed, backed, entered}
 use Rattle.words.proofs.Validity.{valid-nested, valid-root}
-use Rattle.decoding.specs.Reading.{Reads, closed, risen, leafed, backed, entered, run}
+use Rattle.decoding.specs.Reading.{Reads, run}
 use Rattle.decoding.proofs.Bounds.{head-below, ups-below, seconds-below}
 use Rattle.decoding.proofs.Nesting.{nest-end, nest-up, nest-second, no-second, bits-on}
 use Rattle.decoding.proofs.Lengths.{head-tail, no-entries, ups-count, seconds-count}

@@ -14,8 +14,7 @@ use lib.ListN.{length}
 use Rattle.model.specs.Numbers.{allBelow}
 use Rattle.model.specs.LabelledTree.{star}
 use Rattle.model.proofs.Below.{below-cons}
-use Rattle.words.specs.Word.{Machine, start}
-use Rattle.decoding.specs.Reading.{closed, risen, leafed, backed, entered}
+use Rattle.words.specs.Word.{Machine, start, closed, risen, leafed, backed, entered}
 use Rattle.decoding.proofs.Bounds.{all-part, head-below, tail-below}
 use Rattle.decoding.proofs.Lengths.{length-tail}
 

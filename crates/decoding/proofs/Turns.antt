@@ -20,8 +20,7 @@ use lib.ListN.{length}
 use borrow.Author.Tests.{lt-ltb, le-ltb, ne-eqb}
 use Rattle.model.specs.Traversal.{down, up, first, second}
 use Rattle.model.specs.LabelledTree.{star}
-use Rattle.words.specs.Word.{Machine, done, stuck, goes, closeEdge, finish, goUp, goDown, readBit, turn}
-use Rattle.decoding.specs.Reading.{closed, risen, leafed, backed, entered}
+use Rattle.words.specs.Word.{Machine, done, stuck, goes, closeEdge, finish, goUp, goDown, readBit, turn, closed, risen, leafed, backed, entered}
 
 finish-stuck : (below opens labels : List ℕ) → 0 < length below + (length opens + length labels) → finish below opens labels ≡ stuck
 unfolding finish

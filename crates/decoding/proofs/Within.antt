@@ -13,8 +13,7 @@ use mathlib.Core.List.{List, _∷_}
 use lib.ListN.{length}
 use Rattle.model.specs.Numbers.{allBelow}
 use Rattle.model.proofs.Below.{below-cons, below-mono}
-use Rattle.words.specs.Word.{Machine, start}
-use Rattle.decoding.specs.Reading.{closed, risen, leafed, backed, entered}
+use Rattle.words.specs.Word.{Machine, start, closed, risen, leafed, backed, entered}
 use Rattle.decoding.proofs.Bounds.{all-part}
 
 pub record Within (m : ℕ) (s : Machine) : Type 0 where

@@ -22,8 +22,7 @@ use Rattle.model.specs.Numbers.{allBelow}
 use Rattle.model.specs.Record.{digitsFrom, digits, pack}
 use Rattle.model.proofs.Below.{below-head, below-tail, below-drop}
 use Rattle.areas.specs.Area.{region, placed}
-use Rattle.areas.proofs.Regions.{length-region, getD-region, region-split, placed-none}
-use Rattle.laying.proofs.Placing.{placed-cons}
+use Rattle.areas.proofs.Regions.{length-region, getD-region, region-split, placed-none, placed-cons}
 
 -- ---- the digits from a to e
 

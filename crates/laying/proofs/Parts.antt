@@ -21,12 +21,11 @@ use Rattle.model.specs.Map.{isKind}
 use Rattle.model.specs.Record.{pack, le16, bytesFor, recordLength, payload, layOut}
 use Rattle.model.proofs.Below.{below-append}
 use Rattle.areas.specs.Area.{region, placed}
-use Rattle.areas.proofs.Regions.{region-split, placed-none}
+use Rattle.areas.proofs.Regions.{region-split, placed-none, placed-cons, placed-next, front-placed}
 use Rattle.packing.proofs.Packed.{pack-length}
 use Rattle.packing.proofs.Head.{recordLength-range}
 use Rattle.letters.specs.Letters.{bitsIn, labelsIn}
 use Rattle.laying.specs.Laying.{LaidOut}
-use Rattle.laying.proofs.Placing.{placed-cons, placed-next, front-placed}
 
 pub two-bytes : (at x : ℕ) (out : List ℕ) → at + 2 ≤ length out → set (set out at (x % 256)) (at + 1) (x / 256 % 256) ≡ placed at (le16 x) out
 unfolding le16

@@ -5,16 +5,19 @@
 --   below-take, below-drop, below-replicate   parts, and one number many times
 --   below-set             an entry put
 --   below-mono            a larger bound
+--   below-next, below-stop, below-end   the entries from place k on, entry by entry
 --   blank-zeros, zeros-blank   all entries are below 1: they are zeros
-use Prim.Native.Nat.{ℕ, zero, suc, _≤_, _<_}
+use Prim.Native.Nat.{ℕ, zero, suc, _+_, _≤_, _<_}
 use native.Mathlib.Nat.{lt-of-lt-of-le}
+use native.Mathlib.Numerals.{add-one}
 use native.Mathlib.Omega.{arith}
 use mathlib.Core.Path.{_≡_, refl}
-use mathlib.Core.Bool.{true}
+use mathlib.Core.Bool.{true, false}
 use mathlib.Core.List.{List, [], _∷_, _++_}
 use lib.Dec.{ltb}
-use lib.ListN.{length, set, take, drop, replicate}
-use borrow.Author.Tests.{ltb-true, lt-ltb}
+use lib.ListN.{length, getD, set, take, drop, replicate, drop-of-length-le}
+use lib.Seq.{drop-cons}
+use borrow.Author.Tests.{ltb-true, lt-ltb, le-ltb}
 use Rattle.model.specs.Numbers.{allBelow}
 use Rattle.model.proofs.Booleans.{and-left, and-right, both}
 
@@ -60,6 +63,19 @@ pub below-mono : (n m : ℕ) → n ≤ m → (xs : List ℕ) → allBelow n xs �
 unfolding allBelow
 below-mono n m l [] e = refl
 below-mono n m l (x ∷ xs) e = below-cons m x xs (lt-of-lt-of-le (below-head n x xs e) l) (below-mono n m l xs (below-tail n x xs e))
+
+module _ (n : ℕ) (xs : List ℕ) (k : ℕ) where
+  pub below-next : k < length xs → getD xs k 0 < n → allBelow n (drop k xs) ≡ allBelow n (drop (k + 1) xs)
+  unfolding allBelow
+  below-next h l = rw (add-one, drop-cons xs k 0 h) (simp (lt-ltb _ _ l))
+
+  pub below-stop : k < length xs → n ≤ getD xs k 0 → allBelow n (drop k xs) ≡ false
+  unfolding allBelow
+  below-stop h l = rw (drop-cons xs k 0 h) (simp (le-ltb _ _ l))
+
+  pub below-end : length xs ≤ k → allBelow n (drop k xs) ≡ true
+  unfolding allBelow
+  below-end h = rw (drop-of-length-le xs h)
 
 pub blank-zeros : (xs : List ℕ) → allBelow 1 xs ≡ true → xs ≡ replicate (length xs) 0
 blank-zeros [] e = refl

@@ -18,13 +18,13 @@ use Rattle.model.specs.Traversal.{Letter, down, up, first, second}
 use Rattle.words.specs.Word.{valid, startsSecond, wordBits}
 use Rattle.words.specs.Entered.{isDown}
 use Rattle.areas.specs.Area.{region}
-use Rattle.areas.proofs.Regions.{length-region}
+use Rattle.areas.proofs.Regions.{length-region, region-front}
 use Rattle.decoding.proofs.Sizes.{bits-length}
 use Rattle.letters.specs.Letters.{toLetter, lettersIn, bitsIn}
 use Rattle.letters.proofs.Word.{is-down, is-up, is-first, is-second, length-letters, letters-set-behind}
 use Rattle.payload.specs.Passes.{downBefore, bitsFrom, Bitted, BitStepped}
 use Rattle.payload.proofs.Suffixes.{bits-shrink}
-use Rattle.payload.proofs.Letters.{letters-at, letter-is, letters-end, small-word, region-front, not-down}
+use Rattle.payload.proofs.Letters.{letters-at, letter-is, letters-end, small-word, not-down}
 
 -- ---- the letter before a position
 

@@ -3,11 +3,9 @@
 --   letters-at, letter-is  the letter at position i, and what follows it
 --   letters-end            nothing follows the last
 --   small-word             a valid word has at most 8192 letters
---   region-front           a store right before the entries from place t to c of a part that begins at a
 --   not-down               a code but 1 is not that of down
 --   second-past, up-past, second-here, no-second-here, up-here   whether second or up stands at a position
-use Prim.Native.Nat.{ℕ, suc, _+_, _-_, _*_, _≤_, _<_}
-use native.Mathlib.Nat.{add-suc}
+use Prim.Native.Nat.{ℕ, _+_, _*_, _≤_, _<_}
 use native.Mathlib.Omega.{arith}
 use native.Mathlib.Numerals.{add-one}
 use mathlib.Core.Path.{_≡_, refl, sym, ap, _∙_, subst}
@@ -15,14 +13,13 @@ use mathlib.Core.Logic.{_≢_}
 use mathlib.Core.Bool.{Bool, true, false, cond}
 use mathlib.Core.List.{List, [], _∷_}
 use lib.Dec.{eqb}
-use lib.ListN.{length, getD, set, take, drop}
-use lib.Seq.{drop-cons, drop-length, drop-set-lt, getD-set-same, lt-length-set}
+use lib.ListN.{length, getD, drop}
+use lib.Seq.{drop-length}
 use borrow.Author.Tests.{eq-eqb, ne-eqb}
 use Rattle.model.proofs.Fitness.{count-parts}
 use Rattle.model.specs.Traversal.{Letter, down, up, first, second}
 use Rattle.words.specs.Word.{valid, startsUp, startsSecond}
 use Rattle.words.specs.Entered.{isDown}
-use Rattle.areas.specs.Area.{region}
 use Rattle.orbits.proofs.Order.{eq-split}
 use Rattle.decoding.proofs.Validity.{valid-fits}
 use Rattle.letters.specs.Letters.{toLetter, lettersIn}
@@ -41,19 +38,6 @@ module _ (n : ℕ) (w : List ℕ) (room : 16 * n ≤ length w) where
   pub small-word : valid 2 (lettersIn n w) ≡ true → n ≤ 8192
   small-word v =
       subst (λ (k : ℕ). k ≤ 8192) (length-letters n w (omega arith)) (count-parts (length (lettersIn n w)) (valid-fits 2 (lettersIn n w) v) .2)
-
-front : (a k x : ℕ) (w : List ℕ) → a < length w → region a (suc k) (set w a x) ≡ x ∷ region (suc a) k w
-unfolding region
-front a k x w h =
-    ap (take (suc k)) (drop-cons (set w a x) a 0 (lt-length-set w a x h))
-    ∙ ap (λ (y : ℕ). y ∷ take k (drop (suc a) (set w a x))) (getD-set-same w a x 0 h)
-    ∙ ap (λ (r : List ℕ). x ∷ take k r) (drop-set-lt (suc a) w a x (omega arith))
-
-pub region-front : (a c t x : ℕ) (w : List ℕ) → t < c → a + t < length w
-    → region (a + t) (c - t) (set w (a + t) x) ≡ x ∷ region (a + suc t) (c - suc t) w
-region-front a c t x w l h =
-    let z : c - t ≡ suc (c - suc t) = omega arith in
-    ap (λ (k : ℕ). region (a + t) k (set w (a + t) x)) z ∙ front (a + t) (c - suc t) x w h ∙ ap (λ (p : ℕ). x ∷ region p (c - suc t) w) (sym (add-suc a t))
 
 pub not-down : (x : ℕ) → x ≢ 1 → isDown (toLetter x) ≡ false
 unfolding toLetter

@@ -10,10 +10,9 @@ use lib.ListN.{length, getD, set}
 use Rattle.model.specs.Traversal.{Letter, down, up, first, second}
 use Rattle.words.specs.Word.{Ends, endsOne, startsUp, startsSecond}
 use Rattle.areas.specs.Area.{region, stack}
-use Rattle.areas.proofs.Regions.{region-set-other}
+use Rattle.areas.proofs.Regions.{region-set-other, region-front}
 use Rattle.areas.proofs.Stacks.{stack-set, stack-push}
 use Rattle.payload.specs.Passes.{held}
-use Rattle.payload.proofs.Letters.{region-front}
 
 three : (a b : List ℕ) (c d : List ℕ) (e f : List ℕ) → a ≡ b → c ≡ d → e ≡ f
     → _≡_ {A = Ends} (record { labels = a; ups = c; seconds = e }) (record { labels = b; ups = d; seconds = f })

@@ -3,7 +3,8 @@
 --   State                a dart that is to be met, the letters' codes and the marks of vertices so far
 --   letter rot s         the letter of that dart
 --   step rot s           the state after it is met
---   at rot r k           the state after k steps from the root r
+--   start rot r          the state at the root r, whose vertex is marked
+--   at rot r k           the state after k steps from there
 --   dart, letterOf, mark, seenMark   its dart, that dart's letter, the code at a dart x, the mark at x's vertex
 --   tree rot r k x       the edge of x went down within k steps
 use Prim.Native.Nat.{ℕ, zero, suc}

@@ -1,7 +1,5 @@
 -- Labels put into the work area, one by one or group by group. Assumes nothing.
 --
---   stored                a run of stores places the entries
---   grow                  entries placed just behind a region make it longer
 --   labels-start, label-on, labels-end   no label, one more, all
 --   five                  five stores place a group's labels
 --   groups-start, group-on, groups-end   the labels of no group, of one more, and the first of all
@@ -10,25 +8,15 @@ use native.Mathlib.Nat.{add-zero}
 use native.Mathlib.Numerals.{add-one}
 use native.Mathlib.Omega.{arith}
 use mathlib.Core.Path.{_≡_, refl, sym, ap, _∙_, subst}
-use mathlib.Core.List.{List, [], _∷_, _++_, append-nil, append-assoc}
+use mathlib.Core.List.{List, [], _∷_, _++_, append-nil}
 use lib.ListN.{length, getD, set, take, drop, length-drop}
-use lib.Seq.{sets, sets-eq, take-suc, take-all, getD-drop}
+use lib.Seq.{take-suc, take-all, getD-drop}
 use Rattle.packing.specs.Unpack.{digitsOf, unpack, groups}
 use Rattle.packing.proofs.Digits.{length-digitsOf}
 use Rattle.packing.proofs.Packed.{unpack-append}
 use Rattle.areas.specs.Area.{region, placed}
-use Rattle.areas.proofs.Regions.{region-region, region-split, region-placed, region-placed-other}
+use Rattle.areas.proofs.Regions.{region-region, region-grow, sets-placed}
 use Rattle.unpacker.specs.Unpacked.{grouped}
-
-stored : (vs w : List ℕ) (i : ℕ) → i + length vs ≤ length w → sets w i vs ≡ placed i vs w
-unfolding placed
-stored vs w i h = sets-eq vs w i h ∙ append-assoc (take i w) vs (drop (i + length vs) w)
-
-grow : (a n k : ℕ) (ys w : List ℕ) → length ys ≡ k → a + n + k ≤ length w → region a (n + k) (placed (a + n) ys w) ≡ region a n w ++ ys
-grow a n k ys w e h =
-    region-split a n k (placed (a + n) ys w)
-    ∙ ap (λ (r : List ℕ). r ++ region (a + n) k (placed (a + n) ys w)) (region-placed-other (a + n) ys w (omega arith) a n (λ l. absurd (omega arith)))
-    ∙ ap (λ (r : List ℕ). region a n w ++ r) (region-placed (a + n) ys w (omega arith) k (sym e))
 
 pub labels-start : (a : ℕ) (xs w : List ℕ) → region a 0 w ≡ take 0 xs
 unfolding region
@@ -37,8 +25,8 @@ labels-start a xs w = refl
 pub label-on : (a : ℕ) (xs w : List ℕ) (i v : ℕ) → a + i < length w → i < length xs → v ≡ getD xs i 0 → region a i w ≡ take i xs
     → region a (i + 1) (set w (a + i) v) ≡ take (i + 1) xs
 label-on a xs w i v h k e q =
-    ap (region a (i + 1)) (stored (v ∷ []) w (a + i) (omega arith))
-    ∙ grow a i 1 (v ∷ []) w refl (omega arith)
+    ap (region a (i + 1)) (sets-placed (v ∷ []) w (a + i) (omega arith))
+    ∙ region-grow a i 1 (v ∷ []) w refl (omega arith)
     ∙ ap (λ (r : List ℕ). r ++ (v ∷ [])) q
     ∙ ap (λ (x : ℕ). take i xs ++ (x ∷ [])) e
     ∙ sym (rw add-one (take-suc xs i 0 k))
@@ -57,7 +45,7 @@ five w at g h =
     let ds = g / 81 % 3 ∷ g / 27 % 3 ∷ g / 9 % 3 ∷ g / 3 % 3 ∷ g % 3 ∷ [] in
     let whole : g ≡ g / 1 = omega arith in
     let last : ds ≡ digitsOf 3 5 g = ap (λ (x : ℕ). g / 81 % 3 ∷ g / 27 % 3 ∷ g / 9 % 3 ∷ g / 3 % 3 ∷ x % 3 ∷ []) whole in
-    rw (e₁, e₂, e₃, e₄) (stored ds w at (omega arith) ∙ ap (λ (r : List ℕ). placed at r w) last)
+    rw (e₁, e₂, e₃, e₄) (sets-placed ds w at (omega arith) ∙ ap (λ (r : List ℕ). placed at r w) last)
 
 -- the groups are the bytes of r from place `from` on
 module _ (a from : ℕ) (r : List ℕ) where
@@ -79,7 +67,7 @@ module _ (a from : ℕ) (r : List ℕ) where
   group-on w i h l q =
       let ds = digitsOf 3 5 (getD r (from + i) 0) in
       let e : 5 * (i + 1) ≡ 5 * i + 5 = omega arith in
-      rw e (grow a (5 * i) 5 ds w (length-digitsOf 3 5 (getD r (from + i) 0)) l ∙ ap (λ (x : List ℕ). x ++ ds) q ∙ sym (more i h))
+      rw e (region-grow a (5 * i) 5 ds w (length-digitsOf 3 5 (getD r (from + i) 0)) l ∙ ap (λ (x : List ℕ). x ++ ds) q ∙ sym (more i h))
 
   pub groups-end : (w : List ℕ) (i m : ℕ) → length r ≤ from + i → m ≤ 5 * i → region a (5 * i) w ≡ groups (take i (drop from r))
       → region a m w ≡ take m (groups (drop from r))

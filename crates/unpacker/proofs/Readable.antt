@@ -1,41 +1,25 @@
 -- Whether a payload is as it is laid out: padding bits and fill labels are 0, groups fit. Assumes nothing.
 --
---   below-next, below-stop, below-end   a bound over the entries from a place on, entry by entry
---   bits-next, bits-stop, bits-end   the same for the bits up to a place, all 0
+--   bits-next, bits-stop, bits-end   the bits from a place up to another are all 0, bit by bit
 --   length-bits, length-labels   how many bits and labels the bytes hold
 --   readable-one, readable-two   what makes a record of kind 1, and of kind 2, readable
 use Prim.Native.Nat.{ℕ, _+_, _-_, _*_, _/_, _≤_, _<_}
-use native.Mathlib.Numerals.{add-one}
 use native.Mathlib.Omega.{arith}
 use mathlib.Core.Path.{_≡_, sym, ap, _∙_}
 use mathlib.Core.Logic.{_≢_}
 use mathlib.Core.Bool.{true, false, _&&_}
 use mathlib.Core.List.{List, _++_}
-use lib.ListN.{length, getD, take, drop, length-drop, take-append-drop, drop-of-length-le}
-use lib.Seq.{take-all, take-at, take-add, drop-at, drop-drop, drop-cons, length-take-le, getD-take}
-use borrow.Author.Tests.{lt-ltb, le-ltb, ne-eqb}
+use lib.ListN.{length, getD, take, drop, length-drop, take-append-drop}
+use lib.Seq.{take-all, take-at, take-add, drop-at, drop-drop, length-take-le, getD-take}
+use borrow.Author.Tests.{ne-eqb}
 use Rattle.model.specs.Numbers.{allBelow}
+use Rattle.model.proofs.Below.{below-next, below-stop, below-end}
 use Rattle.packing.specs.Unpack.{bits, groups}
 use Rattle.packing.specs.Unlay.{payloadClean, readable}
 use Rattle.packing.proofs.Packed.{length-unpack, unpack-append, unpack-drop}
 use Rattle.bits.specs.Places.{labelsFrom}
 use Rattle.unpacker.specs.Unpacked.{Head}
 use Rattle.unpacker.proofs.Payload.{sizes}
-
--- ---- a bound, entry by entry
-
-module _ (b : ℕ) (xs : List ℕ) (k : ℕ) where
-  pub below-next : k < length xs → getD xs k 0 < b → allBelow b (drop k xs) ≡ allBelow b (drop (k + 1) xs)
-  unfolding allBelow
-  below-next h l = rw (add-one, drop-cons xs k 0 h) (simp (lt-ltb _ _ l))
-
-  pub below-stop : k < length xs → b ≤ getD xs k 0 → allBelow b (drop k xs) ≡ false
-  unfolding allBelow
-  below-stop h l = rw (drop-cons xs k 0 h) (simp (le-ltb _ _ l))
-
-pub below-end : (b : ℕ) (xs : List ℕ) (k : ℕ) → length xs ≤ k → allBelow b (drop k xs) ≡ true
-unfolding allBelow
-below-end b xs k h = rw (drop-of-length-le xs h)
 
 -- ---- bits and labels of bytes
 

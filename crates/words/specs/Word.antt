@@ -2,20 +2,32 @@
 --
 --   nested n here below opens w   the word w goes on well from this state: n vertices entered, `here` the present one, `below` those that it hangs from,
 --                         `opens` the vertices where edges outside the tree are open, the last opened first
+--   startsUp w            w begins with up
 --   bareLeaf w            some vertex but the root has degree one: a down stands right before an up
---   rootDegree n w        how many darts the root has, where the traversal stands n tree edges below it
+--   rootDegree n w        how many darts the root has, where the traversal stands n tree edges below it; `atRoot` counts one there, `pred n` is n - 1
 --   valid k w             w is the word of a plan that is fit for kind k
 --   startsSecond w        1 if w begins with second, else 0
+--   head, tail            the first entry of a list, 0 if there is none; the others
 --   Ends, ends w          the labels of the edges that w opens, and those of the edges that it ends without opening them, tree and others
+--   endsOne l w rest      the same for the letter l before w, from those of w
 --   wordLabels w          the labels; a star is 2
 --   wordBits b w          the tree bits, where b says that the letter before w is down
 --   wordDarts             the standard dart at each place, from stacks of open tree edges and of other open edges
+--   placeOf l x           the dart whose entry comes after x, which has the letter l
+--   link, rotationOf w    the entries, dart by dart; the rotation
 --   planOf w              the standard plan
 --   Found                 a word or none
+--   after ls r            the letters ls before what is found
 --   Machine, Turn         the state of the reading machine, and what one turn of it does
+--   closed, risen, leafed, backed, entered   the state after an edge outside the tree ended, after going up, after a leaf, after an edge outside the
+--                         tree began, after going down
+--   closeEdge, finish, goUp, goDown, readBit   the turns: an edge outside the tree ends; no bit is left; 0 is read; 1 is read; one of these three
 --   turn s                one turn: tree bits and labels are read in step
+--   follow go t           the letters of the turn t before the word that `go` reads from there on
 --   decode f s            the word that the machine reads in at most f turns
---   decodeWord k          the same for the tree bits and labels of kind k
+--   start bits labels     the state at the beginning
+--   checkRoot k r         what is found, unless the root has degree one in kind 1
+--   decodeWord k          the word for the tree bits and labels of kind k
 use Prim.Native.Nat.{ℕ, zero, suc, _+_, _*_}
 use mathlib.Core.Bool.{Bool, true, false, not, _&&_, _||_, cond}
 use mathlib.Core.List.{List, [], _∷_, _++_}
@@ -173,21 +185,80 @@ pub data Turn : Type 0 where
   done stuck : Turn
   goes : List Letter → Machine → Turn
 
+-- the state after each turn; `bits` and `labels` are what is still to be read then
+
+abbrev pub closed : Machine → List ℕ → Machine
+closed s opens = record {
+  n = s .n;
+  here = s .here;
+  below = s .below;
+  ups = s .ups;
+  opens = opens;
+  seconds = tail (s .seconds);
+  label = head (s .seconds);
+  bits = s .bits;
+  labels = s .labels;
+}
+
+abbrev pub risen : Machine → ℕ → List ℕ → List ℕ → Machine
+risen s here below bits = record {
+  n = s .n;
+  here = here;
+  below = below;
+  ups = tail (s .ups);
+  opens = s .opens;
+  seconds = s .seconds;
+  label = head (s .ups);
+  bits = bits;
+  labels = s .labels;
+}
+
+-- b is the leaf's saved label
+abbrev pub leafed : Machine → ℕ → List ℕ → List ℕ → Machine
+leafed s b bits labels = record {
+  n = suc (s .n);
+  here = s .here;
+  below = s .below;
+  ups = s .ups;
+  opens = s .opens;
+  seconds = s .seconds;
+  label = b;
+  bits = bits;
+  labels = labels;
+}
+
+-- l is the edge's label, here and in `entered`
+abbrev pub backed : Machine → ℕ → List ℕ → List ℕ → Machine
+backed s l bits labels = record {
+  n = s .n;
+  here = s .here;
+  below = s .below;
+  ups = s .ups;
+  opens = s .here ∷ s .opens;
+  seconds = l ∷ s .seconds;
+  label = 0;
+  bits = bits;
+  labels = labels;
+}
+
+abbrev pub entered : Machine → ℕ → List ℕ → List ℕ → Machine
+entered s l bits labels = record {
+  n = suc (s .n);
+  here = s .n;
+  below = s .here ∷ s .below;
+  ups = l ∷ s .ups;
+  opens = s .opens;
+  seconds = s .seconds;
+  label = 0;
+  bits = bits;
+  labels = labels;
+}
+
 -- an edge of label 1 has ended: the last open edge outside the tree ends too, at a proper ancestor of where it began
 unfoldable pub closeEdge : Machine → List ℕ → Turn
 closeEdge s [] = stuck
 closeEdge s (o ∷ os) = cond (ltb (s .here) o)
-    (goes (second ∷ []) (record {
-      n = s .n;
-      here = s .here;
-      below = s .below;
-      ups = s .ups;
-      opens = os;
-      seconds = tail (s .seconds);
-      label = head (s .seconds);
-      bits = s .bits;
-      labels = s .labels;
-    }))
+    (goes (second ∷ []) (closed s os))
     stuck
 
 -- nothing is open and nothing is left
@@ -199,57 +270,17 @@ finish (v ∷ vs) opens labels = stuck
 
 unfoldable pub goUp : Machine → List ℕ → List ℕ → Turn
 goUp s bits [] = stuck
-goUp s bits (v ∷ vs) = goes (up ∷ []) (record {
-  n = s .n;
-  here = v;
-  below = vs;
-  ups = tail (s .ups);
-  opens = s .opens;
-  seconds = s .seconds;
-  label = head (s .ups);
-  bits = bits;
-  labels = s .labels;
-})
+goUp s bits (v ∷ vs) = goes (up ∷ []) (risen s v vs bits)
 
 -- a star is a leaf, and the bit b after it its saved label; else b is 0 where the edge is no tree edge
 unfoldable pub goDown : Machine → List ℕ → List ℕ → Turn
 goDown s [] labels = stuck
 goDown s (b ∷ bs) [] = stuck
 goDown s (b ∷ bs) (l ∷ ls) = cond (eqb l star)
-    (goes (down ∷ up ∷ []) (record {
-      n = suc (s .n);
-      here = s .here;
-      below = s .below;
-      ups = s .ups;
-      opens = s .opens;
-      seconds = s .seconds;
-      label = b;
-      bits = bs;
-      labels = ls;
-    }))
+    (goes (down ∷ up ∷ []) (leafed s b bs ls))
     (cond (eqb b 0)
-    (goes (first ∷ []) (record {
-      n = s .n;
-      here = s .here;
-      below = s .below;
-      ups = s .ups;
-      opens = s .here ∷ s .opens;
-      seconds = l ∷ s .seconds;
-      label = 0;
-      bits = bs;
-      labels = ls;
-    }))
-    (goes (down ∷ []) (record {
-      n = suc (s .n);
-      here = s .n;
-      below = s .here ∷ s .below;
-      ups = l ∷ s .ups;
-      opens = s .opens;
-      seconds = s .seconds;
-      label = 0;
-      bits = b ∷ bs;
-      labels = ls;
-    })))
+    (goes (first ∷ []) (backed s l bs ls))
+    (goes (down ∷ []) (entered s l (b ∷ bs) ls)))
 
 -- 0: up; 1: down, with the next label
 unfoldable pub readBit : Machine → List ℕ → Turn

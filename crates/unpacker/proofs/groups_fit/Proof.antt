@@ -4,7 +4,7 @@ use mathlib.Core.Path.{_≡_, refl, sym, _∙_}
 use native.Mathlib.Omega.{arith}
 use lib.ListN.{length, drop}
 use Rattle.model.specs.Numbers.{allBelow}
-use Rattle.unpacker.proofs.Readable.{below-next, below-stop, below-end}
+use Rattle.model.proofs.Below.{below-next, below-stop, below-end}
 use borrow.Author.Needs.{needs}
 use Rattle.unpacker.proofs.groups_fit.Statement.{statement}
 use Rattle.unpacker.proofs.groups_fit.Tie as tie

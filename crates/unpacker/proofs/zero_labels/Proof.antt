@@ -5,7 +5,8 @@ use native.Mathlib.Omega.{arith}
 use lib.ListN.{length, drop}
 use Rattle.model.specs.Numbers.{allBelow}
 use Rattle.bits.specs.Places.{labelsFrom}
-use Rattle.unpacker.proofs.Readable.{below-next, below-stop, below-end, length-labels}
+use Rattle.model.proofs.Below.{below-next, below-stop, below-end}
+use Rattle.unpacker.proofs.Readable.{length-labels}
 use borrow.Author.Needs.{needs}
 use Rattle.unpacker.proofs.zero_labels.Statement.{statement}
 use Rattle.unpacker.proofs.zero_labels.Tie as tie
