@@ -5,10 +5,10 @@
 --   next, stop-big, stop-seen, end   one turn of the loop
 use mathlib.Core.Path.{_≡_, refl, sym, _∙_, subst}
 use mathlib.Core.Logic.{_⊎_, inl, inr, _≢_, ⊎-elim}
-use mathlib.Core.Bool.{Bool, true, false, not, _&&_, cond, false≢true, true≢false}
+use mathlib.Core.Bool.{Bool, true, false, not, _&&_, false≢true, true≢false}
 use mathlib.Core.List.{List, [], _∷_}
-use Prim.Native.Nat.{ℕ, zero, suc, _+_, _≤_, _<_}
-use native.Mathlib.Nat.{not-suc-le-zero, le-of-suc-le-suc, suc-ne-zero, lt-of-lt-of-le}
+use Prim.Native.Nat.{ℕ, suc, _+_, _≤_, _<_}
+use native.Mathlib.Nat.{suc-ne-zero, lt-of-lt-of-le}
 use native.Mathlib.Decide.{ℕ-discrete}
 use native.Mathlib.Omega.{arith}
 use native.Mathlib.Numerals.{add-one}
@@ -19,29 +19,7 @@ use borrow.Author.Tests.{ltb-true, lt-ltb, le-ltb, eqb-true, eq-eqb, ne-eqb, not
 use Rattle.model.specs.Numbers.{elem, distinct, allBelow, isPermutation}
 use Rattle.model.proofs.Booleans.{and-left, and-right, both, bool-ext}
 use Rattle.model.proofs.Fitness.{below-all}
-
--- ---- entries of a list
-
-elem-at : (x : ℕ) (xs : List ℕ) → elem x xs ≡ true → (k : ℕ) × (k < length xs) × (getD xs k 0 ≡ x)
-unfolding elem
-elem-at x [] e = absurd (false≢true e)
-elem-at x (y ∷ ys) e = go (eqb x y) refl e (elem-at x ys)
-  where
-    -- the value, its equation, what `e` computes to at the value, and the recursive call
-    go : (b : Bool) → eqb x y ≡ b → cond b true (elem x ys) ≡ true → (elem x ys ≡ true → (k : ℕ) × (k < length ys) × (getD ys k 0 ≡ x))
-        → (k : ℕ) × (k < length (y ∷ ys)) × (getD (y ∷ ys) k 0 ≡ x)
-    go true t e′ ih = (0, omega arith, sym (eqb-true x y t))
-    go false t e′ ih = let r = ih e′ in (suc (r .0), omega arith, r .2)
-
-at-elem : (x : ℕ) (xs : List ℕ) (k : ℕ) → k < length xs → getD xs k 0 ≡ x → elem x xs ≡ true
-unfolding elem
-at-elem x [] k h e = absurd (not-suc-le-zero h)
-at-elem x (y ∷ ys) zero h e = simp (eq-eqb x y (sym e))
-at-elem x (y ∷ ys) (suc k) h e = go (eqb x y) (at-elem x ys k (le-of-suc-le-suc h) e)
-  where
-    go : (b : Bool) → elem x ys ≡ true → cond b true (elem x ys) ≡ true
-    go true i = refl
-    go false i = i
+use Rattle.model.proofs.Permutations.{elem-at, at-elem}
 
 same-or-not : (a b : ℕ) → (a ≡ b) ⊎ (a ≢ b)
 same-or-not a b = go (ℕ-discrete a b)

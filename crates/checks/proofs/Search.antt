@@ -2,8 +2,8 @@
 --
 --   NoneBelow f i        no number below i passes the test f
 --   none-more            nor any below i + 1, if i does not pass
---   some-here            one that passes is found
 --   some-none            none below n: the search fails
+--   opposite-even        an even dart and the one after it are opposite
 --   loopAt names d       dart d has the name of its opposite
 --   loop-pair            in a search for loops, a pair of darts that is no loop
 --   even-below, found, none-found   the ways of that search
@@ -11,13 +11,14 @@ use Prim.Native.Nat.{ℕ, zero, suc, _+_, _%_, _≤_, _<_}
 use native.Mathlib.Omega.{arith}
 use native.Mathlib.Decide.{ℕ-discrete}
 use mathlib.Core.Path.{_≡_, refl, sym, ap, _∙_}
-use mathlib.Core.Bool.{Bool, true, false, _||_}
+use mathlib.Core.Bool.{Bool, true, false}
 use mathlib.Core.List.{List}
 use lib.Dec.{eqb}
 use lib.ListN.{getD}
 use borrow.Author.Tests.{eq-eqb, ne-eqb}
 use Rattle.model.specs.Numbers.{some}
 use Rattle.model.specs.Map.{opposite}
+use Rattle.model.proofs.Booleans.{some-in}
 use Rattle.checks.specs.Checks.{loopIn}
 
 abbrev pub NoneBelow : (ℕ → Bool) → ℕ → Type 0
@@ -30,25 +31,11 @@ none-more f i none e j h = go (ℕ-discrete j i)
     go (yes q) = ap f q ∙ e
     go (no q) = none j (omega arith)
 
-or-right : (a b : Bool) → b ≡ true → (a || b) ≡ true
-or-right true b e = refl
-or-right false b e = e
-
-pub some-here : (f : ℕ → Bool) (n i : ℕ) → i < n → f i ≡ true → some f n ≡ true
-unfolding some
-some-here f zero i h e = absurd (omega arith)
-some-here f (suc n) i h e = go (ℕ-discrete i n) (some-here f n i)
-  where
-    go : Dec (i ≡ n) → (i < n → f i ≡ true → some f n ≡ true) → (f n || some f n) ≡ true
-    go (yes q) r = rw (ap f (sym q) ∙ e)
-    go (no q) r = or-right (f n) (some f n) (r (omega arith) e)
-
 pub some-none : (f : ℕ → Bool) (n : ℕ) → NoneBelow f n → some f n ≡ false
 unfolding some
 some-none f zero none = refl
 some-none f (suc n) none = rw (none n (omega arith), some-none f n (λ j h. none j (omega arith)))
 
--- an even dart and the one after it are opposite
 pub opposite-even : (d : ℕ) → d % 2 ≡ 0 → (opposite d ≡ d + 1) × (opposite (d + 1) ≡ d)
 unfolding opposite
 opposite-even d e = (omega arith, omega arith)
@@ -70,7 +57,7 @@ even-below n d h e f = omega arith
 
 pub found : (names : List ℕ) (n d : ℕ) → d < n → d % 2 ≡ 0 → getD names d 0 ≡ getD names (d + 1) 0 → true ≡ loopIn names n
 unfolding loopIn
-found names n d h e q = sym (some-here (loopAt names) n d h (rw (opposite-even d e .0) (eq-eqb (getD names d 0) (getD names (d + 1) 0) q)))
+found names n d h e q = sym (some-in (loopAt names) n d h (rw (opposite-even d e .0) (eq-eqb (getD names d 0) (getD names (d + 1) 0) q)))
 
 pub none-found : (names : List ℕ) (n d : ℕ) → n ≤ d → NoneBelow (loopAt names) d → false ≡ loopIn names n
 unfolding loopIn

@@ -11,13 +11,14 @@ use mathlib.Core.Path.{_≡_, refl, sym, ap, _∙_}
 use mathlib.Core.Logic.{_≢_}
 use mathlib.Core.Bool.{Bool, true, false}
 use mathlib.Core.List.{List}
-use Prim.Native.Nat.{ℕ, zero, suc, _+_, _≤_, _<_}
+use Prim.Native.Nat.{ℕ, suc, _+_, _≤_, _<_}
 use native.Mathlib.Omega.{arith}
 use native.Mathlib.Numerals.{add-one}
 use lib.ListN.{length, getD, replicate}
 use borrow.Author.Tests.{eq-eqb, ne-eqb}
-use Rattle.model.specs.Numbers.{tick, count, least, isLeast, cycles}
+use Rattle.model.specs.Numbers.{count, least, isLeast, cycles}
 use Rattle.orbits.specs.Permutation.{Perm}
+use Rattle.orbits.proofs.Tally.{count-le}
 use Rattle.areas.specs.Area.{region, placed}
 use Rattle.areas.proofs.Regions.{region-placed, getD-placed, placed-placed}
 use Rattle.cycles.specs.Cycles.{unnamed, namesBelow, Labelled}
@@ -26,15 +27,6 @@ use Rattle.cycles.proofs.Naming.{length-names, names-none, names-skip, 
 pub record Half (f : ℕ → ℕ) (n a : ℕ) (w₀ : List ℕ) (d c : ℕ) (w : List ℕ) : Type 0 where
   pub counted : c ≡ count (isLeast f n) d
   pub names : w ≡ placed a (namesBelow f n d) w₀
-
-count-le : (p : ℕ → Bool) (d : ℕ) → count p d ≤ d
-unfolding count
-count-le p zero = omega arith
-count-le p (suc d) = tick-le (p d) (count-le p d)
-  where
-    tick-le : (b : Bool) → count p d ≤ d → tick b (count p d) ≤ suc d
-    tick-le true h = omega arith
-    tick-le false h = omega arith
 
 -- one dart more
 count-in : (p : ℕ → Bool) (d : ℕ) → p d ≡ true → suc (count p d) ≡ count p (d + 1)

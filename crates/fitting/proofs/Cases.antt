@@ -5,7 +5,8 @@
 --   counted              the characteristic from the counts of vertices and faces
 --   looped, dead-end, no-dead-end, other-kind   the ways of refusals 11 and 12
 --   named, room-kept, room-local, surveyed   what naming the vertices and walking leave
---   parted, curved, flat the verdict of each way; still-named: the names, after the faces are counted
+--   parted, curved, flat the verdict of each way
+--   still-named          the names, after the faces are counted
 use Prim.Native.Nat.{ℕ, zero, suc, _+_, _*_, _/_, _≤_, _<_}
 use native.Mathlib.Nat.{zero-add, suc-ne-zero}
 use native.Mathlib.Omega.{arith}
@@ -16,12 +17,13 @@ use lib.IntN.{ℤ, pos, _+ℤ_, _-ℤ_}
 use lib.ListN.{length, getD}
 use lib.Dec.{eqb}
 use borrow.Author.Tests.{eq-eqb, ne-eqb}
-use Rattle.model.specs.Numbers.{some, tick, count, least, isLeast, cycles, firstRefusal, isPermutation}
+use Rattle.model.specs.Numbers.{some, least, isLeast, cycles, firstRefusal, isPermutation}
 use Rattle.model.specs.Map.{Plan, darts, edges, next, faceNext, vertexOf, vertices, faces, opposite, connected, planar, characteristic, is, hasLoop, hasDegreeOne, degreeRefused, dartCountFits}
 use Rattle.model.specs.Traversal.{code, visits, word}
 use Rattle.model.specs.Calls.{lateRefusals}
 use Rattle.model.proofs.Booleans.{not-intro}
 use Rattle.model.proofs.Fitness.{opposite-bound, count-parts}
+use Rattle.orbits.proofs.Tally.{count-le}
 use Rattle.traversal.proofs.Complete.{connected-long, long-connected}
 use Rattle.areas.specs.Area.{region, tabulate}
 use Rattle.areas.proofs.Regions.{getD-region, getD-tabulate, length-tabulate, region-placed}
@@ -54,15 +56,6 @@ module _ (rot w : List ℕ) (fits : dartCountFits (length rot) ≡ true) (names 
       rw (name-at d h, name-at (opposite d) (opposite-bound (length rot) d (count-parts (length rot) fits .1) h)))
 
 -- ---- the characteristic from the counts
-
-count-le : (f : ℕ → Bool) (n : ℕ) → count f n ≤ n
-unfolding count
-count-le f zero = omega arith
-count-le f (suc n) = go (f n) (count-le f n)
-  where
-    go : (b : Bool) → count f n ≤ n → tick b (count f n) ≤ suc n
-    go true h = omega arith
-    go false h = omega arith
 
 -- there are at most as many cycles as darts
 pub few : (f : ℕ → ℕ) (n c : ℕ) → n ≤ 8192 → c ≡ cycles f n → c ≤ 8192

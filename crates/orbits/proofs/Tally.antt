@@ -4,6 +4,7 @@
 --   count-mono, count-tight a stronger test counts less, strictly less unless the tests agree
 --   count-grows, count-below   a count up to a later number is no less, and is more where one that passes lies between
 --   count-ext               tests that agree have one count
+--   count-all, count-le     there are n numbers below n, and no more that pass a test
 --   count-either            two tests that never pass together
 --   tick-suc                ticks commute
 --   except, except-in, except-l, except-ne, count-except   a test but for one number
@@ -91,6 +92,16 @@ pub count-ext : (f g : ℕ → Bool) (n : ℕ) → ((i : ℕ) → i < n → f i 
 unfolding count
 count-ext f g zero h = refl
 count-ext f g (suc n) h = ap₂ tick (h n (lt-suc-self n)) (count-ext f g n (λ i p. h i (le-step p)))
+
+pub count-all : (n : ℕ) → count (λ i. true) n ≡ n
+unfolding count
+count-all zero = refl
+count-all (suc n) = ap suc (count-all n)
+
+pub count-le : (f : ℕ → Bool) (n : ℕ) → count f n ≤ n
+unfolding count
+count-le f zero = zero-le
+count-le f (suc n) = let ih = count-le f n in tick-le (f n) (λ t. omega arith) (omega arith)
 
 -- ---- two tests that never pass together
 

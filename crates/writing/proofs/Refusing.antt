@@ -1,7 +1,8 @@
 -- Writing's refusals, the early ones before those of the plan itself.
 --
 --   refusal-split        writing's refusal is the early one, else the late one
---   two .. eight, passed the early refusals, test by test
+--   two, three, four, six, seven, eight, passed   the early refusals, test by test
+--   no-darts, odd-darts, many-darts, fit-darts   the count of darts, test by test
 --   Passed, early-parts  what a call that passes them is handed
 use Prim.Native.Nat.{ℕ, _*_, _%_, _≤_, _<_}
 use native.Mathlib.Omega.{arith}

@@ -4,7 +4,8 @@ use mathlib.Core.Path.{sym}
 use lib.ListN.{length}
 use borrow.Author.Tests.{eq-eqb, ne-eqb}
 use Rattle.model.specs.Map.{next, degreeOne, hasDegreeOne}
-use Rattle.checks.proofs.Search.{NoneBelow, none-more, some-here, some-none}
+use Rattle.model.proofs.Booleans.{some-in}
+use Rattle.checks.proofs.Search.{NoneBelow, none-more, some-none}
 use borrow.Author.Needs.{needs}
 use Rattle.checks.proofs.has_degree_one.Statement.{statement}
 use Rattle.checks.proofs.has_degree_one.Tie as tie
@@ -31,7 +32,7 @@ returns : tie.Need-returns Inv-loop μ-loop
 unfolding hasDegreeOne degreeOne next
 returns c = let at = c .before .before .before .loop in
     let order = c .before .before .before .before .args .order .now in
-    sym (some-here (degreeOne order) (length order) (at .d) (c .before .before .loop-test .taken) (eq-eqb _ _ (c .if1 .taken)))
+    sym (some-in (degreeOne order) (length order) (at .d) (c .before .before .loop-test .taken) (eq-eqb _ _ (c .if1 .taken)))
 
 add-d : tie.Need-add-d Inv-loop μ-loop
 add-d c = search needs
