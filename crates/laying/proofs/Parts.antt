@@ -5,20 +5,21 @@
 --   one-run, bits-run, labels-run   which entries of the work area are tree bits and labels
 --   all-one-run, all-bits-run, all-labels-run   they are small
 --   plain-placed, starred-placed   the payload, by its groups
---   kind-two, kind-bound   a kind but 1 is 2; the bound of the labels, by kind
+--   kind-two           a kind but 1 is 2
+--   plain-bound, starred-bound   the bound of the labels, by kind
 --   laid-out           head and payload are the record
 use Prim.Native.Nat.{ℕ, suc, _+_, _-_, _*_, _/_, _%_, _≤_}
 use native.Mathlib.Omega.{arith}
 use native.Mathlib.Numerals.{add-one}
-use mathlib.Core.Path.{_≡_, sym, ap, ap₂, _∙_, subst}
+use mathlib.Core.Path.{_≡_, sym, ap, ap₂, _∙_}
 use mathlib.Core.Logic.{_≢_}
 use mathlib.Core.Bool.{true}
 use mathlib.Core.List.{List, [], _∷_, _++_}
 use lib.ListN.{length, set, length-set}
-use borrow.Author.Tests.{ne-eqb, eqb-true}
+use borrow.Author.Tests.{eq-eqb, ne-eqb, eqb-true}
 use Rattle.model.specs.Numbers.{allBelow}
 use Rattle.model.specs.Map.{isKind}
-use Rattle.model.specs.Record.{pack, le16, bytesFor, recordLength, payload, layOut}
+use Rattle.model.specs.Record.{pack, le16, bytesFor, labelBase, recordLength, payload, layOut}
 use Rattle.model.proofs.Below.{below-append}
 use Rattle.areas.specs.Area.{region, placed}
 use Rattle.areas.proofs.Regions.{region-split, placed-none, placed-cons, placed-next, front-placed}
@@ -104,8 +105,13 @@ pub kind-two : (k : ℕ) → isKind k ≡ true → k ≢ 1 → k ≡ 2
 unfolding isKind
 kind-two k h e = eqb-true k 2 (rw (ne-eqb k 1 e) at h)
 
-pub kind-bound : (k j : ℕ) (xs : List ℕ) → k ≡ j → allBelow (1 + k) xs ≡ true → allBelow (1 + j) xs ≡ true
-kind-bound k j xs e h = subst (λ (b : ℕ). allBelow (1 + b) xs ≡ true) e h
+pub plain-bound : (k : ℕ) (xs : List ℕ) → k ≡ 1 → allBelow (labelBase k) xs ≡ true → allBelow 2 xs ≡ true
+unfolding labelBase
+plain-bound k xs e h = rw (eq-eqb k 1 e) at h
+
+pub starred-bound : (k : ℕ) (xs : List ℕ) → k ≢ 1 → allBelow (labelBase k) xs ≡ true → allBelow 3 xs ≡ true
+unfolding labelBase
+starred-bound k xs d h = rw (ne-eqb k 1 d) at h
 
 -- the payload is that of kind j, which is k
 pub laid-out : (k j m total : ℕ) (w out mid out′ : List ℕ) → k ≡ j → total ≡ recordLength k m → 1 ≤ m → m ≤ 4096 → recordLength k m ≤ length out

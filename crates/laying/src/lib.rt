@@ -6,7 +6,7 @@ ghost use Prim.Native.Nat.{_+_, _-_, _*_, _^_, _≤_, _<_};
 ghost use lib.ListN.{length, getD};
 ghost use Rattle.model.specs.Numbers.{allBelow};
 ghost use Rattle.model.specs.Map.{isKind};
-ghost use Rattle.model.specs.Record.{digits, pack, le16, payload, recordLength, bytesFor};
+ghost use Rattle.model.specs.Record.{digits, pack, le16, payload, recordLength, labelBase, bytesFor};
 ghost use Rattle.areas.specs.Area.{region, placed};
 ghost use Rattle.letters.specs.Letters.{bitsIn, labelsIn};
 ghost use Rattle.laying.specs.Laying.{LaidOut};
@@ -114,7 +114,7 @@ fn put_starred(w: &[u16], m: usize, out: &mut [u8])
 // The whole record, from tree bits and labels.
 pub fn lay_out(w: &[u16], kind: u16, m: usize, out: &mut [u8]) -> u16
     requires { ⌜ (isKind kind ≡ true) × (1 ≤ m) × (m ≤ 4096) × (32 * m ≤ length (now w)) × (recordLength kind m ≤ length (now out))
-        × (allBelow 2 (bitsIn (2 * m) (now w)) ≡ true) × (allBelow (1 + kind) (labelsIn (2 * m) (now w)) ≡ true) ⌝ }
+        × (allBelow 2 (bitsIn (2 * m) (now w)) ≡ true) × (allBelow (labelBase kind) (labelsIn (2 * m) (now w)) ≡ true) ⌝ }
     ensures { λ r. ⌜ LaidOut kind m (now (w .entry)) (now (out .entry)) r (now (out .exit)) ⌝ }
 {
     let edges = m as u16;

@@ -11,7 +11,8 @@ ghost use Rattle.letters.specs.Letters.{lettersIn};
 ghost use Rattle.payload.specs.Payload.{Put};
 ghost use Rattle.payload.specs.Passes.{downBefore, Scanned, Stepped};
 
-// 1 where second stands at position i of the word, 0 elsewhere and past its end.
+// 1 where second stands at position i of the word, 0 elsewhere and past its end. Every code but 1, 2 and 3 is that of second, so 0 too: no letter of a word
+// has it.
 fn second_at(w: &[u16], n: usize, i: usize) -> u16
     requires { ⌜ (i ≤ n) × (n ≤ 8192) × (16 * n ≤ length (now w)) ⌝ }
     ensures { λ r. ⌜ r ≡ startsSecond (drop i (lettersIn n (now (w .entry)))) ⌝ }

@@ -3,9 +3,9 @@
 --   valid-two            a word that is valid for a kind is valid for kind 2
 --   word-asked, bytes-asked   what the pass over the word and the laying out ask
 --   laid                 what they leave
-use Prim.Native.Nat.{ℕ, _+_, _*_, _/_, _%_, _≤_, _<_}
+use Prim.Native.Nat.{ℕ, _*_, _/_, _%_, _≤_, _<_}
 use native.Mathlib.Omega.{arith}
-use mathlib.Core.Path.{_≡_, refl, ap, subst, _∙_}
+use mathlib.Core.Path.{_≡_, ap, subst, _∙_}
 use mathlib.Core.Bool.{true, false, not, _&&_, _||_}
 use mathlib.Core.List.{List, []}
 use lib.Dec.{eqb}
@@ -24,7 +24,6 @@ use Rattle.letters.proofs.Word.{length-letters}
 use Rattle.letters.specs.Letters.{lettersIn, bitsIn, labelsIn}
 use Rattle.payload.specs.Payload.{Put}
 use Rattle.laying.specs.Laying.{LaidOut}
-use Rattle.packing.proofs.Head.{kind-cases}
 use Rattle.writing.specs.Early.{Ready, Laid}
 
 pub valid-two : (k : ℕ) (v : List Letter) → valid k v ≡ true → valid 2 v ≡ true
@@ -36,10 +35,6 @@ valid-two k v e =
       and-left (dartCountFits (length v)) (nested 1 0 [] [] v && not (eqb k 1 && (bareLeaf v || eqb (rootDegree 0 v) 1))) r,
       and-left (nested 1 0 [] [] v) (not (eqb k 1 && (bareLeaf v || eqb (rootDegree 0 v) 1))) s,
     )
-
-base : (k : ℕ) → isKind k ≡ true → labelBase k ≡ 1 + k
-unfolding labelBase
-base = kind-cases (λ (k : ℕ). labelBase k ≡ 1 + k) refl refl
 
 module _ (n k : ℕ) (w out : List ℕ) (r : Ready n k w out) where
   size : length (lettersIn n w) ≡ n
@@ -64,7 +59,7 @@ module _ (n k : ℕ) (w out : List ℕ) (r : Ready n k w out) where
 
   module _ (w₁ : List ℕ) (t : Put n w w₁) where
     pub bytes-asked : (isKind k ≡ true) × (1 ≤ n / 2) × (n / 2 ≤ 4096) × (32 * (n / 2) ≤ length w₁) × (recordLength k (n / 2) ≤ length out)
-        × (allBelow 2 (bitsIn (2 * (n / 2)) w₁) ≡ true) × (allBelow (1 + k) (labelsIn (2 * (n / 2)) w₁) ≡ true)
+        × (allBelow 2 (bitsIn (2 * (n / 2)) w₁) ≡ true) × (allBelow (labelBase k) (labelsIn (2 * (n / 2)) w₁) ≡ true)
     bytes-asked =
         let c = counts in
         let h = half in (
@@ -74,8 +69,8 @@ module _ (n k : ℕ) (w out : List ℕ) (r : Ready n k w out) where
           (let z = r .room in let e = t .kept in omega arith),
           r .space,
           ap (λ (m : ℕ). allBelow 2 (bitsIn m w₁)) h ∙ ap (allBelow 2) (t .bits) ∙ bits-below false (lettersIn n w),
-          ap (λ (m : ℕ). allBelow (1 + k) (labelsIn m w₁)) h ∙ ap (allBelow (1 + k)) (t .labels)
-              ∙ subst (λ (b : ℕ). allBelow b (wordLabels (lettersIn n w)) ≡ true) (base k (r .kind)) (labels-bound k (lettersIn n w) (r .proper)),
+          ap (λ (m : ℕ). allBelow (labelBase k) (labelsIn m w₁)) h ∙ ap (allBelow (labelBase k)) (t .labels)
+              ∙ labels-bound k (lettersIn n w) (r .proper),
         )
 
     pub laid : (answer : ℕ) (out′ : List ℕ) → LaidOut k (n / 2) w₁ out answer out′ → Laid n k w out answer w₁ out′

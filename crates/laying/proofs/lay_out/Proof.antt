@@ -1,7 +1,7 @@
 use native.Mathlib.Omega.{arith}
 use Rattle.packing.proofs.Head.{recordLength-range}
 use Rattle.heads.proofs.Head.{kind-one, kind-other}
-use Rattle.laying.proofs.Parts.{kind-two, kind-bound, laid-out}
+use Rattle.laying.proofs.Parts.{kind-two, plain-bound, starred-bound, laid-out}
 use borrow.Author.Needs.{needs}
 use Rattle.laying.proofs.lay_out.Statement.{statement}
 use Rattle.laying.proofs.lay_out.Tie as tie
@@ -35,7 +35,7 @@ put-plain-requires c κs =
     let e = c .before .if1 .taken in
     let l = kind-one (st .args .kind) (st .args .m) e in
     let k = c .before .before .before .before .put-head .kept .0 in
-    (pre .2, pre .3, omega (arith, pre), pre .5, kind-bound _ 1 _ e (pre .6))
+    (pre .2, pre .3, omega (arith, pre), pre .5, plain-bound _ _ e (pre .6))
 
 same-length : tie.Need-same-length
 same-length c = search needs
@@ -55,7 +55,7 @@ put-starred-requires c κs =
     let e = c .before .if1 .left in
     let l = kind-other (st .args .kind) (st .args .m) e in
     let k = c .before .before .before .before .put-head .kept .0 in
-    (pre .2, pre .3, omega (arith, pre), pre .5, kind-bound _ 2 _ (kind-two _ (pre .0) e) (pre .6))
+    (pre .2, pre .3, omega (arith, pre), pre .5, starred-bound _ _ e (pre .6))
 
 same-length-2 : tie.Need-same-length-2
 same-length-2 c = search needs
