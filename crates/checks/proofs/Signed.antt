@@ -2,6 +2,8 @@
 --
 --   small                a small number is its own signed value
 --   mag-add, mag-neg     bounds of a sum and of a negative
+--   sfits                a number with a small bound fits 32 bits
+--   less                 the bound of v - e
 --   fits-less, back-less, fits-all   v - e and v - e + f fit 32 bits
 --   bits-is, bits-not    a test of the bits is a test of the number
 use mathlib.Core.Path.{_≡_, refl, _∙_}

@@ -1,5 +1,6 @@
 -- What is left of the walk gives the answer.
 --
+--   plan rot root               the plan with this rotation and root
 --   lettersOf vs                the letters of visits, by number
 --   left rot root d i w         the letters of the walk from d on, i darts being met
 --   Started, started            a walk's area w, and w₁, the same with no dart met and no vertex seen

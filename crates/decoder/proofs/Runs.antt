@@ -1,6 +1,7 @@
 -- The loop of turns: the letters read so far and the run from here give the word, and the darts entered so far and those to come its rotation.
 -- Assumes nothing.
 --
+--   first-state, first-cursor   where the machine and its cursor begin
 --   Running               what the loop keeps
 --   left-is               how much is left to read, by the cursor and the stack
 --   running-start         so at the start

@@ -10,6 +10,7 @@
 --   Fits m w s c             and the cursor is
 --   Room m w s e             there is room for edge e and two darts
 --   Ready m bs w s c         a bit that is not 0 was read right before c
+--   lastOpen m w s, lastTree m w s   the edge opened last, of those outside the tree and of the tree
 --   closedState, risenState, leafedState, backedState, enteredState   the state after an edge outside the tree ended, after going up, after a leaf,
 --                            after an edge outside the tree began, after going down
 --   closedArea, risenArea, leafedArea, backedArea, enteredArea   the work area after these
