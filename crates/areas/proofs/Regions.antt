@@ -15,20 +15,18 @@
 --   region-grow                         entries placed just behind a region make it longer
 --   sets-placed                         a run of stores places the entries
 --   front-placed                        placing at 0 is `front`
---   length-tabulate, getD-tabulate      a table's length and entries
---   tabulate-ext, is-tabulate           tables with equal entries; a list with a table's entries
-use mathlib.Core.Path.{_≡_, refl, sym, ap, _∙_, subst}
+use mathlib.Core.Path.{_≡_, sym, ap, _∙_, subst}
 use mathlib.Core.List.{List, [], _∷_, _++_, append-assoc}
 use Prim.Native.Nat.{ℕ, zero, suc, _+_, _-_, _≤_, _<_}
-use native.Mathlib.Nat.{not-suc-le-zero, le-of-suc-le-suc, suc-add, add-suc, zero-add, add-zero, lt-of-not-le}
+use native.Mathlib.Nat.{suc-add, add-suc, zero-add, add-zero, lt-of-not-le}
 use native.Mathlib.Decide.{decLe}
 use native.Mathlib.Omega.{arith}
 use lib.ListN.{length, getD, set, take, drop, length-append, length-drop, length-set, List·getD-append, take-append-drop}
 use lib.Seq.{length-take-le, take-at, drop-at, take-take, take-add, drop-drop, drop-append-seam, getD-take, getD-drop}
-use lib.Seq.{set-append-left, set-append-seam, drop-cons, append-snoc, take-set-lt, take-set-le, drop-set-add, drop-set-lt, take-nil, ext-getD}
+use lib.Seq.{set-append-left, set-append-seam, drop-cons, append-snoc, take-set-lt, take-set-le, drop-set-add, drop-set-lt, take-nil}
 use lib.Seq.{sets, sets-eq, take-suc-set, getD-set-same, lt-length-set}
 use Rattle.model.specs.Calls.{front}
-use Rattle.areas.specs.Area.{region, placed, tabulate}
+use Rattle.areas.specs.Area.{region, placed}
 
 -- one of two cases
 le-or : {C : Type 0} (a b : ℕ) → (a ≤ b → C) → (b < a → C) → C
@@ -217,24 +215,3 @@ sets-placed xs w a h = sets-eq xs w a h ∙ append-assoc (take a w) xs (drop (a 
 pub front-placed : (xs w : List ℕ) → placed 0 xs w ≡ front xs w
 unfolding placed front
 front-placed xs w = ap (λ (k : ℕ). xs ++ drop k w) (zero-add (length xs))
-
--- ---- tables
-
-pub length-tabulate : (g : ℕ → ℕ) (s n : ℕ) → length (tabulate g s n) ≡ n
-unfolding tabulate
-length-tabulate g s zero = refl
-length-tabulate g s (suc n) = ap suc (length-tabulate g (suc s) n)
-
-pub getD-tabulate : (g : ℕ → ℕ) (s n i : ℕ) → i < n → getD (tabulate g s n) i 0 ≡ g (s + i)
-unfolding tabulate
-getD-tabulate g s zero i h = absurd (not-suc-le-zero h)
-getD-tabulate g s (suc n) zero h = ap g (sym (add-zero s))
-getD-tabulate g s (suc n) (suc i) h = getD-tabulate g (suc s) n i (le-of-suc-le-suc h) ∙ ap g (suc-add s i ∙ sym (add-suc s i))
-
-pub is-tabulate : (g : ℕ → ℕ) (s n : ℕ) (xs : List ℕ) → length xs ≡ n → ((i : ℕ) → i < n → getD xs i 0 ≡ g (s + i)) → xs ≡ tabulate g s n
-is-tabulate g s n xs e h =
-    ext-getD 0 xs (tabulate g s n) (e ∙ sym (length-tabulate g s n))
-    (λ i l. h i (omega arith) ∙ sym (getD-tabulate g s n i (omega arith)))
-
-pub tabulate-ext : (g h : ℕ → ℕ) (s n : ℕ) → ((i : ℕ) → i < n → g (s + i) ≡ h (s + i)) → tabulate g s n ≡ tabulate h s n
-tabulate-ext g h s n e = is-tabulate h s n (tabulate g s n) (length-tabulate g s n) (λ i l. getD-tabulate g s n i l ∙ e i l)

@@ -3,7 +3,6 @@
 --   region a n w         the n entries of w from place a on
 --   placed a xs w        w with the entries of xs from place a on
 --   stack a k w          the k entries of w from place a on, the last first
---   tabulate g i n       g i, g (i + 1), .., n of them
 use Prim.Native.Nat.{ℕ, zero, suc, _+_}
 use mathlib.Core.List.{List, [], _∷_, _++_}
 use lib.ListN.{length, getD, take, drop}
@@ -17,7 +16,3 @@ placed a xs w = take a w ++ (xs ++ drop (a + length xs) w)
 unfoldable pub stack : ℕ → ℕ → List ℕ → List ℕ
 stack a zero w = []
 stack a (suc k) w = getD w (a + k) 0 ∷ stack a k w
-
-unfoldable pub tabulate : (ℕ → ℕ) → ℕ → ℕ → List ℕ
-tabulate g i zero = []
-tabulate g i (suc n) = g i ∷ tabulate g (suc i) n

@@ -21,7 +21,8 @@ use Rattle.model.specs.Traversal.{Letter, down, up, first, second, code, letter
 use Rattle.model.proofs.Fitness.{opposite-bound, count-parts}
 use Rattle.orbits.proofs.Cycle.{least-le}
 use Rattle.areas.specs.Area.{region}
-use Rattle.areas.proofs.Regions.{getD-region, getD-tabulate, region-set, region-set-other, region-split}
+use Rattle.orbits.proofs.Table.{tabulate-at}
+use Rattle.areas.proofs.Regions.{getD-region, region-set, region-set-other, region-split}
 use Rattle.cycles.proofs.Steps.{next-perm}
 use Rattle.contour.specs.Steps.{Named, letterIn, Noted, Visited}
 
@@ -73,7 +74,7 @@ module _ (rot w : List ℕ) (named : Named rot w) (d : ℕ) (h : d < length rot)
   name-at =
       let z : 0 + d ≡ d = omega arith in
       ap (λ (k : ℕ). getD w k 0) (sym z) ∙ sym (getD-region 0 (length rot) w d h) ∙ ap (λ (r : List ℕ). getD r d 0) named
-      ∙ getD-tabulate (vertexOf rot) 0 (length rot) d h ∙ ap (vertexOf rot) z
+      ∙ tabulate-at (vertexOf rot) (length rot) d h
 
   pub name-bound : getD w d 0 < length rot
   unfolding vertexOf

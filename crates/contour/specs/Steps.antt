@@ -10,7 +10,8 @@ use mathlib.Core.List.{List, [], _∷_, _++_}
 use lib.ListN.{length, set}
 use Rattle.model.specs.Map.{vertexOf}
 use Rattle.model.specs.Traversal.{Letter, code, letterAt, onward, seenAfter}
-use Rattle.areas.specs.Area.{region, tabulate}
+use Rattle.orbits.specs.Table.{tabulate}
+use Rattle.areas.specs.Area.{region}
 
 abbrev pub Named : List ℕ → List ℕ → Type 0
 Named rot w = region 0 (length rot) w ≡ tabulate (vertexOf rot) 0 (length rot)

@@ -8,8 +8,10 @@ use Prim.Native.Nat.{ℕ, _+_, _≤_, _<_}
 use native.Mathlib.Omega.{arith}
 use lib.ListN.{length}
 use Rattle.model.specs.Numbers.{least}
-use Rattle.areas.specs.Area.{region, tabulate}
-use Rattle.areas.proofs.Regions.{length-placed, region-placed-other, length-tabulate}
+use Rattle.orbits.specs.Table.{tabulate}
+use Rattle.areas.specs.Area.{region}
+use Rattle.orbits.proofs.Table.{length-tabulate}
+use Rattle.areas.proofs.Regions.{length-placed, region-placed-other}
 use Rattle.cycles.specs.Cycles.{Labelled}
 
 module _ (f : ℕ → ℕ) (n a : ℕ) (w : List ℕ) (c : ℕ) (w′ : List ℕ) (fits : a + n ≤ length w) (s : Labelled f n a w c w′) where

@@ -22,8 +22,8 @@ use Rattle.model.specs.Numbers.{iter, least}
 use Rattle.orbits.specs.Permutation.{Perm}
 use Rattle.orbits.proofs.Order.{lt-or-le, eq-split}
 use Rattle.orbits.proofs.Cycle.{least-le, least-step, least-idem, same-reach}
-use Rattle.areas.specs.Area.{tabulate}
-use Rattle.areas.proofs.Regions.{length-tabulate, getD-tabulate, is-tabulate, tabulate-ext}
+use Rattle.orbits.specs.Table.{tabulate}
+use Rattle.orbits.proofs.Table.{length-tabulate, tabulate-at, is-tabulate, tabulate-ext}
 use Rattle.cycles.specs.Cycles.{unnamed, nameBelow, namesBelow}
 
 -- ---- unnamed entries
@@ -51,7 +51,7 @@ module _ (f : ℕ → ℕ) (n : ℕ) where
 
   pub getD-names : (d x : ℕ) → x < n → getD (namesBelow f n d) x 0 ≡ nameBelow f n d x
   unfolding namesBelow
-  getD-names d x h = getD-tabulate (nameBelow f n d) 0 n x h ∙ ap (nameBelow f n d) (zero-add x)
+  getD-names d x h = tabulate-at (nameBelow f n d) n x h
 
   pub length-names : (d : ℕ) → length (namesBelow f n d) ≡ n
   unfolding namesBelow

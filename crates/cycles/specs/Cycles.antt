@@ -14,7 +14,8 @@ use lib.Dec.{ltb}
 use lib.ListN.{length}
 use Rattle.model.specs.Numbers.{least, cycles, isPermutation}
 use Rattle.model.specs.Map.{next, faceNext, dartCountFits}
-use Rattle.areas.specs.Area.{region, placed, tabulate}
+use Rattle.orbits.specs.Table.{tabulate}
+use Rattle.areas.specs.Area.{region, placed}
 
 abbrev pub stepOf : List ℕ → Bool → ℕ → ℕ
 stepOf rot false = next rot

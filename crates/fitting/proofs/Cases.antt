@@ -8,13 +8,13 @@
 --   parted, curved, flat the verdict of each way
 --   still-named          the names, after the faces are counted
 use Prim.Native.Nat.{ℕ, zero, suc, _+_, _*_, _/_, _≤_, _<_}
-use native.Mathlib.Nat.{zero-add, suc-ne-zero}
+use native.Mathlib.Nat.{suc-ne-zero}
 use native.Mathlib.Omega.{arith}
 use mathlib.Core.Path.{_≡_, refl, sym, ap, subst, _∙_}
 use mathlib.Core.Bool.{Bool, true, false, _&&_, cond}
 use mathlib.Core.List.{List, map}
 use lib.IntN.{ℤ, pos, _+ℤ_, _-ℤ_}
-use lib.ListN.{length, getD}
+use lib.ListN.{length}
 use lib.Dec.{eqb}
 use borrow.Author.Tests.{eq-eqb, ne-eqb}
 use Rattle.model.specs.Numbers.{some, least, isLeast, cycles, firstRefusal, isPermutation}
@@ -25,12 +25,15 @@ use Rattle.model.proofs.Booleans.{not-intro}
 use Rattle.model.proofs.Fitness.{opposite-bound, count-parts}
 use Rattle.orbits.proofs.Tally.{count-le}
 use Rattle.traversal.proofs.Complete.{connected-long, long-connected}
-use Rattle.areas.specs.Area.{region, tabulate}
-use Rattle.areas.proofs.Regions.{getD-region, getD-tabulate, length-tabulate, region-placed}
+use Rattle.orbits.specs.Table.{tabulate}
+use Rattle.areas.specs.Area.{region}
+use Rattle.orbits.proofs.Table.{length-tabulate}
+use Rattle.areas.proofs.Regions.{region-placed}
 use Rattle.cycles.specs.Cycles.{Labelled}
 use Rattle.cycles.proofs.Labels.{labelled-length, labelled-other}
 use Rattle.contour.specs.Steps.{Named}
 use Rattle.contour.specs.Walked.{Walked}
+use Rattle.contour.proofs.Steps.{name-at}
 use Rattle.checks.specs.Checks.{loopIn}
 use Rattle.fitting.specs.declared.Survey.{Survey}
 use Rattle.fitting.specs.declared.Verdict.{Verdict}
@@ -44,16 +47,11 @@ unfolding some
 some-ext f g zero same = refl
 some-ext f g (suc n) same = rw (same n (omega arith), some-ext f g n (λ i h. same i (omega arith)))
 
-module _ (rot w : List ℕ) (fits : dartCountFits (length rot) ≡ true) (names : region 0 (length rot) w ≡ tabulate (vertexOf rot) 0 (length rot)) where
-  name-at : (d : ℕ) → d < length rot → getD w d 0 ≡ vertexOf rot d
-  name-at d h =
-      ap (λ (i : ℕ). getD w i 0) (sym (zero-add d)) ∙ sym (getD-region 0 (length rot) w d h) ∙ ap (λ (l : List ℕ). getD l d 0) names
-      ∙ getD-tabulate (vertexOf rot) 0 (length rot) d h ∙ ap (vertexOf rot) (zero-add d)
-
+module _ (rot w : List ℕ) (fits : dartCountFits (length rot) ≡ true) (names : Named rot w) where
   pub loop-names : loopIn w (length rot) ≡ hasLoop rot
   unfolding loopIn hasLoop
   loop-names = some-ext _ _ (length rot) (λ d h.
-      rw (name-at d h, name-at (opposite d) (opposite-bound (length rot) d (count-parts (length rot) fits .1) h)))
+      rw (name-at rot w names d h, name-at rot w names (opposite d) (opposite-bound (length rot) d (count-parts (length rot) fits .1) h)))
 
 -- ---- the characteristic from the counts
 

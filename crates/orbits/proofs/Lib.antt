@@ -13,3 +13,4 @@ pub mod Span
 pub mod Euler
 pub mod Maps
 pub mod Inverse
+pub mod Table

@@ -2,3 +2,4 @@ pub mod Permutation
 pub mod Chord
 pub mod Stack
 pub mod Tour
+pub mod Table

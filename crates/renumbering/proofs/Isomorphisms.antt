@@ -24,9 +24,10 @@ use Rattle.model.proofs.Opposite.{opposite-bound}
 use Rattle.orbits.specs.Permutation.{Perm}
 use Rattle.orbits.proofs.Order.{eq-split}
 use Rattle.orbits.proofs.Cycle.{least-step, least-keeps}
+use Rattle.orbits.proofs.Table.{length-tabulate, tabulate-at}
 use Rattle.orbits.proofs.Maps.{list-perm, perm-list, next-perm}
 use Rattle.renumbering.specs.Isomorphism.{Isomorphism, identityOf, inverseOf, composed}
-use Rattle.renumbering.proofs.Permutations.{of-list, length-tabulate, tabulate-at, identity-perm}
+use Rattle.renumbering.proofs.Permutations.{of-list, identity-perm}
 use Rattle.renumbering.proofs.Permutations.{length-inverse, inverse-bound, inverse-left, inverse-right, inverse-perm, composed-at, composed-perm}
 
 -- two tests of equality that agree
@@ -50,11 +51,11 @@ module _ {rot rot′ f : List ℕ} (iso : Isomorphism rot rot′ f) where
 module _ (rot : List ℕ) (two : length rot % 2 ≡ 0) (perm : isPermutation rot ≡ true) where
   pub identity-at : (d : ℕ) → d < length rot → getD (identityOf (length rot)) d 0 ≡ d
   unfolding identityOf
-  identity-at d h = tabulate-at (length rot) (λ d. d) d h
+  identity-at d h = tabulate-at (λ d. d) (length rot) d h
 
   length-identity : length (identityOf (length rot)) ≡ length rot
   unfolding identityOf
-  length-identity = length-tabulate (length rot) (λ d. d)
+  length-identity = length-tabulate (λ d. d) 0 (length rot)
 
   pub iso-identity : Isomorphism rot rot (identityOf (length rot))
   iso-identity = record {
@@ -121,7 +122,7 @@ module _ {rot rot′ rot″ f g : List ℕ} (two : length rot % 2 ≡ 0) (perm :
 
   length-composed : length (composed f g) ≡ length f
   unfolding composed
-  length-composed = length-tabulate (length f) (λ d. getD g (getD f d 0) 0)
+  length-composed = length-tabulate (λ d. getD g (getD f d 0) 0) 0 (length f)
 
   pub iso-composed : Isomorphism rot rot″ (composed f g)
   iso-composed = record {

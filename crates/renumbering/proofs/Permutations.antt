@@ -1,48 +1,35 @@
 -- Lists that are made of functions, and permutations as lists: inverse, identity, composition. Assumes nothing.
 --
 --   of-list f             a list as a function
---   length-tabulate, tabulate-at   a tabulated list has the values of its function
 --   tabulate-perm         a tabulated permutation passes isPermutation
 --   length-inverse, inverse-bound, inverse-perm   the inverse of a permutation is a permutation of the same size
 --   inverse-left, inverse-right   it undoes the permutation, both ways
 --   identity-perm         the identity is a permutation
 --   composed-at, composed-perm   two permutations one after the other are one
-use Prim.Native.Nat.{ℕ, zero, suc, _<_}
-use native.Mathlib.Nat.{not-suc-le-zero, le-of-suc-le-suc}
+use Prim.Native.Nat.{ℕ, _<_}
 use native.Mathlib.Omega.{arith}
-use mathlib.Core.Path.{_≡_, refl, sym, ap, _∙_}
+use mathlib.Core.Path.{_≡_, sym, ap, _∙_}
 use mathlib.Core.Bool.{true}
 use mathlib.Core.List.{List}
 use lib.ListN.{length, getD}
 use Rattle.model.specs.Numbers.{isPermutation, position}
 use Rattle.model.proofs.Permutations.{position-bound}
 use Rattle.orbits.specs.Permutation.{Perm}
+use Rattle.orbits.specs.Table.{tabulate}
+use Rattle.orbits.proofs.Table.{length-tabulate, tabulate-at}
 use Rattle.orbits.proofs.Maps.{list-perm, perm-list, onto}
-use Rattle.renumbering.specs.Isomorphism.{tabulate, identityOf, inverseOf, composed}
+use Rattle.renumbering.specs.Isomorphism.{identityOf, inverseOf, composed}
 
 abbrev pub of-list : List ℕ → ℕ → ℕ
 of-list f d = getD f d 0
 
--- ---- tabulated lists
-
-pub length-tabulate : (n : ℕ) (h : ℕ → ℕ) → length (tabulate n h) ≡ n
-unfolding tabulate
-length-tabulate zero h = refl
-length-tabulate (suc n) h = ap suc (length-tabulate n (λ k. h (suc k)))
-
-pub tabulate-at : (n : ℕ) (h : ℕ → ℕ) (k : ℕ) → k < n → getD (tabulate n h) k 0 ≡ h k
-unfolding tabulate
-tabulate-at zero h k l = absurd (not-suc-le-zero l)
-tabulate-at (suc n) h zero l = refl
-tabulate-at (suc n) h (suc k) l = tabulate-at n (λ k. h (suc k)) k (le-of-suc-le-suc l)
-
 -- a permutation, tabulated
-pub tabulate-perm : (n : ℕ) (h : ℕ → ℕ) → Perm n h → isPermutation (tabulate n h) ≡ true
+pub tabulate-perm : (n : ℕ) (h : ℕ → ℕ) → Perm n h → isPermutation (tabulate h 0 n) ≡ true
 tabulate-perm n h perm =
-    let same = length-tabulate n h in
-    perm-list (tabulate n h) (record {
-      bound = λ i hi. let b = perm .bound i (omega arith) in let e = tabulate-at n h i (omega arith) in omega arith;
-      inj = λ i j hi hj e. perm .inj i j (omega arith) (omega arith) (sym (tabulate-at n h i (omega arith)) ∙ e ∙ tabulate-at n h j (omega arith));
+    let same = length-tabulate h 0 n in
+    perm-list (tabulate h 0 n) (record {
+      bound = λ i hi. let b = perm .bound i (omega arith) in let e = tabulate-at h n i (omega arith) in omega arith;
+      inj = λ i j hi hj e. perm .inj i j (omega arith) (omega arith) (sym (tabulate-at h n i (omega arith)) ∙ e ∙ tabulate-at h n j (omega arith));
     })
 
 -- ---- the inverse
@@ -53,11 +40,11 @@ module _ (f : List ℕ) (e : isPermutation f ≡ true) where
 
   pub length-inverse : length (inverseOf f) ≡ length f
   unfolding inverseOf
-  length-inverse = length-tabulate (length f) (λ d. position d f)
+  length-inverse = length-tabulate (λ d. position d f) 0 (length f)
 
   inverse-at : (d : ℕ) → d < length f → getD (inverseOf f) d 0 ≡ position d f
   unfolding inverseOf
-  inverse-at d h = tabulate-at (length f) (λ d. position d f) d h
+  inverse-at d h = tabulate-at (λ d. position d f) (length f) d h
 
   pub inverse-bound : (d : ℕ) → d < length f → getD (inverseOf f) d 0 < length f
   inverse-bound d h = let b = position-in d h .0 in omega (arith, inverse-at d h)
@@ -86,7 +73,7 @@ identity-perm n = tabulate-perm n (λ d. d) (record { bound = λ i h. h; inj = �
 module _ (f g : List ℕ) (same : length f ≡ length g) (perm-f : isPermutation f ≡ true) (perm-g : isPermutation g ≡ true) where
   pub composed-at : (d : ℕ) → d < length f → getD (composed f g) d 0 ≡ getD g (getD f d 0) 0
   unfolding composed
-  composed-at d h = tabulate-at (length f) (λ d. getD g (getD f d 0) 0) d h
+  composed-at d h = tabulate-at (λ d. getD g (getD f d 0) 0) (length f) d h
 
   pub composed-perm : isPermutation (composed f g) ≡ true
   unfolding composed

@@ -1,17 +1,17 @@
 -- Isomorphisms of maps without roots, and the lists that make them.
 --
 --   Isomorphism rot rot′ f   f carries the map with rotation rot to the one with rotation rot′
---   tabulate n h          the list h 0, h 1, .., of length n
 --   identityOf n          each dart below n is its own partner
 --   inverseOf f           partners the other way round
 --   composed f g          the partner in g of the partner in f
-use Prim.Native.Nat.{ℕ, zero, suc, _<_}
+use Prim.Native.Nat.{ℕ, _<_}
 use mathlib.Core.Path.{_≡_}
 use mathlib.Core.Bool.{true}
-use mathlib.Core.List.{List, [], _∷_}
+use mathlib.Core.List.{List}
 use lib.ListN.{length, getD}
 use Rattle.model.specs.Numbers.{isPermutation, position}
 use Rattle.model.specs.Map.{opposite, next}
+use Rattle.orbits.specs.Table.{tabulate}
 
 -- a renumbering but for the roots
 pub record Isomorphism (rot rot′ f : List ℕ) : Type 0 where
@@ -21,15 +21,11 @@ pub record Isomorphism (rot rot′ f : List ℕ) : Type 0 where
   pub opposites : (d : ℕ) → d < length rot → getD f (opposite d) 0 ≡ opposite (getD f d 0)
   pub rotations : (d : ℕ) → d < length rot → getD f (next rot d) 0 ≡ next rot′ (getD f d 0)
 
-unfoldable pub tabulate : ℕ → (ℕ → ℕ) → List ℕ
-tabulate zero h = []
-tabulate (suc n) h = h zero ∷ tabulate n (λ k. h (suc k))
-
 unfoldable pub identityOf : ℕ → List ℕ
-identityOf n = tabulate n (λ d. d)
+identityOf n = tabulate (λ d. d) 0 n
 
 unfoldable pub inverseOf : List ℕ → List ℕ
-inverseOf f = tabulate (length f) (λ d. position d f)
+inverseOf f = tabulate (λ d. position d f) 0 (length f)
 
 unfoldable pub composed : List ℕ → List ℕ → List ℕ
-composed f g = tabulate (length f) (λ d. getD g (getD f d 0) 0)
+composed f g = tabulate (λ d. getD g (getD f d 0) 0) 0 (length f)
