@@ -5,9 +5,6 @@ use Rattle.decoder.proofs.Moves.{empty}
 use borrow.Author.Needs.{needs}
 use Rattle.decoder.proofs.close.Statement.{statement}
 use Rattle.decoder.proofs.close.Tie as tie
-use Rattle.decoder.proofs.close.Reads as reads
-use Rattle.decoder.proofs.close.Lts as lts
-use Rattle.decoder.proofs.close_last.Reads as close-last-reads
 
 returns : tie.Need-returns
 unfolding Turned

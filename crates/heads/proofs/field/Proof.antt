@@ -4,8 +4,6 @@ use Rattle.heads.proofs.Head.{field-value}
 use borrow.Author.Needs.{needs}
 use Rattle.heads.proofs.field.Statement.{statement}
 use Rattle.heads.proofs.field.Tie as tie
-use Rattle.heads.proofs.field.Reads as reads
-use Rattle.heads.proofs.field.Lts as lts
 
 add-j : tie.Need-add-j
 add-j c = search needs

@@ -5,11 +5,6 @@ use Rattle.heads.proofs.Head.{refuse-short, refuse-length, refuse-kind,
 use borrow.Author.Needs.{needs}
 use Rattle.heads.proofs.head_refusal.Statement.{statement}
 use Rattle.heads.proofs.head_refusal.Tie as tie
-use Rattle.heads.proofs.head_refusal.Reads as reads
-use Rattle.heads.proofs.head_refusal.Lts as lts
-use Rattle.heads.proofs.field.Reads as field-reads
-use Rattle.heads.proofs.is_kind.Reads as is-kind-reads
-use Rattle.heads.proofs.record_length.Reads as record-length-reads
 
 returns : tie.Need-returns
 returns c = refuse-short _ (omega arith)

@@ -1,8 +1,6 @@
 use Rattle.heads.proofs.Head.{is-one, is-two}
 use Rattle.heads.proofs.is_kind.Statement.{statement}
 use Rattle.heads.proofs.is_kind.Tie as tie
-use Rattle.heads.proofs.is_kind.Reads as reads
-use Rattle.heads.proofs.is_kind.Lts as lts
 
 returns : tie.Need-returns
 returns c = is-one _ (c .if1 .taken)

@@ -2,8 +2,6 @@ use Rattle.heads.proofs.Head.{kind-one, kind-other}
 use borrow.Author.Needs.{needs}
 use Rattle.heads.proofs.record_length.Statement.{statement}
 use Rattle.heads.proofs.record_length.Tie as tie
-use Rattle.heads.proofs.record_length.Reads as reads
-use Rattle.heads.proofs.record_length.Lts as lts
 
 mul-result : tie.Need-mul-result
 mul-result c = search needs

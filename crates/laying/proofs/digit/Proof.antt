@@ -4,8 +4,6 @@ use Rattle.laying.proofs.Numerals.{entry, entry-past}
 use borrow.Author.Needs.{needs}
 use Rattle.laying.proofs.digit.Statement.{statement}
 use Rattle.laying.proofs.digit.Tie as tie
-use Rattle.laying.proofs.digit.Reads as reads
-use Rattle.laying.proofs.digit.Lts as lts
 
 add-if1 : tie.Need-add-if1
 add-if1 c = search needs

@@ -9,9 +9,6 @@ use Rattle.laying.proofs.Numerals.{Bound, bound-start, bound-end, in-by
 use borrow.Author.Needs.{needs}
 use Rattle.laying.proofs.digits.Statement.{statement}
 use Rattle.laying.proofs.digits.Tie as tie
-use Rattle.laying.proofs.digits.Reads as reads
-use Rattle.laying.proofs.digits.Lts as lts
-use Rattle.laying.proofs.digit.Reads as digit-reads
 
 abbrev Inv-loop : tie.InvT-loop
 Inv-loop w a e base width x₀ i₀ x i = (i ≤ width) × Bound base x (width - i)

@@ -5,12 +5,6 @@ use Rattle.laying.proofs.Parts.{kind-two, plain-bound, starred-bound, l
 use borrow.Author.Needs.{needs}
 use Rattle.laying.proofs.lay_out.Statement.{statement}
 use Rattle.laying.proofs.lay_out.Tie as tie
-use Rattle.laying.proofs.lay_out.Reads as reads
-use Rattle.laying.proofs.lay_out.Lts as lts
-use Rattle.laying.proofs.put_head.Reads as put-head-reads
-use Rattle.laying.proofs.put_plain.Reads as put-plain-reads
-use Rattle.laying.proofs.put_starred.Reads as put-starred-reads
-use Rattle.heads.proofs.record_length.Reads as record-length-reads
 
 cast-edges : tie.Need-cast-edges
 cast-edges c = search needs

@@ -8,9 +8,6 @@ use Rattle.laying.proofs.Numerals.{group-fits, all-group, pack-start, p
 use borrow.Author.Needs.{needs}
 use Rattle.laying.proofs.pack.Statement.{statement}
 use Rattle.laying.proofs.pack.Tie as tie
-use Rattle.laying.proofs.pack.Reads as reads
-use Rattle.laying.proofs.pack.Lts as lts
-use Rattle.laying.proofs.digits.Reads as digits-reads
 
 abbrev Inv-loop : tie.InvT-loop
 Inv-loop w a e base width out₀ at count i₀ out i = (i ≤ count) × (length out ≡ length out₀)

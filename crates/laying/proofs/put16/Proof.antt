@@ -4,8 +4,6 @@ use Rattle.laying.proofs.Parts.{two-bytes}
 use borrow.Author.Needs.{needs}
 use Rattle.laying.proofs.put16.Statement.{statement}
 use Rattle.laying.proofs.put16.Tie as tie
-use Rattle.laying.proofs.put16.Reads as reads
-use Rattle.laying.proofs.put16.Lts as lts
 
 cast-out : tie.Need-cast-out
 cast-out c = search needs

@@ -3,9 +3,6 @@ use Rattle.laying.proofs.Parts.{head-placed}
 use borrow.Author.Needs.{needs}
 use Rattle.laying.proofs.put_head.Statement.{statement}
 use Rattle.laying.proofs.put_head.Tie as tie
-use Rattle.laying.proofs.put_head.Reads as reads
-use Rattle.laying.proofs.put_head.Lts as lts
-use Rattle.laying.proofs.put16.Reads as put16-reads
 
 put16-requires : tie.Need-put16-requires
 put16-requires c κs = search needs

@@ -4,10 +4,6 @@ use Rattle.laying.proofs.Parts.{all-one-run, plain-placed}
 use borrow.Author.Needs.{needs}
 use Rattle.laying.proofs.put_plain.Statement.{statement}
 use Rattle.laying.proofs.put_plain.Tie as tie
-use Rattle.laying.proofs.put_plain.Reads as reads
-use Rattle.laying.proofs.put_plain.Lts as lts
-use Rattle.laying.proofs.groups.Reads as groups-reads
-use Rattle.laying.proofs.pack.Reads as pack-reads
 
 mul-n : tie.Need-mul-n
 mul-n c = search needs

@@ -4,10 +4,6 @@ use Rattle.laying.proofs.Parts.{all-bits-run, all-labels-run, starred-p
 use borrow.Author.Needs.{needs}
 use Rattle.laying.proofs.put_starred.Statement.{statement}
 use Rattle.laying.proofs.put_starred.Tie as tie
-use Rattle.laying.proofs.put_starred.Reads as reads
-use Rattle.laying.proofs.put_starred.Lts as lts
-use Rattle.laying.proofs.groups.Reads as groups-reads
-use Rattle.laying.proofs.pack.Reads as pack-reads
 
 mul-n : tie.Need-mul-n
 mul-n c = search needs

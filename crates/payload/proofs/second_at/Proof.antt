@@ -4,8 +4,6 @@ use Rattle.payload.proofs.Letters.{second-past, second-here, no-second-
 use borrow.Author.Needs.{needs}
 use Rattle.payload.proofs.second_at.Statement.{statement}
 use Rattle.payload.proofs.second_at.Tie as tie
-use Rattle.payload.proofs.second_at.Reads as reads
-use Rattle.payload.proofs.second_at.Lts as lts
 
 returns : tie.Need-returns
 returns c =

@@ -2,9 +2,6 @@ use mathlib.Core.Path.{sym}
 use borrow.Author.Needs.{needs}
 use Rattle.payload.proofs.tree_label.Statement.{statement}
 use Rattle.payload.proofs.tree_label.Tie as tie
-use Rattle.payload.proofs.tree_label.Reads as reads
-use Rattle.payload.proofs.tree_label.Lts as lts
-use Rattle.payload.proofs.up_at.Reads as up-at-reads
 
 add-up-at : tie.Need-add-up-at
 add-up-at c = search needs

@@ -4,8 +4,6 @@ use Rattle.payload.proofs.Letters.{up-past, up-here}
 use borrow.Author.Needs.{needs}
 use Rattle.payload.proofs.up_at.Statement.{statement}
 use Rattle.payload.proofs.up_at.Tie as tie
-use Rattle.payload.proofs.up_at.Reads as reads
-use Rattle.payload.proofs.up_at.Lts as lts
 
 returns : tie.Need-returns
 returns c =
