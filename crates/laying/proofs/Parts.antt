@@ -25,7 +25,7 @@ use Rattle.areas.specs.Area.{region, placed}
 use Rattle.areas.proofs.Regions.{region-split, placed-none, placed-cons, placed-next, front-placed}
 use Rattle.packing.proofs.Packed.{pack-length}
 use Rattle.packing.proofs.Head.{recordLength-range}
-use Rattle.letters.specs.Letters.{bitsIn, labelsIn}
+use Rattle.letters.specs.Letters.{workBits, workLabels}
 use Rattle.laying.specs.Laying.{LaidOut}
 
 pub two-bytes : (at x : ℕ) (out : List ℕ) → at + 2 ≤ length out → set (set out at (x % 256)) (at + 1) (x / 256 % 256) ≡ placed at (le16 x) out
@@ -48,31 +48,31 @@ head-placed l k m out out₁ out₂ out₃ h p q r =
 -- ---- tree bits and labels
 
 module _ (m : ℕ) (w : List ℕ) where
-  pub bits-run : region (8 * (2 * m)) (9 * (2 * m) - 8 * (2 * m)) w ≡ bitsIn (2 * m) w
-  unfolding bitsIn
+  pub bits-run : region (8 * (2 * m)) (9 * (2 * m) - 8 * (2 * m)) w ≡ workBits (2 * m) w
+  unfolding workBits
   bits-run = let e : 9 * (2 * m) - 8 * (2 * m) ≡ 2 * m = omega arith in ap (λ (k : ℕ). region (8 * (2 * m)) k w) e
 
-  pub labels-run : region (9 * (2 * m)) (9 * (2 * m) + m - 9 * (2 * m)) w ≡ labelsIn (2 * m) w
-  unfolding labelsIn
+  pub labels-run : region (9 * (2 * m)) (9 * (2 * m) + m - 9 * (2 * m)) w ≡ workLabels (2 * m) w
+  unfolding workLabels
   labels-run = let e : 9 * (2 * m) + m - 9 * (2 * m) ≡ 2 * m / 2 = omega arith in ap (λ (k : ℕ). region (9 * (2 * m)) k w) e
 
-  pub one-run : region (8 * (2 * m)) (9 * (2 * m) + m - 8 * (2 * m)) w ≡ bitsIn (2 * m) w ++ labelsIn (2 * m) w
-  unfolding bitsIn labelsIn
+  pub one-run : region (8 * (2 * m)) (9 * (2 * m) + m - 8 * (2 * m)) w ≡ workBits (2 * m) w ++ workLabels (2 * m) w
+  unfolding workBits workLabels
   one-run =
       let e : 9 * (2 * m) + m - 8 * (2 * m) ≡ 2 * m + 2 * m / 2 = omega arith in
       let f : 8 * (2 * m) + 2 * m ≡ 9 * (2 * m) = omega arith in
       ap (λ (k : ℕ). region (8 * (2 * m)) k w) e ∙ region-split (8 * (2 * m)) (2 * m) (2 * m / 2) w
       ∙ ap (λ (a : ℕ). region (8 * (2 * m)) (2 * m) w ++ region a (2 * m / 2) w) f
 
-pub all-one-run : (m : ℕ) (w : List ℕ) → allBelow 2 (bitsIn (2 * m) w) ≡ true → allBelow 2 (labelsIn (2 * m) w) ≡ true
+pub all-one-run : (m : ℕ) (w : List ℕ) → allBelow 2 (workBits (2 * m) w) ≡ true → allBelow 2 (workLabels (2 * m) w) ≡ true
     → allBelow 2 (region (8 * (2 * m)) (9 * (2 * m) + m - 8 * (2 * m)) w) ≡ true
-all-one-run m w h k = rw (one-run m w) (below-append 2 (bitsIn (2 * m) w) (labelsIn (2 * m) w) h k)
+all-one-run m w h k = rw (one-run m w) (below-append 2 (workBits (2 * m) w) (workLabels (2 * m) w) h k)
 
-pub all-bits-run : (m : ℕ) (w : List ℕ) → allBelow 2 (bitsIn (2 * m) w) ≡ true
+pub all-bits-run : (m : ℕ) (w : List ℕ) → allBelow 2 (workBits (2 * m) w) ≡ true
     → allBelow 2 (region (8 * (2 * m)) (9 * (2 * m) - 8 * (2 * m)) w) ≡ true
 all-bits-run m w h = rw (bits-run m w) h
 
-pub all-labels-run : (b m : ℕ) (w : List ℕ) → allBelow b (labelsIn (2 * m) w) ≡ true
+pub all-labels-run : (b m : ℕ) (w : List ℕ) → allBelow b (workLabels (2 * m) w) ≡ true
     → allBelow b (region (9 * (2 * m)) (9 * (2 * m) + m - 9 * (2 * m)) w) ≡ true
 all-labels-run b m w h = rw (labels-run m w) h
 
@@ -80,24 +80,24 @@ all-labels-run b m w h = rw (labels-run m w) h
 
 pub plain-placed : (m count : ℕ) (w out out′ : List ℕ) → count ≡ bytesFor (3 * m) 8
     → out′ ≡ placed 6 (pack 2 8 count (region (8 * (2 * m)) (9 * (2 * m) + m - 8 * (2 * m)) w)) out
-    → out′ ≡ placed 6 (payload 1 m (bitsIn (2 * m) w) (labelsIn (2 * m) w)) out
+    → out′ ≡ placed 6 (payload 1 m (workBits (2 * m) w) (workLabels (2 * m) w)) out
 unfolding payload
 plain-placed m count w out out′ e p = p ∙ ap₂ (λ (k : ℕ) (r : List ℕ). placed 6 (pack 2 8 k r) out) e (one-run m w)
 
 pub starred-placed : (m bytes count : ℕ) (w out mid out′ : List ℕ) → bytes ≡ bytesFor (2 * m) 8 → count ≡ bytesFor m 5 → 6 + bytes + count ≤ length out
     → mid ≡ placed 6 (pack 2 8 bytes (region (8 * (2 * m)) (9 * (2 * m) - 8 * (2 * m)) w)) out
     → out′ ≡ placed (6 + bytes) (pack 3 5 count (region (9 * (2 * m)) (9 * (2 * m) + m - 9 * (2 * m)) w)) mid
-    → out′ ≡ placed 6 (payload 2 m (bitsIn (2 * m) w) (labelsIn (2 * m) w)) out
+    → out′ ≡ placed 6 (payload 2 m (workBits (2 * m) w) (workLabels (2 * m) w)) out
 unfolding payload
 starred-placed m bytes count w out mid out′ e f h p q =
-    let bits = pack 2 8 bytes (bitsIn (2 * m) w) in
-    let labels = pack 3 5 count (labelsIn (2 * m) w) in
-    let l = pack-length 2 8 bytes (bitsIn (2 * m) w) in
+    let bits = pack 2 8 bytes (workBits (2 * m) w) in
+    let labels = pack 3 5 count (workLabels (2 * m) w) in
+    let l = pack-length 2 8 bytes (workBits (2 * m) w) in
     q ∙ ap₂ (λ (r s : List ℕ). placed (6 + bytes) (pack 3 5 count r) s)
     (labels-run m w) (p ∙ ap (λ (r : List ℕ). placed 6 (pack 2 8 bytes r) out) (bits-run m w))
     ∙ ap (λ (k : ℕ). placed (6 + k) labels (placed 6 bits out)) (sym l)
     ∙ placed-next 6 bits labels out (omega arith)
-    ∙ ap₂ (λ (j k : ℕ). placed 6 (pack 2 8 j (bitsIn (2 * m) w) ++ pack 3 5 k (labelsIn (2 * m) w)) out) e f
+    ∙ ap₂ (λ (j k : ℕ). placed 6 (pack 2 8 j (workBits (2 * m) w) ++ pack 3 5 k (workLabels (2 * m) w)) out) e f
 
 -- ---- the whole record
 
@@ -115,17 +115,17 @@ starred-bound k xs d h = rw (ne-eqb k 1 d) at h
 
 -- the payload is that of kind j, which is k
 pub laid-out : (k j m total : ℕ) (w out mid out′ : List ℕ) → k ≡ j → total ≡ recordLength k m → 1 ≤ m → m ≤ 4096 → recordLength k m ≤ length out
-    → mid ≡ placed 0 (le16 total ++ (le16 k ++ le16 m)) out → out′ ≡ placed 6 (payload j m (bitsIn (2 * m) w) (labelsIn (2 * m) w)) mid
+    → mid ≡ placed 0 (le16 total ++ (le16 k ++ le16 m)) out → out′ ≡ placed 6 (payload j m (workBits (2 * m) w) (workLabels (2 * m) w)) mid
     → LaidOut k m w out total out′
 unfolding layOut le16
 laid-out k j m total w out mid out′ e t o h l p q =
-    let tail = payload k m (bitsIn (2 * m) w) (labelsIn (2 * m) w) in
+    let tail = payload k m (workBits (2 * m) w) (workLabels (2 * m) w) in
     let s = recordLength-range k m o h in
     record {
       answered = t;
       filled =
-          q ∙ ap₂ (λ (i : ℕ) (r : List ℕ). placed 6 (payload i m (bitsIn (2 * m) w) (labelsIn (2 * m) w)) r) (sym e) p
+          q ∙ ap₂ (λ (i : ℕ) (r : List ℕ). placed 6 (payload i m (workBits (2 * m) w) (workLabels (2 * m) w)) r) (sym e) p
           ∙ ap (λ (x : ℕ). placed 6 tail (placed 0 (le16 x ++ (le16 k ++ le16 m)) out)) t
           ∙ placed-next 0 (le16 (recordLength k m) ++ (le16 k ++ le16 m)) tail out (omega arith)
-          ∙ front-placed (layOut k m (bitsIn (2 * m) w) (labelsIn (2 * m) w)) out;
+          ∙ front-placed (layOut k m (workBits (2 * m) w) (workLabels (2 * m) w)) out;
     }

@@ -6,8 +6,8 @@ use mathlib.Core.Path.{_≡_}
 use mathlib.Core.List.{List}
 use Rattle.model.specs.Record.{recordLength, layOut}
 use Rattle.model.specs.Calls.{front}
-use Rattle.letters.specs.Letters.{bitsIn, labelsIn}
+use Rattle.letters.specs.Letters.{workBits, workLabels}
 
 pub record LaidOut (k m : ℕ) (w out : List ℕ) (answer : ℕ) (out′ : List ℕ) : Type 0 where
   pub answered : answer ≡ recordLength k m
-  pub filled : out′ ≡ front (layOut k m (bitsIn (2 * m) w) (labelsIn (2 * m) w)) out
+  pub filled : out′ ≡ front (layOut k m (workBits (2 * m) w) (workLabels (2 * m) w)) out

@@ -8,7 +8,7 @@ ghost use Rattle.model.specs.Numbers.{allBelow};
 ghost use Rattle.model.specs.Map.{isKind};
 ghost use Rattle.model.specs.Record.{digits, pack, le16, payload, recordLength, labelBase, bytesFor};
 ghost use Rattle.areas.specs.Area.{region, placed};
-ghost use Rattle.letters.specs.Letters.{bitsIn, labelsIn};
+ghost use Rattle.letters.specs.Letters.{workBits, workLabels};
 ghost use Rattle.laying.specs.Laying.{LaidOut};
 
 // Digit i of those from a to e, 0 past them.
@@ -90,8 +90,8 @@ fn put_head(out: &mut [u8], total: u16, kind: u16, m: u16)
 // The payload of kind 1, at place 6: tree bits and labels are one run of bits.
 fn put_plain(w: &[u16], m: usize, out: &mut [u8])
     requires { ⌜ (m ≤ 4096) × (32 * m ≤ length (now w)) × (6 + bytesFor (3 * m) 8 ≤ length (now out))
-        × (allBelow 2 (bitsIn (2 * m) (now w)) ≡ true) × (allBelow 2 (labelsIn (2 * m) (now w)) ≡ true) ⌝ }
-    ensures { λ _. ⌜ now (out .exit) ≡ placed 6 (payload 1 m (bitsIn (2 * m) (now (w .entry))) (labelsIn (2 * m) (now (w .entry)))) (now (out .entry)) ⌝ }
+        × (allBelow 2 (workBits (2 * m) (now w)) ≡ true) × (allBelow 2 (workLabels (2 * m) (now w)) ≡ true) ⌝ }
+    ensures { λ _. ⌜ now (out .exit) ≡ placed 6 (payload 1 m (workBits (2 * m) (now (w .entry))) (workLabels (2 * m) (now (w .entry)))) (now (out .entry)) ⌝ }
 {
     let n = 2 * m;
     let count = groups(3 * m, 8);
@@ -101,8 +101,8 @@ fn put_plain(w: &[u16], m: usize, out: &mut [u8])
 // The payload of kind 2, at place 6: tree bits, then labels in groups of five.
 fn put_starred(w: &[u16], m: usize, out: &mut [u8])
     requires { ⌜ (m ≤ 4096) × (32 * m ≤ length (now w)) × (6 + bytesFor (2 * m) 8 + bytesFor m 5 ≤ length (now out))
-        × (allBelow 2 (bitsIn (2 * m) (now w)) ≡ true) × (allBelow 3 (labelsIn (2 * m) (now w)) ≡ true) ⌝ }
-    ensures { λ _. ⌜ now (out .exit) ≡ placed 6 (payload 2 m (bitsIn (2 * m) (now (w .entry))) (labelsIn (2 * m) (now (w .entry)))) (now (out .entry)) ⌝ }
+        × (allBelow 2 (workBits (2 * m) (now w)) ≡ true) × (allBelow 3 (workLabels (2 * m) (now w)) ≡ true) ⌝ }
+    ensures { λ _. ⌜ now (out .exit) ≡ placed 6 (payload 2 m (workBits (2 * m) (now (w .entry))) (workLabels (2 * m) (now (w .entry)))) (now (out .entry)) ⌝ }
 {
     let n = 2 * m;
     let bytes = groups(n, 8);
@@ -114,7 +114,7 @@ fn put_starred(w: &[u16], m: usize, out: &mut [u8])
 // The whole record, from tree bits and labels.
 pub fn lay_out(w: &[u16], kind: u16, m: usize, out: &mut [u8]) -> u16
     requires { ⌜ (isKind kind ≡ true) × (1 ≤ m) × (m ≤ 4096) × (32 * m ≤ length (now w)) × (recordLength kind m ≤ length (now out))
-        × (allBelow 2 (bitsIn (2 * m) (now w)) ≡ true) × (allBelow (labelBase kind) (labelsIn (2 * m) (now w)) ≡ true) ⌝ }
+        × (allBelow 2 (workBits (2 * m) (now w)) ≡ true) × (allBelow (labelBase kind) (workLabels (2 * m) (now w)) ≡ true) ⌝ }
     ensures { λ r. ⌜ LaidOut kind m (now (w .entry)) (now (out .entry)) r (now (out .exit)) ⌝ }
 {
     let edges = m as u16;

@@ -3,7 +3,7 @@
 --
 --   toLetter x           the letter with the code x
 --   lettersIn n w        the word in the work area
---   bitsIn, labelsIn     the tree bits and the labels in the work area
+--   workBits, workLabels   the tree bits and the labels in the work area
 use Prim.Native.Nat.{ℕ, _*_, _/_}
 use mathlib.Core.Bool.{cond}
 use mathlib.Core.List.{List, map}
@@ -17,8 +17,8 @@ toLetter x = cond (eqb x 1) down (cond (eqb x 2) up (cond (eqb x 3) first second
 unfoldable pub lettersIn : ℕ → List ℕ → List Letter
 lettersIn n w = map toLetter (region (3 * n) n w)
 
-unfoldable pub bitsIn : ℕ → List ℕ → List ℕ
-bitsIn n w = region (8 * n) n w
+unfoldable pub workBits : ℕ → List ℕ → List ℕ
+workBits n w = region (8 * n) n w
 
-unfoldable pub labelsIn : ℕ → List ℕ → List ℕ
-labelsIn n w = region (9 * n) (n / 2) w
+unfoldable pub workLabels : ℕ → List ℕ → List ℕ
+workLabels n w = region (9 * n) (n / 2) w

@@ -17,7 +17,7 @@ use Rattle.model.specs.Numbers.{isPermutation}
 use Rattle.model.specs.Map.{Plan, darts, edges, isKind, dartCountFits, connected, planar, hasLoop, degreeRefused, fit}
 use Rattle.model.specs.Record.{recordLength, recordOf}
 use Rattle.model.specs.Calls.{front, earlyRefusals, lateRefusals, writeRefusal, writeAnswer, writtenOutput, numberOfWritten, lengthOfWritten}
-use Rattle.model.specs.Writings.{Writing, Honest, isAccepted, bytesWritten}
+use Rattle.model.specs.Writings.{Writing, MeetsContract, isAccepted, bytesWritten}
 use Rattle.model.proofs.Fitness.{parts-fit}
 use Rattle.model.proofs.Refusals.{not-first}
 use Rattle.model.proofs.Answers.{number-of-written}
@@ -60,25 +60,25 @@ not-refused k p w o e =
 refusal : Writing → ℕ
 refusal c = writeRefusal (c .kind) (c .plan) (length (c .work)) (length (c .output))
 
-accepted-refusal : (c : Writing) → Honest c → isAccepted c ≡ true → refusal c ≡ 0
+accepted-refusal : (c : Writing) → MeetsContract c → isAccepted c ≡ true → refusal c ≡ 0
 unfolding refusal isAccepted
 accepted-refusal c h a =
     sym (number-of-written (c .kind) (c .plan) (length (c .work)) (length (c .output))) ∙ ap numberOfWritten (sym (h .answered)) ∙ eqb-true _ 0 a
 
-pub accepted-fit : (c : Writing) → Honest c → isAccepted c ≡ true → fit (c .kind) (c .plan) ≡ true
+pub accepted-fit : (c : Writing) → MeetsContract c → isAccepted c ≡ true → fit (c .kind) (c .plan) ≡ true
 unfolding refusal
 accepted-fit c h a =
     not-refused (c .kind) (c .plan) (length (c .work)) (length (c .output)) (accepted-refusal c h a) .is-fit
 
-answer-length : (c : Writing) → Honest c → isAccepted c ≡ true → lengthOfWritten (c .answer) ≡ recordLength (c .kind) (edges (c .plan .rotation))
+answer-length : (c : Writing) → MeetsContract c → isAccepted c ≡ true → lengthOfWritten (c .answer) ≡ recordLength (c .kind) (edges (c .plan .rotation))
 unfolding writeAnswer refusal
 answer-length c h a = ap lengthOfWritten (h .answered) ∙ simp (eq-eqb _ 0 (accepted-refusal c h a))
 
-output-is : (c : Writing) → Honest c → isAccepted c ≡ true → c .output-after ≡ front (recordOf (c .kind) (c .plan)) (c .output)
+output-is : (c : Writing) → MeetsContract c → isAccepted c ≡ true → c .output-after ≡ front (recordOf (c .kind) (c .plan)) (c .output)
 unfolding writtenOutput refusal
 output-is c h a = h .filled ∙ simp (eq-eqb _ 0 (accepted-refusal c h a))
 
-pub accepted-bytes : (c : Writing) → Honest c → isAccepted c ≡ true
+pub accepted-bytes : (c : Writing) → MeetsContract c → isAccepted c ≡ true
     → length (recordOf (c .kind) (c .plan)) ≡ recordLength (c .kind) (edges (c .plan .rotation)) → bytesWritten c ≡ recordOf (c .kind) (c .plan)
 unfolding bytesWritten front
 accepted-bytes c h a n =

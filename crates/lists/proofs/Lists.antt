@@ -7,7 +7,7 @@ use mathlib.Core.Bool.{Bool, true, false, cond}
 use mathlib.Core.List.{List, [], _∷_, _++_}
 use Rattle.model.specs.Map.{fit}
 use Rattle.model.specs.Record.{recordOf}
-use Rattle.model.specs.Writings.{Writing, isAccepted, bytesWritten, laidOut, accepted, Alike, PlaceByPlace, AllHonest, Demand3}
+use Rattle.model.specs.Writings.{Writing, isAccepted, bytesWritten, laidOut, accepted, Alike, PlaceByPlace, AllMeetContract, Demand3}
 use Rattle.renumbering.proofs.Connected.{at-most-one}
 use Rattle.lists.specs.Coding.{Coding}
 use Rattle.lists.proofs.Calls.{accepted-fit, accepted-bytes, refused-bytes}
@@ -26,7 +26,7 @@ records (c ∷ cs) = recordOf (c .kind) (c .plan) ++ records cs
 
 -- ---- from calls to plans: only accepted calls count
 
-accepted-all-fit : (cs : List Writing) → AllHonest cs → AllFit (accepted cs)
+accepted-all-fit : (cs : List Writing) → AllMeetContract cs → AllFit (accepted cs)
 unfolding accepted
 accepted-all-fit [] h = tt
 accepted-all-fit (c ∷ cs) (h, hs) = go (isAccepted c) refl (accepted-all-fit cs hs)
@@ -36,7 +36,7 @@ accepted-all-fit (c ∷ cs) (h, hs) = go (isAccepted c) refl (accepted-all-fit c
     go false a rest = rest
 
 module _ (coding : Coding) where
-  laid-records : (cs : List Writing) → AllHonest cs → laidOut cs ≡ records (accepted cs)
+  laid-records : (cs : List Writing) → AllMeetContract cs → laidOut cs ≡ records (accepted cs)
   unfolding laidOut accepted records
   laid-records [] h = refl
   laid-records (c ∷ cs) (h, hs) = go (isAccepted c) refl (laid-records cs hs)

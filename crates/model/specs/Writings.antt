@@ -1,14 +1,14 @@
 -- Two lists of writings (document 01), and what demand 3 says of them.
 --
 --   Writing               one writing call as it happened: what it was handed, what it answered and left
---   Honest c              the call did what writing promises
+--   MeetsContract c       the call did what writing promises
 --   isAccepted c          the call was not refused
 --   bytesWritten c        the bytes that the call adds: its record, or none if it was refused
 --   laidOut cs            the records of a list laid end to end
 --   accepted cs           the calls not refused
 --   Alike c d             two calls match: one kind, and a renumbering between their plans
 --   PlaceByPlace cs ds    the lists match place by place
---   AllHonest cs          every call of the list did what writing promises
+--   AllMeetContract cs    every call of the list did what writing promises
 --   Demand3               what the records of any two lists of writing calls say of the calls
 use Prim.Native.Nat.{ℕ}
 use mathlib.Core.Path.{_≡_}
@@ -32,8 +32,8 @@ pub record Writing : Type 0 where
   pub work-after : List ℕ
   pub output-after : List ℕ
 
-abbrev pub Honest : Writing → Type 0
-Honest c = Wrote (c .kind) (c .plan) (c .work) (c .output) (c .answer) (c .work-after) (c .output-after)
+abbrev pub MeetsContract : Writing → Type 0
+MeetsContract c = Wrote (c .kind) (c .plan) (c .work) (c .output) (c .answer) (c .work-after) (c .output-after)
 
 unfoldable pub isAccepted : Writing → Bool
 isAccepted c = eqb (numberOfWritten (c .answer)) 0
@@ -63,15 +63,15 @@ PlaceByPlace [] (d ∷ ds) = ⊥
 PlaceByPlace (c ∷ cs) [] = ⊥
 PlaceByPlace (c ∷ cs) (d ∷ ds) = Alike c d × PlaceByPlace cs ds
 
-abbrev pub AllHonest : List Writing → Type 0
-AllHonest [] = Unit
-AllHonest (c ∷ cs) = Honest c × AllHonest cs
+abbrev pub AllMeetContract : List Writing → Type 0
+AllMeetContract [] = Unit
+AllMeetContract (c ∷ cs) = MeetsContract c × AllMeetContract cs
 
 -- "For any two lists of writing calls: the records laid end to end are the same bytes exactly when the calls not refused match, place by place,
 -- in kind and by a renumbering of darts that carries start, opposites and turning order. Between two fit plans there is at most one renumbering;
 -- where there is one and both are fit for a kind, the records in it are equal."
 pub record Demand3 : Type 0 where
-  pub same-bytes-alike : (cs ds : List Writing) → AllHonest cs → AllHonest ds → laidOut cs ≡ laidOut ds → PlaceByPlace (accepted cs) (accepted ds)
-  pub alike-same-bytes : (cs ds : List Writing) → AllHonest cs → AllHonest ds → PlaceByPlace (accepted cs) (accepted ds) → laidOut cs ≡ laidOut ds
+  pub same-bytes-alike : (cs ds : List Writing) → AllMeetContract cs → AllMeetContract ds → laidOut cs ≡ laidOut ds → PlaceByPlace (accepted cs) (accepted ds)
+  pub alike-same-bytes : (cs ds : List Writing) → AllMeetContract cs → AllMeetContract ds → PlaceByPlace (accepted cs) (accepted ds) → laidOut cs ≡ laidOut ds
   pub one-renumbering : (k l : ℕ) (p q : Plan) (f g : List ℕ) → fit k p ≡ true → fit l q ≡ true → Renumbering p q f → Renumbering p q g → f ≡ g
   pub equal-records : (k : ℕ) (p q : Plan) (f : List ℕ) → fit k p ≡ true → fit k q ≡ true → Renumbering p q f → recordOf k p ≡ recordOf k q

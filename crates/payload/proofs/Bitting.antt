@@ -20,7 +20,7 @@ use Rattle.words.specs.Entered.{isDown}
 use Rattle.areas.specs.Area.{region}
 use Rattle.areas.proofs.Regions.{length-region, region-front}
 use Rattle.decoding.proofs.Sizes.{bits-length}
-use Rattle.letters.specs.Letters.{toLetter, lettersIn, bitsIn}
+use Rattle.letters.specs.Letters.{toLetter, lettersIn, workBits}
 use Rattle.letters.proofs.Word.{is-down, is-up, is-first, is-second, length-letters, letters-set-behind}
 use Rattle.payload.specs.Passes.{downBefore, bitsFrom, Bitted, BitStepped}
 use Rattle.payload.proofs.Suffixes.{bits-shrink}
@@ -76,8 +76,8 @@ bits-are n i t w at =
     let b = at .bits-left in
     sym (length-region (8 * n + t) (n - t) w (omega arith)) ∙ ap length (at .put)
 
-pub bits-end : (n t : ℕ) (w₀ w : List ℕ) → Bitted n w 0 t → lettersIn n w ≡ lettersIn n w₀ → bitsIn n w ≡ wordBits false (lettersIn n w₀)
-unfolding bitsIn bitsFrom downBefore
+pub bits-end : (n t : ℕ) (w₀ w : List ℕ) → Bitted n w 0 t → lettersIn n w ≡ lettersIn n w₀ → workBits n w ≡ wordBits false (lettersIn n w₀)
+unfolding workBits bitsFrom downBefore
 bits-end n t w₀ w at l =
     let h = all-bits n w (at .word) (at .room) in
     let c = bits-are n 0 t w at in

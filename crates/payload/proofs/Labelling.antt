@@ -19,7 +19,7 @@ use Rattle.areas.proofs.Regions.{length-region}
 use Rattle.areas.proofs.Stacks.{length-stack}
 use Rattle.decoding.proofs.Validity.{valid-nested}
 use Rattle.decoding.proofs.Sizes.{letters-length}
-use Rattle.letters.specs.Letters.{toLetter, lettersIn, labelsIn}
+use Rattle.letters.specs.Letters.{toLetter, lettersIn, workLabels}
 use Rattle.letters.proofs.Word.{is-down, is-up, is-first, is-second, length-letters, letters-set-behind}
 use Rattle.payload.specs.Passes.{held, Labelled, LabelStepped}
 use Rattle.payload.proofs.Suffixes.{Goes, suffix, down-waits, first-waits, labels-shrink}
@@ -60,8 +60,8 @@ module _ (n i e u s : ℕ) (w : List ℕ) (at : Labelled n w i e u s) where
   seconds-are = sym (length-stack (6 * n) s w) ∙ ap (λ (x : Ends). length (x .seconds)) (at .ended)
 
 -- all labels are put when all letters are done
-pub labels-end : (n e u s : ℕ) (w₀ w : List ℕ) → Labelled n w 0 e u s → lettersIn n w ≡ lettersIn n w₀ → labelsIn n w ≡ wordLabels (lettersIn n w₀)
-unfolding held labelsIn wordLabels
+pub labels-end : (n e u s : ℕ) (w₀ w : List ℕ) → Labelled n w 0 e u s → lettersIn n w ≡ lettersIn n w₀ → workLabels n w ≡ wordLabels (lettersIn n w₀)
+unfolding held workLabels wordLabels
 labels-end n e u s w₀ w at l =
     let h = half n w (at .word) (at .room) in
     let c = labels-are n 0 e u s w at in

@@ -7,9 +7,9 @@ use mathlib.Core.Bool.{false}
 use mathlib.Core.List.{List}
 use lib.ListN.{length}
 use Rattle.words.specs.Word.{wordLabels, wordBits}
-use Rattle.letters.specs.Letters.{lettersIn, bitsIn, labelsIn}
+use Rattle.letters.specs.Letters.{lettersIn, workBits, workLabels}
 
 pub record Put (n : ℕ) (w w′ : List ℕ) : Type 0 where
-  pub labels : labelsIn n w′ ≡ wordLabels (lettersIn n w)
-  pub bits : bitsIn n w′ ≡ wordBits false (lettersIn n w)
+  pub labels : workLabels n w′ ≡ wordLabels (lettersIn n w)
+  pub bits : workBits n w′ ≡ wordBits false (lettersIn n w)
   pub kept : length w′ ≡ length w

@@ -11,8 +11,18 @@ ghost use Rattle.letters.specs.Letters.{lettersIn};
 ghost use Rattle.payload.specs.Payload.{Put};
 ghost use Rattle.payload.specs.Passes.{downBefore, Scanned, Stepped};
 
-// 1 where second stands at position i of the word, 0 elsewhere and past its end. Every code but 1, 2 and 3 is that of second, so 0 too: no letter of a word
-// has it.
+// The letters by number, but second: every other code is taken for it.
+const DOWN: u16 = 1;
+
+const UP: u16 = 2;
+
+const FIRST: u16 = 3;
+
+// The label of a leaf.
+const STAR: u16 = 2;
+
+// 1 where second stands at position i of the word, 0 elsewhere and past its end. The code 0 is
+// taken for second too: no letter of a word has it.
 fn second_at(w: &[u16], n: usize, i: usize) -> u16
     requires { ⌜ (i ≤ n) × (n ≤ 8192) × (16 * n ≤ length (now w)) ⌝ }
     ensures { λ r. ⌜ r ≡ startsSecond (drop i (lettersIn n (now (w .entry)))) ⌝ }
@@ -38,7 +48,7 @@ fn up_at(w: &[u16], n: usize, i: usize) -> bool
     if i == n {
         return false;
     }
-    w[3 * n + i] == 2
+    w[3 * n + i] == UP
 }
 
 // The label of the tree edge that goes down at position i: a star for a bare leaf, else what waits at this place of the stack.
@@ -47,7 +57,7 @@ fn tree_label(w: &[u16], n: usize, i: usize, top: usize) -> u16
     ensures { λ r. ⌜ r ≡ cond (startsUp (drop (i + 1) (lettersIn n (now (w .entry))))) star (getD (now (w .entry)) (5 * n + top) 0) ⌝ }
 {
     if up_at(w, n, i + 1) {
-        return 2;
+        return STAR;
     }
     w[5 * n + top]
 }
@@ -61,7 +71,7 @@ fn up_bit(w: &[u16], n: usize, i: usize, x: u16) -> u16
         return 0;
     }
     let l = w[3 * n + (i - 1)];
-    if l == 1 {
+    if l == DOWN {
         return x;
     }
     0
@@ -160,13 +170,13 @@ fn step(w: &mut [u16], n: usize, i: usize, s: Scan) -> Scan
     ensures { λ r. ⌜ Stepped n (now (w .entry)) (now (w .exit)) i r ⌝ }
 {
     let l = w[3 * n + i];
-    if l == 1 {
+    if l == DOWN {
         return step_down(w, n, i, s);
     }
-    if l == 2 {
+    if l == UP {
         return step_up(w, n, i, s);
     }
-    if l == 3 {
+    if l == FIRST {
         return step_first(w, n, i, s);
     }
     step_second(w, n, i, s)

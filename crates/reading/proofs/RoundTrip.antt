@@ -25,7 +25,7 @@ use Rattle.model.specs.Traversal.{standardPlan}
 use Rattle.model.specs.Record.{recordLength, recordOf}
 use Rattle.model.specs.Shelf.{kindOf, edgesOf}
 use Rattle.model.specs.Calls.{front, earlyRefusals, lateRefusals, writeRefusal, writeAnswer, writtenOutput, Wrote, readRefusal, HasRecord, Reads, refused, read, unreadable, ReadCall, edgesOfRead}
-use Rattle.model.specs.Writings.{Writing, Honest, isAccepted, bytesWritten}
+use Rattle.model.specs.Writings.{Writing, MeetsContract, isAccepted, bytesWritten}
 use Rattle.model.proofs.Fitness.{fit-parts, even-darts}
 use Rattle.lists.proofs.Calls.{accepted-fit, accepted-bytes}
 use Rattle.reading.proofs.Answers.{not-both}
@@ -60,7 +60,7 @@ module _ (k : ℕ) (p : Plan) (w o : List ℕ) (n : ℕ) (w′ o′ : List ℕ) 
   unfolding isAccepted call
   accepted = refl
 
-  honest : Honest call
+  honest : MeetsContract call
   unfolding call
   honest = wrote
 

@@ -21,10 +21,10 @@ use Rattle.words.specs.Word.{nested, bareLeaf, rootDegree, valid, wordLabels}
 use Rattle.decoding.proofs.Sizes.{labels-bound}
 use Rattle.decoding.proofs.Bounds.{bits-below}
 use Rattle.letters.proofs.Word.{length-letters}
-use Rattle.letters.specs.Letters.{lettersIn, bitsIn, labelsIn}
+use Rattle.letters.specs.Letters.{lettersIn, workBits, workLabels}
 use Rattle.payload.specs.Payload.{Put}
 use Rattle.laying.specs.Laying.{LaidOut}
-use Rattle.writing.specs.Early.{Ready, Laid}
+use Rattle.writing.specs.Early.{Ready, Recorded}
 
 pub valid-two : (k : ℕ) (v : List Letter) → valid k v ≡ true → valid 2 v ≡ true
 unfolding valid isKind
@@ -59,7 +59,7 @@ module _ (n k : ℕ) (w out : List ℕ) (r : Ready n k w out) where
 
   module _ (w₁ : List ℕ) (t : Put n w w₁) where
     pub bytes-asked : (isKind k ≡ true) × (1 ≤ n / 2) × (n / 2 ≤ 4096) × (32 * (n / 2) ≤ length w₁) × (recordLength k (n / 2) ≤ length out)
-        × (allBelow 2 (bitsIn (2 * (n / 2)) w₁) ≡ true) × (allBelow (labelBase k) (labelsIn (2 * (n / 2)) w₁) ≡ true)
+        × (allBelow 2 (workBits (2 * (n / 2)) w₁) ≡ true) × (allBelow (labelBase k) (workLabels (2 * (n / 2)) w₁) ≡ true)
     bytes-asked =
         let c = counts in
         let h = half in (
@@ -68,15 +68,15 @@ module _ (n k : ℕ) (w out : List ℕ) (r : Ready n k w out) where
           omega arith,
           (let z = r .room in let e = t .kept in omega arith),
           r .space,
-          ap (λ (m : ℕ). allBelow 2 (bitsIn m w₁)) h ∙ ap (allBelow 2) (t .bits) ∙ bits-below false (lettersIn n w),
-          ap (λ (m : ℕ). allBelow (labelBase k) (labelsIn m w₁)) h ∙ ap (allBelow (labelBase k)) (t .labels)
+          ap (λ (m : ℕ). allBelow 2 (workBits m w₁)) h ∙ ap (allBelow 2) (t .bits) ∙ bits-below false (lettersIn n w),
+          ap (λ (m : ℕ). allBelow (labelBase k) (workLabels m w₁)) h ∙ ap (allBelow (labelBase k)) (t .labels)
               ∙ labels-bound k (lettersIn n w) (r .proper),
         )
 
-    pub laid : (answer : ℕ) (out′ : List ℕ) → LaidOut k (n / 2) w₁ out answer out′ → Laid n k w out answer w₁ out′
+    pub laid : (answer : ℕ) (out′ : List ℕ) → LaidOut k (n / 2) w₁ out answer out′ → Recorded n k w out answer w₁ out′
     laid answer out′ u = record {
       answered = u .answered;
-      filled = u .filled ∙ ap (λ (m : ℕ). front (layOut k (n / 2) (bitsIn m w₁) (labelsIn m w₁)) out) half
+      filled = u .filled ∙ ap (λ (m : ℕ). front (layOut k (n / 2) (workBits m w₁) (workLabels m w₁)) out) half
           ∙ rw (t .bits, t .labels);
       kept = t .kept;
     }

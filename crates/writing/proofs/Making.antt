@@ -28,7 +28,7 @@ use Rattle.fitting.specs.declared.Verdict.{Verdict}
 use Rattle.fitting.specs.declared.Verdict.the-variants as verdict
 use Rattle.fitting.specs.Judged.{lateRefusal, verdictOf, Judged}
 use Rattle.letters.specs.Letters.{lettersIn}
-use Rattle.writing.specs.Early.{earlyRefusal, Ready, Laid, Made}
+use Rattle.writing.specs.Early.{earlyRefusal, Ready, Recorded, Made}
 use Rattle.writing.proofs.Refusing.{refusal-split}
 use Rattle.letters.proofs.Word.{letters-code}
 
@@ -131,7 +131,7 @@ module _ (k : ℕ) (p : Plan) (w out : List ℕ) where
           space = space;
         }
 
-        pub made : (answer : ℕ) (w₂ out′ : List ℕ) → Laid (darts p) k w₁ out answer w₂ out′ → Made k p w out (written.Length answer) w₂ out′
+        pub made : (answer : ℕ) (w₂ out′ : List ℕ) → Recorded (darts p) k w₁ out answer w₂ out′ → Made k p w out (written.Length answer) w₂ out′
         unfolding writtenOutput writeAnswer recordOf edges
         made n w₂ out′ l =
             let o = of-fit k p fits in

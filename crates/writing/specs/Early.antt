@@ -3,7 +3,7 @@
 --   earlyRefusals        2, 3, 4, 6, 7, 8, each with its condition
 --   earlyRefusal         the first of them that concerns the call; 0 if none does
 --   Ready                room for the record, and the contour word of a plan that fits at 3n
---   Laid                 the record of that word in the output
+--   Recorded                 the record of that word in the output
 --   Made                 the answer and the output of writing, and the work area's length
 use Prim.Native.Nat.{ℕ, _*_, _/_, _≤_}
 use mathlib.Core.Path.{_≡_}
@@ -33,7 +33,7 @@ pub record Ready (n k : ℕ) (w out : List ℕ) : Type 0 where
   pub room : 16 * n ≤ length w
   pub space : recordLength k (n / 2) ≤ length out
 
-pub record Laid (n k : ℕ) (w out : List ℕ) (answer : ℕ) (w′ out′ : List ℕ) : Type 0 where
+pub record Recorded (n k : ℕ) (w out : List ℕ) (answer : ℕ) (w′ out′ : List ℕ) : Type 0 where
   pub answered : answer ≡ recordLength k (n / 2)
   pub filled : out′ ≡ front (layOut k (n / 2) (wordBits false (lettersIn n w)) (wordLabels (lettersIn n w))) out
   pub kept : length w′ ≡ length w

@@ -3,7 +3,7 @@ use fitting::Verdict;
 use model::Written;
 ghost use mathlib.Core.Path.{_≡_};
 ghost use Rattle.model.specs.Calls.{Wrote};
-ghost use Rattle.writing.specs.Early.{earlyRefusal, Ready, Laid, Made};
+ghost use Rattle.writing.specs.Early.{earlyRefusal, Ready, Recorded, Made};
 
 // The refusals that need no work area: 2, 3, 4, 6, 7, 8.
 fn early(order: &[u16], root: u16, kind: u16, room: usize, space: usize) -> u16
@@ -41,7 +41,7 @@ fn early(order: &[u16], root: u16, kind: u16, room: usize, space: usize) -> u16
 // The record of a plan that fits, whose word stands at 3n.
 fn laid_out(w: &mut [u16], n: usize, kind: u16, out: &mut [u8]) -> u16
     requires { ⌜ Ready n kind (now w) (now out) ⌝ }
-    ensures { λ r. ⌜ Laid n kind (now (w .entry)) (now (out .entry)) r (now (w .exit)) (now (out .exit)) ⌝ }
+    ensures { λ r. ⌜ Recorded n kind (now (w .entry)) (now (out .entry)) r (now (w .exit)) (now (out .exit)) ⌝ }
 {
     payload::put(w, n);
     laying::lay_out(w, kind, n / 2, out)

@@ -7,9 +7,6 @@ use Rattle.cutting.proofs.Turn.{plus, count-begins, count-turn, count-s
 use borrow.Author.Needs.{needs}
 use Rattle.cutting.proofs.count.Statement.{statement}
 use Rattle.cutting.proofs.count.Tie as tie
-use Rattle.cutting.proofs.count.Reads as reads
-use Rattle.cutting.proofs.count.Lts as lts
-use Rattle.cutting.proofs.length_at.Reads as length-at-reads
 
 abbrev Inv-loop : tie.InvT-loop
 Inv-loop bytes at₀ n₀ at n = (at ≤ length bytes) × (n ≤ at) × (plus n (countOf (drop at bytes)) ≡ countOf bytes)
@@ -22,38 +19,30 @@ fits : (c : tie.Else1 Inv-loop μ-loop)
     (6 ≤ c .before .length-at .result) × (k .loop .at + c .before .length-at .result ≤ length (k .before .before .args .bytes .now))
 fits c = let l = c .before .before .before .loop in step-fits _ (l .at) (l .n) _ (c .before .length-at .ensures) (c .if1 .left)
 
--- src/lib.rt:43:5
 loop-holds : tie.Need-loop-holds Inv-loop μ-loop
 loop-holds c = (search needs, search needs, count-begins _)
 
--- src/lib.rt:44:13
 length-at-requires : tie.Need-length-at-requires Inv-loop μ-loop
 length-at-requires c κs = search needs
 
--- src/lib.rt:46:13
 returns : tie.Need-returns Inv-loop μ-loop
 returns c = let l = c .before .before .before .loop in
     sym (count-stops _ (l .at) (l .n) _ (c .before .length-at .ensures) (c .if1 .taken) (omega arith)) ∙ l .inv .2
 
--- src/lib.rt:48:9
 add-at : tie.Need-add-at Inv-loop μ-loop
 add-at c = let f = fits c in omega arith
 
--- src/lib.rt:49:9
 add-n : tie.Need-add-n Inv-loop μ-loop
 add-n c = let f = fits c in omega arith
 
--- src/lib.rt:43:5
 loop-less : tie.Need-loop-less Inv-loop μ-loop
 loop-less c = let f = fits c in omega arith
 
--- src/lib.rt:43:5
 loop-again : tie.Need-loop-again Inv-loop μ-loop
 loop-again c = let l = c .before .before .before .loop in
     let f = fits c in
     (omega arith, omega arith, sym (count-turn _ (l .at) (l .n) _ (c .before .length-at .ensures) (c .if1 .left)) ∙ l .inv .2)
 
--- src/lib.rt:38:1
 returns-2 : tie.Need-returns-2 Inv-loop μ-loop
 returns-2 c = let l = c .before .loop in sym (count-ends _ (l .at) (l .n) (omega arith)) ∙ l .inv .2
 

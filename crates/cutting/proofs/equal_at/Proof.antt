@@ -3,35 +3,25 @@ use Rattle.cutting.proofs.Equality.{part-unlike, part-same}
 use borrow.Author.Needs.{needs}
 use Rattle.cutting.proofs.equal_at.Statement.{statement}
 use Rattle.cutting.proofs.equal_at.Tie as tie
-use Rattle.cutting.proofs.equal_at.Reads as reads
-use Rattle.cutting.proofs.equal_at.Lts as lts
-use Rattle.cutting.proofs.same.Reads as same-reads
 
--- src/lib.rt:102:9
 returns : tie.Need-returns
 returns c = part-unlike _ _ _ _ (c .if1 .taken) (c .before .before .before .pre)
 
--- src/lib.rt:104:15
 add-end : tie.Need-add-end
 add-end c = search needs
 
--- src/lib.rt:105:18
 sub-same : tie.Need-sub-same
 sub-same c = search needs
 
--- src/lib.rt:105:18
 part-same-start : tie.Need-part-same-start
 part-same-start c = search needs
 
--- src/lib.rt:105:18
 part-same-end : tie.Need-part-same-end
 part-same-end c = search needs
 
--- src/lib.rt:105:5
 same-requires : tie.Need-same-requires
 same-requires c κs = search needs
 
--- src/lib.rt:97:1
 returns-2 : tie.Need-returns-2
 returns-2 c = let a = c .before .before .before .before .before .args in
     c .same .ensures ∙ part-same _ (a .bytes .now) (a .at) (a .size)

@@ -9,10 +9,6 @@ use Rattle.cutting.proofs.Turn.{room, next-fits, next-end, find-turn, f
 use borrow.Author.Needs.{needs}
 use Rattle.cutting.proofs.first_equal.Statement.{statement}
 use Rattle.cutting.proofs.first_equal.Tie as tie
-use Rattle.cutting.proofs.first_equal.Reads as reads
-use Rattle.cutting.proofs.first_equal.Lts as lts
-use Rattle.cutting.proofs.equal_at.Reads as equal-at-reads
-use Rattle.heads.proofs.field.Reads as field-reads
 
 abbrev Inv-loop : tie.InvT-loop
 Inv-loop «record» bytes at₀ n₀ at n = (endToEnd (drop at bytes) ≡ true) × (at ≤ length bytes) × (n ≤ at)
@@ -26,41 +22,32 @@ fits : (c : tie.After-field Inv-loop μ-loop)
     (6 ≤ c .field .result) × (k .loop .at + c .field .result ≤ length (k .before .before .before .args .bytes .now))
 fits c = let l = c .before .before .loop in next-fits _ (l .at) (l .inv .0) (omega arith) _ (c .field .ensures)
 
--- src/lib.rt:115:5
 loop-holds : tie.Need-loop-holds Inv-loop μ-loop
 loop-holds c = (c .before .before .pre, search needs, search needs, zero-add _)
 
--- src/lib.rt:116:20
 field-requires : tie.Need-field-requires Inv-loop μ-loop
 field-requires c κs = let l = c .before .loop in let r = room _ (l .at) (l .inv .0) (omega arith) in omega arith
 
--- src/lib.rt:116:20
 cast-size : tie.Need-cast-size Inv-loop μ-loop
 cast-size c = search needs
 
--- src/lib.rt:117:12
 equal-at-requires : tie.Need-equal-at-requires Inv-loop μ-loop
 equal-at-requires c κs = let f = fits c in omega arith
 
--- src/lib.rt:118:13
 returns : tie.Need-returns Inv-loop μ-loop
 returns c = let l = c .before .before .before .before .loop in
     let t = find-stops _ (l .at) (l .inv .0) (omega arith) _ (c .before .before .field .ensures) _ (l .n) (sym (c .before .equal-at .ensures) ∙ c .if1 .taken) in
     sym t ∙ l .inv .3
 
--- src/lib.rt:120:9
 add-at : tie.Need-add-at Inv-loop μ-loop
 add-at c = let f = fits (c .before .before) in omega arith
 
--- src/lib.rt:121:9
 add-n : tie.Need-add-n Inv-loop μ-loop
 add-n c = let f = fits (c .before .before) in omega arith
 
--- src/lib.rt:115:5
 loop-less : tie.Need-loop-less Inv-loop μ-loop
 loop-less c = let f = fits (c .before .before) in omega arith
 
--- src/lib.rt:115:5
 loop-again : tie.Need-loop-again Inv-loop μ-loop
 loop-again c = let l = c .before .before .before .before .loop in
     let f = fits (c .before .before) in
@@ -68,7 +55,6 @@ loop-again c = let l = c .before .before .before .before .loop in
     let t = find-turn _ (l .at) (l .inv .0) (omega arith) _ s _ (l .n) (sym (c .before .equal-at .ensures) ∙ c .if1 .left) in
     (next-end _ (l .at) (l .inv .0) (omega arith) _ s, omega arith, omega arith, sym t ∙ l .inv .3)
 
--- src/lib.rt:109:1
 returns-2 : tie.Need-returns-2 Inv-loop μ-loop
 returns-2 c = let l = c .before .loop in sym (find-ends _ (l .at) _ (l .n) (omega arith)) ∙ l .inv .3
 

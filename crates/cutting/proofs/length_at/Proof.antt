@@ -5,61 +5,44 @@ use Rattle.cutting.proofs.Stands.{record-short, record-long, length-ref
 use borrow.Author.Needs.{needs}
 use Rattle.cutting.proofs.length_at.Statement.{statement}
 use Rattle.cutting.proofs.length_at.Tie as tie
-use Rattle.cutting.proofs.length_at.Reads as reads
-use Rattle.cutting.proofs.length_at.Lts as lts
-use Rattle.heads.proofs.field.Reads as field-reads
-use Rattle.heads.proofs.head_refusal.Reads as head-refusal-reads
 
--- src/lib.rt:20:9
 returns : tie.Need-returns
 returns c = let a = c .before .before .args in sym (ap length (record-short (a .bytes .now) (a .at) (omega arith)))
 
--- src/lib.rt:22:16
 sub-left : tie.Need-sub-left
 sub-left c = search needs
 
--- src/lib.rt:24:9
 returns-2 : tie.Need-returns-2
 returns-2 c = let a = c .before .before .before .args in sym (ap length (record-short (a .bytes .now) (a .at) (omega arith)))
 
--- src/lib.rt:26:18
 field-requires : tie.Need-field-requires
 field-requires c κs = search needs
 
--- src/lib.rt:26:18
 cast-length : tie.Need-cast-length
 cast-length c = search needs
 
--- src/lib.rt:28:9
 returns-3 : tie.Need-returns-3
 returns-3 c = let a = c .before .before .before .before .before .args in
     sym (ap length (record-long (a .bytes .now) (a .at) _ (c .before .field .ensures) (omega arith)))
 
--- src/lib.rt:30:15
 add-end : tie.Need-add-end
 add-end c = search needs
 
--- src/lib.rt:31:28
 sub-head-refusal : tie.Need-sub-head-refusal
 sub-head-refusal c = search needs
 
--- src/lib.rt:31:28
 part-head-refusal-start : tie.Need-part-head-refusal-start
 part-head-refusal-start c = search needs
 
--- src/lib.rt:31:28
 part-head-refusal-end : tie.Need-part-head-refusal-end
 part-head-refusal-end c = search needs
 
--- src/lib.rt:31:8
 head-refusal-requires : tie.Need-head-refusal-requires
 head-refusal-requires c κs = search needs
 
--- src/lib.rt:32:9
 returns-4 : tie.Need-returns-4
 returns-4 c = length-refused _ _ _ (c .before .before .before .before .field .ensures) _ (c .before .head-refusal .ensures) (c .if4 .taken)
 
--- src/lib.rt:16:1
 returns-5 : tie.Need-returns-5
 returns-5 c = length-passes _ _ _ (c .before .before .before .before .field .ensures) _ (c .before .head-refusal .ensures) (omega arith) (omega arith)
 

@@ -10,9 +10,6 @@ use Rattle.cutting.proofs.Turn.{some-here, room, next-fits, next-end, p
 use borrow.Author.Needs.{needs}
 use Rattle.cutting.proofs.place.Statement.{statement}
 use Rattle.cutting.proofs.place.Tie as tie
-use Rattle.cutting.proofs.place.Reads as reads
-use Rattle.cutting.proofs.place.Lts as lts
-use Rattle.heads.proofs.field.Reads as field-reads
 
 abbrev Inv-loop : tie.InvT-loop
 Inv-loop bytes n at₀ left₀ at left = (endToEnd (drop at bytes) ≡ true) × (left < length (recordsIn (drop at bytes)))
@@ -26,31 +23,24 @@ fits : (c : tie.After-field Inv-loop μ-loop)
     (6 ≤ c .field .result) × (k .loop .at + c .field .result ≤ length (k .before .before .args .bytes .now))
 fits c = let l = c .before .before .loop in next-fits _ (l .at) (l .inv .0) (some-here _ (l .at) (l .left) (l .inv .1)) _ (c .field .ensures)
 
--- src/lib.rt:73:5
 loop-holds : tie.Need-loop-holds Inv-loop μ-loop
 loop-holds c = (c .before .pre .0, c .before .pre .1, zero-add _)
 
--- src/lib.rt:74:15
 field-requires : tie.Need-field-requires Inv-loop μ-loop
 field-requires c κs = let l = c .before .loop in let r = room _ (l .at) (l .inv .0) (some-here _ (l .at) (l .left) (l .inv .1)) in omega arith
 
--- src/lib.rt:74:15
 cast-at : tie.Need-cast-at Inv-loop μ-loop
 cast-at c = search needs
 
--- src/lib.rt:74:9
 add-at : tie.Need-add-at Inv-loop μ-loop
 add-at c = let f = fits c in omega arith
 
--- src/lib.rt:75:9
 sub-left : tie.Need-sub-left Inv-loop μ-loop
 sub-left c = search needs
 
--- src/lib.rt:73:5
 loop-less : tie.Need-loop-less Inv-loop μ-loop
 loop-less c = search needs
 
--- src/lib.rt:73:5
 loop-again : tie.Need-loop-again Inv-loop μ-loop
 loop-again c = let l = c .before .before .loop in
     let h = some-here _ (l .at) (l .left) (l .inv .1) in
@@ -58,7 +48,6 @@ loop-again c = let l = c .before .before .loop in
     let b = place-fewer _ (l .at) (l .inv .0) h _ (c .field .ensures) (l .left) (omega arith) (l .inv .1) in
     (n, b, sym (place-turn _ (l .at) (l .inv .0) h _ (c .field .ensures) (l .left) (omega arith)) ∙ l .inv .2)
 
--- src/lib.rt:67:1
 returns : tie.Need-returns Inv-loop μ-loop
 returns c = let l = c .before .loop in sym (place-ends _ (l .at) (l .left) (omega arith)) ∙ l .inv .2
 

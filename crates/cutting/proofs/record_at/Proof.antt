@@ -7,9 +7,6 @@ use Rattle.cutting.proofs.Turn.{step-fits}
 use borrow.Author.Needs.{needs}
 use Rattle.cutting.proofs.record_at.Statement.{statement}
 use Rattle.cutting.proofs.record_at.Tie as tie
-use Rattle.cutting.proofs.record_at.Reads as reads
-use Rattle.cutting.proofs.record_at.Lts as lts
-use Rattle.cutting.proofs.length_at.Reads as length-at-reads
 
 fits : (c : tie.Else1)
     → let a = c .before .before .before .args in
@@ -17,23 +14,18 @@ fits : (c : tie.Else1)
     (6 ≤ l) × (a .at + l ≤ length (a .bytes .now))
 fits c = step-fits _ _ 0 _ (c .before .length-at .ensures) (c .if1 .left)
 
--- src/lib.rt:58:9
 length-at-requires : tie.Need-length-at-requires
 length-at-requires c κs = search needs
 
--- src/lib.rt:60:16
 sub-result : tie.Need-sub-result
 sub-result c = search needs
 
--- src/lib.rt:60:16
 part-result-start : tie.Need-part-result-start
 part-result-start c = search needs
 
--- src/lib.rt:60:16
 part-result-end : tie.Need-part-result-end
 part-result-end c = search needs
 
--- src/lib.rt:60:9
 returns : tie.Need-returns
 returns c = let l = c .before .before .length-at .ensures in
     let s = c .before .before .before .before .args .bytes in
@@ -42,23 +34,18 @@ returns c = let l = c .before .before .length-at .ensures in
       begins = ap (λ (o : ℕ). (s .ptr .0, o)) (begins-none _ _ _ l (c .before .if1 .taken) (s .ptr .1));
     }
 
--- src/lib.rt:62:15
 add-end : tie.Need-add-end
 add-end c = let f = fits c in omega arith
 
--- src/lib.rt:63:5
 sub-result-2 : tie.Need-sub-result-2
 sub-result-2 c = let f = fits c in omega arith
 
--- src/lib.rt:63:5
 part-result-start-2 : tie.Need-part-result-start-2
 part-result-start-2 c = let f = fits c in omega arith
 
--- src/lib.rt:63:5
 part-result-end-2 : tie.Need-part-result-end-2
 part-result-end-2 c = let f = fits c in omega arith
 
--- src/lib.rt:55:1
 returns-2 : tie.Need-returns-2
 returns-2 c = let l = c .before .before .length-at .ensures in
     let s = c .before .before .before .before .args .bytes in

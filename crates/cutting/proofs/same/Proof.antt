@@ -7,8 +7,6 @@ use Rattle.cutting.proofs.Equality.{same-unlike, same-turn, same-stops,
 use borrow.Author.Needs.{needs}
 use Rattle.cutting.proofs.same.Statement.{statement}
 use Rattle.cutting.proofs.same.Tie as tie
-use Rattle.cutting.proofs.same.Reads as reads
-use Rattle.cutting.proofs.same.Lts as lts
 
 abbrev Inv-loop : tie.InvT-loop
 Inv-loop a b i₀ i = (i ≤ length a) × (length a ≡ length b) × (shelf.same (drop i a) (drop i b) ≡ shelf.same a b)
@@ -16,40 +14,31 @@ Inv-loop a b i₀ i = (i ≤ length a) × (length a ≡ length b) × (shelf.same
 abbrev μ-loop : tie.MeasureT-loop
 μ-loop a b i₀ i = length a - i
 
--- src/lib.rt:84:9
 returns : tie.Need-returns Inv-loop μ-loop
 returns c = sym (same-unlike _ _ (c .if1 .taken))
 
--- src/lib.rt:87:5
 loop-holds : tie.Need-loop-holds Inv-loop μ-loop
 loop-holds c = (search needs, search needs, refl)
 
--- src/lib.rt:88:12
 shared-slice-read-if2 : tie.Need-shared-slice-read-if2 Inv-loop μ-loop
 shared-slice-read-if2 c = search needs
 
--- src/lib.rt:88:20
 shared-slice-read-if2-2 : tie.Need-shared-slice-read-if2-2 Inv-loop μ-loop
 shared-slice-read-if2-2 c = search needs
 
--- src/lib.rt:89:13
 returns-2 : tie.Need-returns-2 Inv-loop μ-loop
 returns-2 c = let l = c .before .before .before .before .loop in sym (same-stops _ _ (l .i) (omega arith) (omega arith) (c .if2 .taken)) ∙ l .inv .2
 
--- src/lib.rt:91:9
 add-i : tie.Need-add-i Inv-loop μ-loop
 add-i c = search needs
 
--- src/lib.rt:87:5
 loop-less : tie.Need-loop-less Inv-loop μ-loop
 loop-less c = search needs
 
--- src/lib.rt:87:5
 loop-again : tie.Need-loop-again Inv-loop μ-loop
 loop-again c = let l = c .before .before .before .before .loop in
     (search needs, search needs, sym (same-turn _ _ (l .i) (omega arith) (omega arith) (omega arith)) ∙ l .inv .2)
 
--- src/lib.rt:80:1
 returns-3 : tie.Need-returns-3 Inv-loop μ-loop
 returns-3 c = let l = c .before .loop in sym (same-ends _ _ (l .i) (omega arith) (omega arith)) ∙ l .inv .2
 

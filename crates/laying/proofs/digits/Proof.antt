@@ -3,9 +3,9 @@ use native.Mathlib.Omega.{arith}
 use mathlib.Core.Path.{_≡_, sym, _∙_}
 use lib.ListN.{drop}
 use Rattle.model.specs.Record.{digitsFrom}
-use Rattle.model.specs.Record.{digits as digitsOf}
 use Rattle.areas.specs.Area.{region}
 use Rattle.laying.proofs.Numerals.{Bound, bound-start, bound-end, in-byte, digit-below, digits-start, digits-again, digits-end}
+use Rattle.model.specs.Record.{digits as digitsOf}
 use borrow.Author.Needs.{needs}
 use Rattle.laying.proofs.digits.Statement.{statement}
 use Rattle.laying.proofs.digits.Tie as tie

@@ -2,9 +2,9 @@ use Prim.Native.Nat.{_+_, _-_, _*_, _≤_}
 use native.Mathlib.Omega.{arith}
 use mathlib.Core.Path.{_≡_, sym, _∙_}
 use lib.ListN.{length, drop, length-set}
-use Rattle.model.specs.Record.{pack as packed}
 use Rattle.areas.specs.Area.{region, placed}
 use Rattle.laying.proofs.Numerals.{group-fits, all-group, pack-start, pack-again, pack-end}
+use Rattle.model.specs.Record.{pack as packed}
 use borrow.Author.Needs.{needs}
 use Rattle.laying.proofs.pack.Statement.{statement}
 use Rattle.laying.proofs.pack.Tie as tie

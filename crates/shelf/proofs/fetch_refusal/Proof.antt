@@ -4,31 +4,22 @@ use Rattle.shelf.proofs.Refusals.{fetch-broken, fetch-past, fetch-fine}
 use borrow.Author.Needs.{needs}
 use Rattle.shelf.proofs.fetch_refusal.Statement.{statement}
 use Rattle.shelf.proofs.fetch_refusal.Tie as tie
-use Rattle.shelf.proofs.fetch_refusal.Reads as reads
-use Rattle.shelf.proofs.fetch_refusal.Lts as lts
-use Rattle.shelf.proofs.count.Reads as count-reads
 
--- src/lib.rt:22:11
 count-requires : tie.Need-count-requires
 count-requires c κs = search needs
 
--- src/lib.rt:23:37
 enum-told : tie.Need-enum-told
 enum-told c = search needs
 
--- src/lib.rt:24:35
 enum-known-records : tie.Need-enum-known-records
 enum-known-records c = search needs
 
--- src/lib.rt:26:17
 returns : tie.Need-returns
 returns c = fetch-fine _ _ _ _ (sym (c .before .before .records .given .1) ∙ c .before .before .before .before .count .ensures) (omega arith)
 
--- src/lib.rt:19:1
 returns-2 : tie.Need-returns-2
 returns-2 c = fetch-broken _ _ _ (sym (c .enum-told .given .1) ∙ c .before .before .count .ensures)
 
--- src/lib.rt:19:1
 returns-3 : tie.Need-returns-3
 returns-3 c = fetch-past _ _ _ _ (sym (c .before .before .records .given .1) ∙ c .before .before .before .before .count .ensures) (omega arith)
 

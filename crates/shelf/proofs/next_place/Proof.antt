@@ -4,21 +4,15 @@ use Rattle.shelf.proofs.Walking.{next-fits, next-is}
 use borrow.Author.Needs.{needs}
 use Rattle.shelf.proofs.next_place.Statement.{statement}
 use Rattle.shelf.proofs.next_place.Tie as tie
-use Rattle.shelf.proofs.next_place.Reads as reads
-use Rattle.shelf.proofs.next_place.Lts as lts
-use Rattle.cutting.proofs.length_at.Reads as length-at-reads
 
--- src/lib.rt:85:9
 length-at-requires : tie.Need-length-at-requires
 length-at-requires c κs = search needs
 
--- src/lib.rt:86:5
 add-result : tie.Need-add-result
 add-result c = let a = c .before .before .args in
     let e = c .length-at .ensures in
     ⊎-elim (λ z. omega arith) (λ b. omega arith) (next-fits (a .bytes .now) (a .at))
 
--- src/lib.rt:82:1
 returns : tie.Need-returns
 returns c = next-is _ _ _ (c .length-at .ensures)
 

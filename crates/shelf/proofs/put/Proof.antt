@@ -7,8 +7,6 @@ use Rattle.shelf.proofs.Storing.{put-turn, put-ends}
 use borrow.Author.Needs.{needs}
 use Rattle.shelf.proofs.put.Statement.{statement}
 use Rattle.shelf.proofs.put.Tie as tie
-use Rattle.shelf.proofs.put.Reads as reads
-use Rattle.shelf.proofs.put.Lts as lts
 
 abbrev Inv-loop : tie.InvT-loop
 Inv-loop shelf₀ at «record» i₀ shelf i = (i ≤ length «record») × (shelf ≡ paste shelf₀ at «record» i) × (length shelf ≡ length shelf₀)
@@ -16,40 +14,31 @@ Inv-loop shelf₀ at «record» i₀ shelf i = (i ≤ length «record») × (she
 abbrev μ-loop : tie.MeasureT-loop
 μ-loop shelf₀ at «record» i₀ shelf i = length «record» - i
 
--- src/lib.rt:128:5
 loop-holds : tie.Need-loop-holds Inv-loop μ-loop
 loop-holds c = let a = c .args in (search needs, paste-zero _ (a .at) (a .«record» .now), refl)
 
--- src/lib.rt:129:17
 add-j : tie.Need-add-j Inv-loop μ-loop
 add-j c = search needs
 
--- src/lib.rt:130:20
 shared-slice-read-shelf : tie.Need-shared-slice-read-shelf Inv-loop μ-loop
 shared-slice-read-shelf c = search needs
 
--- src/lib.rt:130:9
 slice-write-shelf : tie.Need-slice-write-shelf Inv-loop μ-loop
 slice-write-shelf c = search needs
 
--- src/lib.rt:131:9
 add-i : tie.Need-add-i Inv-loop μ-loop
 add-i c = search needs
 
--- src/lib.rt:128:5
 loop-less : tie.Need-loop-less Inv-loop μ-loop
 loop-less c = search needs
 
--- src/lib.rt:128:5
 loop-again : tie.Need-loop-again Inv-loop μ-loop
 loop-again c = let l = c .before .before .loop in
     (search needs, put-turn _ _ _ _ (l .i) (l .inv .1) (omega arith) (omega arith), search needs)
 
--- src/lib.rt:123:1
 same-length : tie.Need-same-length Inv-loop μ-loop
 same-length c = search needs
 
--- src/lib.rt:123:1
 returns : tie.Need-returns Inv-loop μ-loop
 returns c = let a = c .before .before .args in
     let l = c .before .loop in

@@ -4,58 +4,42 @@ use Rattle.shelf.proofs.Storing.{stored-refused, stored-there, stored-n
 use borrow.Author.Needs.{needs}
 use Rattle.shelf.proofs.shelve.Statement.{statement}
 use Rattle.shelf.proofs.shelve.Tie as tie
-use Rattle.shelf.proofs.shelve.Reads as reads
-use Rattle.shelf.proofs.shelve.Lts as lts
-use Rattle.shelf.proofs.put.Reads as put-reads
-use Rattle.shelf.proofs.spot_of.Reads as spot-of-reads
 
--- src/lib.rt:138:11
 spot-of-requires : tie.Need-spot-of-requires
 spot-of-requires c κs = search needs
 
--- src/lib.rt:139:23
 enum-known-number : tie.Need-enum-known-number
 enum-known-number c = search needs
 
--- src/lib.rt:140:21
 enum-known-n : tie.Need-enum-known-n
 enum-known-n c = search needs
 
--- src/lib.rt:141:19
 enum-known-n-2 : tie.Need-enum-known-n-2
 enum-known-n-2 c = search needs
 
--- src/lib.rt:142:13
 put-requires : tie.Need-put-requires
 put-requires c κs = new-fits _ _ _ _ (sym (c .before .before .n2 .given .1) ∙ c .before .before .before .before .spot-of .ensures)
 
--- src/lib.rt:143:23
 add-end : tie.Need-add-end
 add-end c = let k = c .before .before .before .before .before in
     let f = new-fits _ _ _ _ (sym (k .n2 .given .1) ∙ k .before .before .spot-of .ensures) in
     omega arith
 
--- src/lib.rt:135:1
 same-length : tie.Need-same-length
 same-length c = search needs
 
--- src/lib.rt:135:1
 returns : tie.Need-returns
 returns c = stored-refused _ _ _ _ (sym (c .before .number .given .1) ∙ c .before .before .before .spot-of .ensures)
 
--- src/lib.rt:135:1
 same-length-2 : tie.Need-same-length-2
 same-length-2 c = search needs
 
--- src/lib.rt:135:1
 returns-2 : tie.Need-returns-2
 returns-2 c = stored-there _ _ _ _ (sym (c .before .n .given .1) ∙ c .before .before .before .spot-of .ensures)
 
--- src/lib.rt:135:1
 same-length-3 : tie.Need-same-length-3
 same-length-3 c = search needs
 
--- src/lib.rt:135:1
 returns-3 : tie.Need-returns-3
 returns-3 c = let k = c .before .before .before .before .before in
     stored-new _ _ _ _ (sym (k .n2 .given .1) ∙ k .before .before .spot-of .ensures) _ (c .before .before .put .ensures)

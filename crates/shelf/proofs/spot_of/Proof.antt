@@ -4,72 +4,53 @@ use Rattle.shelf.proofs.Storing.{spot-refused, spot-broken, spot-there,
 use borrow.Author.Needs.{needs}
 use Rattle.shelf.proofs.spot_of.Statement.{statement}
 use Rattle.shelf.proofs.spot_of.Tie as tie
-use Rattle.shelf.proofs.spot_of.Reads as reads
-use Rattle.shelf.proofs.spot_of.Lts as lts
-use Rattle.cutting.proofs.first_equal.Reads as first-equal-reads
-use Rattle.heads.proofs.head_refusal.Reads as head-refusal-reads
-use Rattle.shelf.proofs.count.Reads as count-reads
 
--- src/lib.rt:103:9
 head-refusal-requires : tie.Need-head-refusal-requires
 head-refusal-requires c κs = search needs
 
--- src/lib.rt:105:9
 returns : tie.Need-returns
 returns c = spot-refused _ _ _ _ (c .before .head-refusal .ensures) (c .if1 .taken)
 
--- src/lib.rt:107:11
 count-requires : tie.Need-count-requires
 count-requires c κs = search needs
 
--- src/lib.rt:108:37
 enum-told : tie.Need-enum-told
 enum-told c = search needs
 
--- src/lib.rt:109:35
 enum-known-records : tie.Need-enum-known-records
 enum-known-records c = search needs
 
--- src/lib.rt:110:50
 sub-first-equal : tie.Need-sub-first-equal
 sub-first-equal c = search needs
 
--- src/lib.rt:110:50
 part-first-equal-start : tie.Need-part-first-equal-start
 part-first-equal-start c = search needs
 
--- src/lib.rt:110:50
 part-first-equal-end : tie.Need-part-first-equal-end
 part-first-equal-end c = spot-requires _ _ _ (sym (c .before .records .given .1) ∙ c .before .before .before .count .ensures) .0
 
--- src/lib.rt:110:17
 first-equal-requires : tie.Need-first-equal-requires
 first-equal-requires c κs = spot-requires _ _ _ (sym (c .before .before .records .given .1) ∙ c .before .before .before .before .count .ensures) .1
 
--- src/lib.rt:112:17
 returns-2 : tie.Need-returns-2
 returns-2 c = let k = c .before .before .before .before in
     spot-there _ _ _ _ (k .before .before .before .before .head-refusal .ensures) (omega arith) _ (sym (k .records .given .1) ∙ k .before .before .count .ensures)
     _ (c .before .first-equal .ensures) (c .if2 .taken)
 
--- src/lib.rt:114:16
 sub-if3 : tie.Need-sub-if3
 sub-if3 c = let k = c .before .before .before .before in
     let r = spot-requires _ _ _ (sym (k .records .given .1) ∙ k .before .before .count .ensures) .0 in
     omega arith
 
--- src/lib.rt:115:17
 returns-3 : tie.Need-returns-3
 returns-3 c = let k = c .before .before .before .before .before in
     spot-full _ _ _ _ (k .before .before .before .before .head-refusal .ensures) (omega arith) _ (sym (k .records .given .1) ∙ k .before .before .count .ensures)
     _ (c .before .before .first-equal .ensures) (omega arith) (omega arith)
 
--- src/lib.rt:100:1
 returns-4 : tie.Need-returns-4
 returns-4 c = spot-broken _ _ _ _ (c .before .before .before .before .head-refusal .ensures) (omega arith)
     (sym (c .enum-told .given .1) ∙ c .before .before .count .ensures)
 
--- src/lib.rt:100:1
 returns-5 : tie.Need-returns-5
 returns-5 c = let k = c .before .before .before .before .before in
     spot-new _ _ _ _ (k .before .before .before .before .head-refusal .ensures) (omega arith) _ (sym (k .records .given .1) ∙ k .before .before .count .ensures)

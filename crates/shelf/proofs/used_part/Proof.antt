@@ -7,26 +7,19 @@ use Rattle.shelf.proofs.Walking.{whole-part}
 use borrow.Author.Needs.{needs}
 use Rattle.shelf.proofs.used_part.Statement.{statement}
 use Rattle.shelf.proofs.used_part.Tie as tie
-use Rattle.shelf.proofs.used_part.Reads as reads
-use Rattle.shelf.proofs.used_part.Lts as lts
 
--- src/lib.rt:48:9
 returns : tie.Need-returns
 returns c = let a = c .before .args in (whole-part (a .shelf .now) (a .used) (omega arith), refl)
 
--- src/lib.rt:50:5
 sub-result : tie.Need-sub-result
 sub-result c = search needs
 
--- src/lib.rt:50:5
 part-result-start : tie.Need-part-result-start
 part-result-start c = search needs
 
--- src/lib.rt:50:5
 part-result-end : tie.Need-part-result-end
 part-result-end c = search needs
 
--- src/lib.rt:44:1
 returns-2 : tie.Need-returns-2
 returns-2 c = let a = c .before .before .args in
     let s = a .shelf in

@@ -3,36 +3,25 @@ use Rattle.shelf.proofs.Walking.{begun-refused, begun-parts, begun-fine
 use borrow.Author.Needs.{needs}
 use Rattle.shelf.proofs.walk_begin.Statement.{statement}
 use Rattle.shelf.proofs.walk_begin.Tie as tie
-use Rattle.shelf.proofs.walk_begin.Reads as reads
-use Rattle.shelf.proofs.walk_begin.Lts as lts
-use Rattle.cutting.proofs.place.Reads as place-reads
-use Rattle.shelf.proofs.fetch_refusal.Reads as fetch-refusal-reads
 
--- src/lib.rt:59:9
 fetch-refusal-requires : tie.Need-fetch-refusal-requires
 fetch-refusal-requires c κs = search needs
 
--- src/lib.rt:62:9
 returns : tie.Need-returns
 returns c = begun-refused _ _ _ _ (c .before .fetch-refusal .ensures) (c .if1 .taken)
 
--- src/lib.rt:65:20
 sub-place : tie.Need-sub-place
 sub-place c = search needs
 
--- src/lib.rt:65:20
 part-place-start : tie.Need-part-place-start
 part-place-start c = search needs
 
--- src/lib.rt:65:20
 part-place-end : tie.Need-part-place-end
 part-place-end c = begun-parts _ _ _ _ (c .before .fetch-refusal .ensures) (omega arith) .0
 
--- src/lib.rt:65:5
 place-requires : tie.Need-place-requires
 place-requires c κs = let p = begun-parts _ _ _ _ (c .before .before .fetch-refusal .ensures) (omega arith) in (p .1, p .2)
 
--- src/lib.rt:56:1
 returns-2 : tie.Need-returns-2
 returns-2 c = begun-fine _ _ _ _ (c .before .before .before .fetch-refusal .ensures) (omega arith) _ (c .place .ensures)
 

@@ -6,20 +6,13 @@ use Rattle.model.specs.Walk.{recordAt}
 use borrow.Author.Needs.{needs}
 use Rattle.shelf.proofs.walk_length.Statement.{statement}
 use Rattle.shelf.proofs.walk_length.Tie as tie
-use Rattle.shelf.proofs.walk_length.Reads as reads
-use Rattle.shelf.proofs.walk_length.Lts as lts
-use Rattle.cutting.proofs.length_at.Reads as length-at-reads
-use Rattle.shelf.proofs.used_part.Reads as used-part-reads
 
--- src/lib.rt:72:24
 used-part-requires : tie.Need-used-part-requires
 used-part-requires c κs = search needs
 
--- src/lib.rt:72:5
 length-at-requires : tie.Need-length-at-requires
 length-at-requires c κs = search needs
 
--- src/lib.rt:69:1
 returns : tie.Need-returns
 returns c = let at = c .before .before .before .args .at in
     c .length-at .ensures ∙ ap (λ (r : List ℕ). length (recordAt r at)) (c .before .used-part .ensures .0)

@@ -5,20 +5,13 @@ use Rattle.model.specs.Walk.{nextPlace}
 use borrow.Author.Needs.{needs}
 use Rattle.shelf.proofs.walk_step.Statement.{statement}
 use Rattle.shelf.proofs.walk_step.Tie as tie
-use Rattle.shelf.proofs.walk_step.Reads as reads
-use Rattle.shelf.proofs.walk_step.Lts as lts
-use Rattle.shelf.proofs.next_place.Reads as next-place-reads
-use Rattle.shelf.proofs.used_part.Reads as used-part-reads
 
--- src/lib.rt:79:16
 used-part-requires : tie.Need-used-part-requires
 used-part-requires c κs = search needs
 
--- src/lib.rt:79:5
 next-place-requires : tie.Need-next-place-requires
 next-place-requires c κs = search needs
 
--- src/lib.rt:76:1
 returns : tie.Need-returns
 returns c = let at = c .before .before .before .args .at in
     c .next-place .ensures ∙ ap (λ (r : List ℕ). nextPlace r at) (c .before .used-part .ensures .0)

@@ -48,12 +48,12 @@ use Rattle.walker.proofs.Walker as T
 use Rattle.walker.proofs.Walker.Laws as T′
 use Rattle.walker.proofs.onward as onward
 use Rattle.walker.proofs.onward.Symbol as onward-def
-use Rattle.walker.proofs.onward.Symbol.{name as #walker·onward}
 use Rattle.walker.proofs.onward.Met as onward-thm
-use Rattle.shelves.proofs.moved.Key.{name as #shelves·moved}
 use Rattle.shelves.proofs.moved as moved
 use Rattle.shelves.proofs.moved.Statement as stated
 use Rattle.shelves.proofs.moved.Code as code
+use Rattle.walker.proofs.onward.Symbol.{name as #walker·onward}
+use Rattle.shelves.proofs.moved.Key.{name as #shelves·moved}
 
 abbrev stayed : Stays (moved.ended .signature .params) (moved.ended .kept)
 stayed = (stay-none-slice (0 ∷ []) tt (plain (λ _. u8)) yes, (stay-none (λ _. usize) yes, tt))

@@ -46,12 +46,12 @@ use Rattle.walker.proofs.Walker as T
 use Rattle.walker.proofs.Walker.Laws as T′
 use Rattle.walker.proofs.here as here
 use Rattle.walker.proofs.here.Symbol as here-def
-use Rattle.walker.proofs.here.Symbol.{name as #walker·here}
 use Rattle.walker.proofs.here.Met as here-thm
-use Rattle.shelves.proofs.yielded.Key.{name as #shelves·yielded}
 use Rattle.shelves.proofs.yielded as yielded
 use Rattle.shelves.proofs.yielded.Statement as stated
 use Rattle.shelves.proofs.yielded.Code as code
+use Rattle.walker.proofs.here.Symbol.{name as #walker·here}
+use Rattle.shelves.proofs.yielded.Key.{name as #shelves·yielded}
 
 abbrev stayed : Stays (yielded.ended .signature .params) (yielded.ended .kept)
 stayed = (stay-none-slice (0 ∷ []) tt (plain (λ _. u8)) yes, (stay-none (λ _. usize) yes, tt))

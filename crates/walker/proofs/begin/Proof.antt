@@ -33,7 +33,6 @@ use denote.Ref.{RefT, NamedLft, MutRef, ptr-vals, mut-tells, now}
 use denote.Signature.{plain, namedLft}
 use denote.Slice.{sliceVal, sliceTy, ShrSlice, slice-vals, shr-slice-tells, shr-slice-lawful, shr-slice-copy}
 use denote.Steps.{only, owned, peeks, heard, nothing}
-use denote.Struct.Laws as LL
 use denote.Struct.Rest.{own-shut}
 use denote.Triple.Statement.{Contract, Triple}
 use denote.Triple.Call.{calls-at}
@@ -50,16 +49,16 @@ use Rattle.walker.proofs.Walker as T
 use Rattle.walker.proofs.Walker.Laws as T′
 use Rattle.shelf.proofs.walk_begin as starts
 use Rattle.shelf.proofs.walk_begin.Symbol as starts-def
-use Rattle.shelf.proofs.walk_begin.Symbol.{name as #shelf·walk-begin}
 use Rattle.shelf.proofs.walk_begin.Met as starts-thm
 use Rattle.shelf.proofs.used_part as part
 use Rattle.shelf.proofs.used_part.Symbol as part-def
-use Rattle.shelf.proofs.used_part.Symbol.{name as #shelf·used-part}
 use Rattle.shelf.proofs.used_part.Met as part-thm
-use Rattle.walker.proofs.begin.Key.{name as #walker·begin}
 use Rattle.walker.proofs.begin as begin
 use Rattle.walker.proofs.begin.Statement as stated
 use Rattle.walker.proofs.begin.Code as code
+use Rattle.shelf.proofs.walk_begin.Symbol.{name as #shelf·walk-begin}
+use Rattle.shelf.proofs.used_part.Symbol.{name as #shelf·used-part}
+use Rattle.walker.proofs.begin.Key.{name as #walker·begin}
 
 abbrev stayed : Stays (begin.ended .signature .params) (begin.ended .kept)
 stayed = (

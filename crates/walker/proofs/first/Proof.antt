@@ -48,16 +48,16 @@ use Rattle.walker.proofs.Walker as T
 use Rattle.walker.proofs.Walker.Laws as T′
 use Rattle.walker.proofs.begin as begin
 use Rattle.walker.proofs.begin.Symbol as begin-def
-use Rattle.walker.proofs.begin.Symbol.{name as #walker·begin}
 use Rattle.walker.proofs.begin.Met as begin-thm
 use Rattle.walker.proofs.here as here
 use Rattle.walker.proofs.here.Symbol as here-def
-use Rattle.walker.proofs.here.Symbol.{name as #walker·here}
 use Rattle.walker.proofs.here.Met as here-thm
-use Rattle.walker.proofs.first.Key.{name as #walker·first}
 use Rattle.walker.proofs.first as first
 use Rattle.walker.proofs.first.Statement as stated
 use Rattle.walker.proofs.first.Code as code
+use Rattle.walker.proofs.begin.Symbol.{name as #walker·begin}
+use Rattle.walker.proofs.here.Symbol.{name as #walker·here}
+use Rattle.walker.proofs.first.Key.{name as #walker·first}
 
 abbrev stayed : Stays (first.ended .signature .params) (first.ended .kept)
 stayed = (
