@@ -29,8 +29,7 @@
  *
  * What is proved. For each exported function, machine-checked: it ends, stays within what
  * is lent, and its returned number, out-numbers, output, shelf and work area are those of
- * the definitions, for every input: crates/jurnadel/specs and those that it names, most of
- * them in crates/model/specs. docs/PROOF.md lists the theorems.
+ * the definitions in crates/model/specs, for every input. docs/PROOF.md lists the theorems.
  * What is not proved: the compiler's back end (LLVM) and the assembler, that these C
  * declarations agree with the Rattle functions (tests/ runs all of them), and the
  * caller's side of "Lent buffers" above.

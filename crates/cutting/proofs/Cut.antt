@@ -14,7 +14,7 @@ use native.Mathlib.Nat.{not-suc-le-zero}
 use native.Mathlib.Omega.{arith}
 use lib.ListN.{length, drop, length-drop}
 use Rattle.model.specs.Shelf.{word16, passes, cutInto, recordsIn, allPass, endToEnd}
-use Rattle.model.specs.Walk.{headOf}
+use Rattle.model.specs.Walk.{firstRecord}
 use Rattle.model.proofs.Booleans.{and-left, and-right}
 use Rattle.cutting.proofs.Stands.{head-whole}
 
@@ -36,26 +36,26 @@ same-cut zero m [] h k = (rw (cut-nil m), λ _. sym (cut-nil m))
 same-cut zero m (b ∷ bs) h k = absurd (not-suc-le-zero h)
 same-cut (suc n) m [] h k = (rw (cut-nil m), λ _. sym (cut-nil m))
 same-cut (suc n) zero (b ∷ bs) h k = absurd (not-suc-le-zero k)
-same-cut (suc n) (suc m) (b ∷ bs) h k = go (passes (headOf (b ∷ bs))) refl (same-cut n m (rest (b ∷ bs)))
+same-cut (suc n) (suc m) (b ∷ bs) h k = go (passes (firstRecord (b ∷ bs))) refl (same-cut n m (rest (b ∷ bs)))
   where
-    go : (t : Bool) → passes (headOf (b ∷ bs)) ≡ t
+    go : (t : Bool) → passes (firstRecord (b ∷ bs)) ≡ t
         → (length (rest (b ∷ bs)) ≤ n → length (rest (b ∷ bs)) ≤ m → SameCut n m (rest (b ∷ bs)))
         → SameCut (suc n) (suc m) (b ∷ bs)
     go true e ih =
         let w = head-whole (b ∷ bs) e in
         let d = length-drop (word16 (b ∷ bs) 0) (b ∷ bs) in
         let s = ih (omega arith) (omega arith) in
-        (rw (e, s .0), λ t. ap (λ (rs : List (List ℕ)). headOf (b ∷ bs) ∷ rs) (s .1 (and-right (passes (headOf (b ∷ bs))) _ t)))
-    go false e ih = (rw e, λ t. absurd (false≢true (sym e ∙ and-left (passes (headOf (b ∷ bs))) (allPass (cutInto n (rest (b ∷ bs)))) t)))
+        (rw (e, s .0), λ t. ap (λ (rs : List (List ℕ)). firstRecord (b ∷ bs) ∷ rs) (s .1 (and-right (passes (firstRecord (b ∷ bs))) _ t)))
+    go false e ih = (rw e, λ t. absurd (false≢true (sym e ∙ and-left (passes (firstRecord (b ∷ bs))) (allPass (cutInto n (rest (b ∷ bs)))) t)))
 
 -- ---- one record and the rest
 
-module _ (bs : List ℕ) (p : passes (headOf bs) ≡ true) where
-  cut-one : (n : ℕ) → length bs ≤ suc n → cutInto (suc n) bs ≡ headOf bs ∷ cutInto n (rest bs)
+module _ (bs : List ℕ) (p : passes (firstRecord bs) ≡ true) where
+  cut-one : (n : ℕ) → length bs ≤ suc n → cutInto (suc n) bs ≡ firstRecord bs ∷ cutInto n (rest bs)
   unfolding cutInto
   cut-one n h = go bs p
     where
-      go : (bs : List ℕ) → passes (headOf bs) ≡ true → cutInto (suc n) bs ≡ headOf bs ∷ cutInto n (rest bs)
+      go : (bs : List ℕ) → passes (firstRecord bs) ≡ true → cutInto (suc n) bs ≡ firstRecord bs ∷ cutInto n (rest bs)
       go [] q = let w = head-whole [] q in absurd (omega arith)
       go (b ∷ bs) q = refl
 
@@ -65,7 +65,7 @@ module _ (bs : List ℕ) (p : passes (headOf bs) ≡ true) where
       let d = length-drop (word16 bs 0) bs in
       same-cut (length bs - 1) (length (rest bs)) (rest bs) (omega arith) (omega arith)
 
-  records-one : recordsIn bs ≡ headOf bs ∷ cutInto (length bs - 1) (rest bs)
+  records-one : recordsIn bs ≡ firstRecord bs ∷ cutInto (length bs - 1) (rest bs)
   unfolding recordsIn
   records-one =
       let w = head-whole bs p in
@@ -76,11 +76,11 @@ module _ (bs : List ℕ) (p : passes (headOf bs) ≡ true) where
   unfolding endToEnd allPass recordsIn
   cut-verdict = ap allPass records-one ∙ rw (p, fewer .0)
 
-  pub cut-records : endToEnd (rest bs) ≡ true → recordsIn bs ≡ headOf bs ∷ recordsIn (rest bs)
+  pub cut-records : endToEnd (rest bs) ≡ true → recordsIn bs ≡ firstRecord bs ∷ recordsIn (rest bs)
   unfolding endToEnd recordsIn
-  cut-records t = records-one ∙ ap (λ (rs : List (List ℕ)). headOf bs ∷ rs) (fewer .1 (fewer .0 ∙ t))
+  cut-records t = records-one ∙ ap (λ (rs : List (List ℕ)). firstRecord bs ∷ rs) (fewer .1 (fewer .0 ∙ t))
 
-pub cut-stops : (bs : List ℕ) → 0 < length bs → passes (headOf bs) ≡ false → endToEnd bs ≡ false
+pub cut-stops : (bs : List ℕ) → 0 < length bs → passes (firstRecord bs) ≡ false → endToEnd bs ≡ false
 unfolding endToEnd recordsIn cutInto allPass
 cut-stops [] h p = absurd (not-suc-le-zero h)
 cut-stops (b ∷ bs) h p = rw p
@@ -96,15 +96,15 @@ some-bytes (b ∷ bs) k h = omega arith
 -- ---- bytes that are records end to end
 
 module _ (bs : List ℕ) (t : endToEnd bs ≡ true) (h : 0 < length bs) where
-  pub end-head : passes (headOf bs) ≡ true
-  end-head = go (passes (headOf bs)) refl
+  pub end-head : passes (firstRecord bs) ≡ true
+  end-head = go (passes (firstRecord bs)) refl
     where
-      go : (b : Bool) → passes (headOf bs) ≡ b → b ≡ true
+      go : (b : Bool) → passes (firstRecord bs) ≡ b → b ≡ true
       go true e = refl
       go false e = absurd (false≢true (sym (cut-stops bs h e) ∙ t))
 
   pub end-rest : endToEnd (rest bs) ≡ true
   end-rest = sym (cut-verdict bs end-head) ∙ t
 
-  pub end-records : recordsIn bs ≡ headOf bs ∷ recordsIn (rest bs)
+  pub end-records : recordsIn bs ≡ firstRecord bs ∷ recordsIn (rest bs)
   end-records = cut-records bs end-head end-rest

@@ -17,7 +17,7 @@ use lib.ListN.{length, take, drop, length-take, length-drop}
 use lib.Seq.{getD-drop, getD-take, length-take-le}
 use borrow.Author.Tests.{ne-eqb, eq-eqb}
 use Rattle.model.specs.Shelf.{word16, headRefusal, passes}
-use Rattle.model.specs.Walk.{headOf, recordAt}
+use Rattle.model.specs.Walk.{firstRecord, recordAt}
 use Rattle.model.proofs.Booleans.{not-intro}
 use Rattle.heads.proofs.Head.{passes-long, passes-length}
 use Rattle.model.specs.Parts.{cutPlace}
@@ -26,31 +26,31 @@ field-take : (bs : List ℕ) (l : ℕ) → 2 ≤ l → word16 (take l bs) 0 ≡ 
 unfolding word16
 field-take bs l h = rw (getD-take l bs 0 0 (omega arith), getD-take l bs 1 0 (omega arith))
 
-pub head-whole : (bs : List ℕ) → passes (headOf bs) ≡ true
-    → (6 ≤ word16 bs 0) × (word16 bs 0 ≤ length bs) × (length (headOf bs) ≡ word16 bs 0)
+pub head-whole : (bs : List ℕ) → passes (firstRecord bs) ≡ true
+    → (6 ≤ word16 bs 0) × (word16 bs 0 ≤ length bs) × (length (firstRecord bs) ≡ word16 bs 0)
 head-whole bs p =
     let l = word16 bs 0 in
     let e = length-take l bs in
-    let long = passes-long (headOf bs) p in
+    let long = passes-long (firstRecord bs) p in
     let six : 6 ≤ l = omega arith in
     let same = field-take bs l (omega arith) in
-    let whole = passes-length (headOf bs) p in
+    let whole = passes-length (firstRecord bs) p in
     (six, omega arith, omega arith)
 
 pub field-at : (bs : List ℕ) (at : ℕ) → word16 (drop at bs) 0 ≡ word16 bs at
 unfolding word16
 field-at bs at = rw (getD-drop at bs 0 0, getD-drop at bs 1 0, add-zero, add-one)
 
-no-pass : (bs : List ℕ) → (passes (headOf bs) ≡ true → ⊥) → passes (headOf bs) ≡ false
+no-pass : (bs : List ℕ) → (passes (firstRecord bs) ≡ true → ⊥) → passes (firstRecord bs) ≡ false
 no-pass bs f = not-intro _ f
 
 -- passing, at a place, by what was read there
 module _ (bs : List ℕ) (at : ℕ) where
-  pub record-none : passes (headOf (drop at bs)) ≡ false → recordAt bs at ≡ []
+  pub record-none : passes (firstRecord (drop at bs)) ≡ false → recordAt bs at ≡ []
   unfolding recordAt
   record-none e = rw e
 
-  pub record-is : passes (headOf (drop at bs)) ≡ true → recordAt bs at ≡ headOf (drop at bs)
+  pub record-is : passes (firstRecord (drop at bs)) ≡ true → recordAt bs at ≡ firstRecord (drop at bs)
   unfolding recordAt
   record-is e = rw e
 
@@ -63,7 +63,7 @@ module _ (bs : List ℕ) (at : ℕ) where
     record-long h =
         record-none (not-intro _ (λ p. let w = head-whole (drop at bs) p in let d = length-drop at bs in let f = field-at bs at in omega arith))
 
-    head-at : take l (drop at bs) ≡ headOf (drop at bs)
+    head-at : take l (drop at bs) ≡ firstRecord (drop at bs)
     head-at = rw (field-at bs at, l-is)
 
     pub record-refused : (headRefusal (take l (drop at bs)) ≡ 0 → ⊥) → recordAt bs at ≡ []
@@ -89,14 +89,14 @@ module _ (bs : List ℕ) (at : ℕ) where
 
   -- ---- what the length of the record at a place tells
 
-  pub stands : (length (recordAt bs at) ≡ 0 → ⊥) → passes (headOf (drop at bs)) ≡ true
-  stands d = go (passes (headOf (drop at bs))) refl
+  pub stands : (length (recordAt bs at) ≡ 0 → ⊥) → passes (firstRecord (drop at bs)) ≡ true
+  stands d = go (passes (firstRecord (drop at bs))) refl
     where
-      go : (t : Bool) → passes (headOf (drop at bs)) ≡ t → t ≡ true
+      go : (t : Bool) → passes (firstRecord (drop at bs)) ≡ t → t ≡ true
       go true e = refl
       go false e = absurd (d (ap length (record-none e)))
 
-  pub stands-length : passes (headOf (drop at bs)) ≡ true
+  pub stands-length : passes (firstRecord (drop at bs)) ≡ true
       → (6 ≤ length (recordAt bs at)) × (at + length (recordAt bs at) ≤ length bs) × (length (recordAt bs at) ≡ word16 (drop at bs) 0)
   stands-length p =
       let w = head-whole (drop at bs) p in
@@ -104,7 +104,7 @@ module _ (bs : List ℕ) (at : ℕ) where
       let d = length-drop at bs in
       (omega arith, omega arith, omega arith)
 
-  pub stands-not : length (recordAt bs at) ≡ 0 → passes (headOf (drop at bs)) ≡ false
+  pub stands-not : length (recordAt bs at) ≡ 0 → passes (firstRecord (drop at bs)) ≡ false
   stands-not e = not-intro _ (λ p. let s = stands-length p in omega arith)
 
   -- ---- the part that is handed back

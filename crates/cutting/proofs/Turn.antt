@@ -17,7 +17,7 @@ use lib.Seq.{drop-drop, drop-length, length-take-le}
 use Rattle.cutting.specs.declared.Counted.{Counted}
 use Rattle.cutting.specs.declared.Counted.the-variants.{Records, Broken}
 use Rattle.model.specs.Shelf.{word16, passes, allPass, recordsIn, endToEnd, same, firstEqual}
-use Rattle.model.specs.Walk.{headOf, recordAt, placeOfRecord}
+use Rattle.model.specs.Walk.{firstRecord, recordAt, placeOfRecord}
 use Rattle.cutting.specs.Count.{countOf}
 use Rattle.cutting.proofs.Stands.{head-whole, field-at, stands, stands-length, stands-not}
 use Rattle.cutting.proofs.Cut.{rest, cut-verdict, cut-records, cut-stops, end-nil, some-bytes, end-head, end-rest, end-records}
@@ -41,7 +41,7 @@ count-begins bs = go (countOf bs)
     go (Records k) = ap Records (zero-add k)
     go Broken = refl
 
-count-one : (bs : List ℕ) (n : ℕ) → passes (headOf bs) ≡ true → plus n (countOf bs) ≡ plus (n + 1) (countOf (rest bs))
+count-one : (bs : List ℕ) (n : ℕ) → passes (firstRecord bs) ≡ true → plus n (countOf bs) ≡ plus (n + 1) (countOf (rest bs))
 unfolding countOf
 count-one bs n p = rw (cut-verdict bs p) (go (endToEnd (rest bs)) refl)
   where
@@ -78,7 +78,7 @@ pub some-here : (bs : List ℕ) (at k : ℕ) → k < length (recordsIn (drop at 
 some-here bs at k h = let b = some-bytes (drop at bs) k h in let d = length-drop at bs in omega arith
 
 module _ (bs : List ℕ) (at : ℕ) (t : endToEnd (drop at bs) ≡ true) (h : at < length bs) where
-  here : passes (headOf (drop at bs)) ≡ true
+  here : passes (firstRecord (drop at bs)) ≡ true
   here = let d = length-drop at bs in end-head (drop at bs) t (omega arith)
 
   pub room : at + 6 ≤ length bs

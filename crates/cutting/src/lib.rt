@@ -79,7 +79,7 @@ pub fn place(bytes: &[u8], n: usize) -> usize
     at
 }
 
-pub fn same(a: &[u8], b: &[u8]) -> bool
+fn same(a: &[u8], b: &[u8]) -> bool
     ensures { λ r. ⌜ r ≡ same (now (a .entry)) (now (b .entry)) ⌝ }
 {
     if a.len() != b.len() {
@@ -96,7 +96,7 @@ pub fn same(a: &[u8], b: &[u8]) -> bool
 }
 
 // The bytes at this place, as many as size, are the record's. They are compared only if the lengths agree.
-pub fn equal_at(record: &[u8], bytes: &[u8], at: usize, size: usize) -> bool
+fn equal_at(record: &[u8], bytes: &[u8], at: usize, size: usize) -> bool
     requires { ⌜ at + size ≤ length (now bytes) ⌝ }
     ensures { λ r. ⌜ r ≡ same (now («record» .entry)) (take size (drop at (now (bytes .entry)))) ⌝ }
 {

@@ -45,7 +45,7 @@ pub enum Outcome {
     Stuck,
 }
 
-// The label of a leaf.
+// The label of the edge to a bare leaf.
 const STAR: u16 = 2;
 
 // Where the stacks and the labels begin, in units of m.
@@ -173,7 +173,7 @@ fn rise(w: &mut [u16], m: usize, s: State) -> State
     }
 }
 
-// Edge e is a leaf's, with its saved label.
+// Edge e is a bare leaf's, with its saved label.
 fn leaf(w: &mut [u16], m: usize, s: State, e: usize, label: u16) -> State
     requires { ⌜ Room m (now w) s e ⌝ }
     ensures { λ r. ⌜ (r ≡ leafedState s e label) × (now (w .exit) ≡ leafedArea (now (w .entry)) s e) ⌝ }

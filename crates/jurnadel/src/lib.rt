@@ -1,5 +1,5 @@
 // The calls as exported C functions. Numbers and slices go over as they are, a slice as pointer and length; an answer's values go out through references
-// to numbers. Each function is total: any content and any length of what is lent. Nothing is worked out here: each call is that of a crate below.
+// to numbers. Each function is total: any content and any length of what is lent. But for the sizes nothing is worked out here: each call is that of a crate below.
 use model::ReadBack;
 use model::Shelved;
 use model::Written;

@@ -23,7 +23,7 @@ fn digit(w: &[u16], a: usize, e: usize, i: usize) -> u16
 }
 
 // The number whose digits in this base are the entries from a on, highest first, filled up with 0 from e on.
-pub fn digits(w: &[u16], a: usize, e: usize, base: u16, width: usize) -> u16
+fn digits(w: &[u16], a: usize, e: usize, base: u16, width: usize) -> u16
     requires { ⌜ (e ≤ length (now w)) × (a + width ≤ 2 ^ 20) × (1 ≤ base) × (base ^ width ≤ 256)
         × (allBelow base (region a (e - a) (now w)) ≡ true) ⌝ }
     ensures { λ r. ⌜ (r ≡ digits base width (region a (e - a) (now (w .entry)))) × (r < 256) ⌝ }
@@ -38,7 +38,7 @@ pub fn digits(w: &[u16], a: usize, e: usize, base: u16, width: usize) -> u16
 }
 
 // The digits from a to e, in groups of this width, as bytes from place at on.
-pub fn pack(
+fn pack(
     w: &[u16],
     a: usize,
     e: usize,
@@ -61,7 +61,7 @@ pub fn pack(
 }
 
 // A number in two bytes, the low one first.
-pub fn put16(out: &mut [u8], at: usize, x: u16)
+fn put16(out: &mut [u8], at: usize, x: u16)
     requires { ⌜ (at + 2 ≤ length (now out)) × (at ≤ 2 ^ 20) ⌝ }
     ensures { λ _. ⌜ now (out .exit) ≡ placed at (le16 x) (now (out .entry)) ⌝ }
 {
@@ -70,7 +70,7 @@ pub fn put16(out: &mut [u8], at: usize, x: u16)
 }
 
 // How many groups of this width hold n digits.
-pub fn groups(n: usize, width: usize) -> usize
+fn groups(n: usize, width: usize) -> usize
     requires { ⌜ (n ≤ 2 ^ 20) × (1 ≤ width) × (width ≤ 2 ^ 20) ⌝ }
     ensures { λ r. ⌜ r ≡ bytesFor n width ⌝ }
 {

@@ -1,6 +1,6 @@
 -- Laws of the word in the work area.
 --
---   letter-code        a letter's code is the code of that letter
+--   letter-code        the letter with a letter's code is that letter
 --   map-code           the same for a word
 --   letters-code       where the codes of v stand, the word is v
 --   is-down, is-up, is-first, is-second   which letter a code stands for

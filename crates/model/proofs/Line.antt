@@ -4,7 +4,9 @@
 --   Writes               a kind, a plan and what writing says of it
 --   Line                 a line on writing, or a line on reading: bytes and the number of the refusal
 --   sameInteger x y      equal signed numbers
---   refusal k p          writing's refusal in a work area and an output that are large enough for five edges
+--   lent                 an output
+--   answer k p, output k p   writing's answer and the output after it, in a work area and an output that are large enough for five edges
+--   writes k p r, refuses k p n   the record r is written; refusal n is answered, and the output is as it was
 --   agrees k p s         the definitions say s of the plan p in kind k
 --   holds l              the definitions yield the line l on writing
 --   allHold ls           every such line
@@ -17,14 +19,14 @@ use mathlib.Core.Bool.{Bool, true, false, _&&_}
 use mathlib.Core.List.{List, [], _∷_}
 use lib.Dec.{T, eqb}
 use lib.IntN.{ℤ, pos, negsuc}
-use lib.ListN.{length}
+use lib.ListN.{length, replicate}
 use Rattle.model.specs.declared.ReadBack.{ReadBack}
 use Rattle.model.specs.declared.ReadBack.the-variants as readback
-use Rattle.model.specs.Map.{Plan, characteristic}
+use Rattle.model.specs.declared.Written.{Written}
+use Rattle.model.specs.Map.{Plan}
 use Rattle.model.specs.Traversal.{standardPlan}
-use Rattle.model.specs.Record.{recordOf}
 use Rattle.model.specs.Shelf.{edgesOf, same}
-use Rattle.model.specs.Calls.{writeRefusal, Reads}
+use Rattle.model.specs.Calls.{front, writeAnswer, writtenOutput, Reads, numberOfWritten, lengthOfWritten, characteristicOfWritten}
 
 pub data Says : Type 0 where
   record-is : List ℕ → Says
@@ -44,8 +46,15 @@ pub data Line : Type 0 where
 
 -- ---- writing
 
-unfoldable pub refusal : ℕ → Plan → ℕ
-refusal k p = writeRefusal k p 160 10
+-- an output of ten bytes that are no record's, with room for five edges
+abbrev pub lent : List ℕ
+lent = replicate 10 7
+
+unfoldable pub answer : ℕ → Plan → Written
+answer k p = writeAnswer k p 160 10
+
+unfoldable pub output : ℕ → Plan → List ℕ
+output k p = writtenOutput k p 160 lent
 
 abbrev pub sameInteger : ℤ → ℤ → Bool
 sameInteger (pos x) (pos y) = eqb x y
@@ -53,11 +62,19 @@ sameInteger (pos x) (negsuc y) = false
 sameInteger (negsuc x) (pos y) = false
 sameInteger (negsuc x) (negsuc y) = eqb x y
 
+-- the record r is written, and the rest of the output is as it was
+unfoldable pub writes : ℕ → Plan → List ℕ → Bool
+writes k p r = eqb (numberOfWritten (answer k p)) 0 && (eqb (lengthOfWritten (answer k p)) (length r) && same (output k p) (front r lent))
+
+-- refusal n, and the output is as it was
+unfoldable pub refuses : ℕ → Plan → ℕ → Bool
+refuses k p n = eqb (numberOfWritten (answer k p)) n && same (output k p) lent
+
 unfoldable pub agrees : ℕ → Plan → Says → Bool
-agrees k p (record-is r) = eqb (refusal k p) 0 && same (recordOf k p) r
-agrees k p (standard-is r s) = eqb (refusal k p) 0 && (same (recordOf k p) r && same (standardPlan p .rotation) s)
-agrees k p (refused n) = eqb (refusal k p) n
-agrees k p (not-planar x) = eqb (refusal k p) 10 && sameInteger (characteristic (p .rotation)) x
+agrees k p (record-is r) = writes k p r
+agrees k p (standard-is r s) = writes k p r && same (standardPlan p .rotation) s
+agrees k p (refused n) = refuses k p n
+agrees k p (not-planar x) = refuses k p 10 && sameInteger (characteristicOfWritten (answer k p)) x
 
 unfoldable pub holds : Writes → Bool
 holds l = agrees (l .kind) (record { rotation = l .rotation; root = l .root }) (l .says)

@@ -10,8 +10,8 @@ use Rattle.model.specs.Traversal.{letterAt, onward, seenAfter, walk, vis
 use Rattle.model.specs.LabelledTree.{codesOf, codes, unlabelled, isUpper, gone, before, labelOne, removeCut, takeLeaf, takeOne, takeLeaves, treeLabels, labelOf, bitsOf, along, labels, treeBits}
 use Rattle.model.specs.Record.{digitsFrom, pack, le16, recordLength, payload, layOut, recordOf}
 use Rattle.model.specs.Shelf.{same}
-use Rattle.model.specs.Calls.{earlyRefusals, lateRefusals, writeRefusal}
-use Rattle.model.proofs.Line.{Line, on-writing, on-reading, record-is, not-planar, refusal, agrees, holds, AllHold}
+use Rattle.model.specs.Calls.{front, earlyRefusals, lateRefusals, writeRefusal, writeAnswer, writtenOutput}
+use Rattle.model.proofs.Line.{Line, on-writing, on-reading, record-is, not-planar, answer, output, writes, refuses, agrees, holds, AllHold}
 use Rattle.model.proofs.Unreadable.{refuses-CC, refuses-C9}
 
 unfoldable pub starred : List Line
@@ -24,11 +24,12 @@ starred =
     ∷ on-writing (record { kind = 2; root = 0; rotation = 2 ∷ 1 ∷ 0 ∷ 3 ∷ []; says = record-is (0x08 ∷ 0x00 ∷ 0x02 ∷ 0x00 ∷ 0x02 ∷ 0x00 ∷ 0xA0 ∷ 0xD8 ∷ []) })
     ∷ on-writing (record { kind = 2; root = 0; rotation = 3 ∷ 2 ∷ 1 ∷ 0 ∷ []; says = record-is (0x08 ∷ 0x00 ∷ 0x02 ∷ 0x00 ∷ 0x02 ∷ 0x00 ∷ 0xC0 ∷ 0x51 ∷ []) })
     ∷ on-writing (record { kind = 2; root = 0; rotation = 4 ∷ 2 ∷ 1 ∷ 0 ∷ 3 ∷ 5 ∷ []; says = record-is (0x08 ∷ 0x00 ∷ 0x02 ∷ 0x00 ∷ 0x03 ∷ 0x00 ∷ 0xCC ∷ 0x12 ∷ []) })
+    ∷ on-writing (record { kind = 1; root = 0; rotation = 3 ∷ 2 ∷ 4 ∷ 5 ∷ 1 ∷ 0 ∷ []; says = not-planar (pos 0) })
     ∷ on-writing (record { kind = 2; root = 0; rotation = 3 ∷ 2 ∷ 4 ∷ 5 ∷ 1 ∷ 0 ∷ []; says = not-planar (pos 0) })
     ∷ on-reading (0x07 ∷ 0x00 ∷ 0x01 ∷ 0x00 ∷ 0x02 ∷ 0x00 ∷ 0xCC ∷ []) 13
     ∷ on-reading (0x07 ∷ 0x00 ∷ 0x01 ∷ 0x00 ∷ 0x02 ∷ 0x00 ∷ 0xC9 ∷ []) 13
     ∷ []
 
 pub starred-hold : AllHold starred
-unfolding starred holds agrees refusal writeRefusal earlyRefusals lateRefusals firstRefusal isKind dartCountFits isPermutation allBelow distinct elem edges recordLength connected some reached spreads spread opposite next planar characteristic vertices faces cycles count least faceNext hasLoop vertexOf degreeRefused hasDegreeOne degreeOne same recordOf layOut le16 payload pack digitsFrom treeBits labels along bitsOf labelOf treeLabels takeLeaves takeOne takeLeaf removeCut labelOne before gone isUpper unlabelled codes codesOf position visits walk letterAt onward seenAfter
-starred-hold = (tt, (tt, (tt, (tt, (tt, (tt, (tt, (tt, (tt, (refuses-CC, (refuses-C9, tt)))))))))))
+unfolding starred holds agrees writes refuses answer output writeAnswer writtenOutput front writeRefusal earlyRefusals lateRefusals firstRefusal isKind dartCountFits isPermutation allBelow distinct elem edges recordLength connected some reached spreads spread opposite next planar characteristic vertices faces cycles count least faceNext hasLoop vertexOf degreeRefused hasDegreeOne degreeOne same recordOf layOut le16 payload pack digitsFrom treeBits labels along bitsOf labelOf treeLabels takeLeaves takeOne takeLeaf removeCut labelOne before gone isUpper unlabelled codes codesOf position visits walk letterAt onward seenAfter
+starred-hold = (tt, (tt, (tt, (tt, (tt, (tt, (tt, (tt, (tt, (tt, (refuses-CC, (refuses-C9, tt))))))))))))

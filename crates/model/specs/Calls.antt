@@ -14,7 +14,7 @@
 --   shelveRefusal, shelveAnswer, shelvedBytes   shelving: first refusal, answer, the shelf afterwards
 --   Stored                all that shelving promises
 --   fetchRefusal, fetched fetching: the number that is set, and the part that is returned
---   Fetched               all that fetching promises
+--   Fetched               the bytes and the number that fetching promises
 --   numberOfWritten, numberOfRead, numberOfShelved   the paper's number for each case of an answer
 --   lengthOfWritten, characteristicOfWritten   the values of writing's answer
 --   edgesOfRead           the value of reading's answer

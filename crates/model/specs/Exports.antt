@@ -56,5 +56,6 @@ pub record FetchExport (shelf : List ℕ) (used n : ℕ) (r at l : ℕ) : Type 0
 
 -- ---- sizes
 
+-- the 0 is left free by the papers
 unfoldable pub lengthFor : ℕ → ℕ → ℕ
 lengthFor k m = cond (not (isKind k) || (eqb m 0 || ltb 4096 m)) 0 (recordLength k m)

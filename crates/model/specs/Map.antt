@@ -5,7 +5,6 @@
 --   next rot d           the next dart counterclockwise around d's vertex
 --   vertexOf rot d       d's vertex, named by its least dart
 --   faceNext rot d       one step of d's face
---   faceOf rot d         d's face, named by its least dart
 --   edges, vertices, faces rot   how many there are
 --   degreeOne rot d      d is alone at its vertex
 --   spread, spreads      one round of marks that spread by opposites and entries, and so many rounds
@@ -53,9 +52,6 @@ vertexOf rot d = least (next rot) (length rot) d
 -- "An area walk goes from dart d to the entry at the opposite of d; its cycles are the areas": a face is an area.
 unfoldable pub faceNext : List ℕ → ℕ → ℕ
 faceNext rot d = next rot (opposite d)
-
-unfoldable pub faceOf : List ℕ → ℕ → ℕ
-faceOf rot d = least (faceNext rot) (length rot) d
 
 unfoldable pub edges : List ℕ → ℕ
 edges rot = length rot / 2

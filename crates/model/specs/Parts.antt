@@ -15,13 +15,13 @@ use lib.ListN.{take, drop}
 use denote.Ref.{RefT, now}
 use Rattle.model.specs.Shelf.{passes, recordsIn}
 use Rattle.model.specs.Calls.{fetchRefusal, Fetched}
-use Rattle.model.specs.Walk.{headOf, recordAt, placeOfRecord}
+use Rattle.model.specs.Walk.{firstRecord, recordAt, placeOfRecord}
 
 abbrev pub beginsAt : RefT (List ℕ) → ℕ → RefT (List ℕ) → Type 0
 beginsAt s at t = t .ptr ≡ (s .ptr .0, s .ptr .1 + at)
 
 unfoldable pub cutPlace : List ℕ → ℕ → ℕ
-cutPlace bs at = cond (passes (headOf (drop at bs))) at 0
+cutPlace bs at = cond (passes (firstRecord (drop at bs))) at 0
 
 pub record CutOut (s : RefT (List ℕ)) (at : ℕ) (t : RefT (List ℕ)) : Type 0 where
   pub bytes-are : now t ≡ recordAt (now s) at

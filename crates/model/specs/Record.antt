@@ -5,7 +5,7 @@
 --   bytesFor n w          how many groups of w hold n digits
 --   le16 n                n in two bytes, the low one first
 --   recordLength k m      the length of a record of kind k with m edges
---   payload k bits labels what follows the head
+--   payload k m bits labels   what follows the head
 --   labelBase k           labels of kind k are below it
 --   layOut k m bits labels   a whole record
 --   recordOf k p          the record of plan p in kind k

@@ -1,6 +1,6 @@
 -- Walking a shelf (document 01): where its records stand, and what a walk yields.
 --
---   headOf bs             the first bytes of bs, as many as their length field says
+--   firstRecord bs        the first bytes of bs, as many as their length field says
 --   recordAt bs at        the record that passes 1, 2, 3, 5 and stands at a place of bs; [] if none does
 --   nextPlace bs at       the place past the record that stands at a place; the place itself if none does
 --   placeOfRecord rs n    the place of record n where the records rs stand end to end
@@ -20,12 +20,12 @@ use Rattle.model.specs.Calls.{fetchRefusal}
 -- ---- a step
 
 -- "length of the whole record (2 bytes)"
-abbrev pub headOf : List ℕ → List ℕ
-headOf bs = take (word16 bs 0) bs
+abbrev pub firstRecord : List ℕ → List ℕ
+firstRecord bs = take (word16 bs 0) bs
 
 -- "A step from a place where no record that passes 1, 2, 3 and 5 stands says so too."
 unfoldable pub recordAt : List ℕ → ℕ → List ℕ
-recordAt bs at = cond (passes (headOf (drop at bs))) (headOf (drop at bs)) []
+recordAt bs at = cond (passes (firstRecord (drop at bs))) (firstRecord (drop at bs)) []
 
 unfoldable pub nextPlace : List ℕ → ℕ → ℕ
 nextPlace bs at = at + length (recordAt bs at)
@@ -51,6 +51,7 @@ pub record Begun (shelf : List ℕ) (used n : ℕ) (place number : ℕ) : Type 0
 unfoldable pub walked : List ℕ → ℕ → ℕ → List (List ℕ)
 walked shelf used n = cond (eqb (fetchRefusal shelf used n) 0) (drop n (recordsIn (take used shelf))) []
 
+-- an empty part says that none is left, so that a record handed out is not empty
 abbrev pub HandsOut : List ℕ → ℕ → List (List ℕ) → Type 0
 HandsOut bs at [] = recordAt bs at ≡ []
 HandsOut bs at (r ∷ rs) = (recordAt bs at ≡ r) × ((0 < length r) × HandsOut bs (nextPlace bs at) rs)

@@ -18,7 +18,7 @@ use Rattle.orbits.proofs.Order.{or-true, tri}
 use Rattle.orbits.proofs.Tally.{count-ext, count-either, count-inj}
 use Rattle.orbits.proofs.Chord.{μ-inj}
 use Rattle.orbits.proofs.Tour.{ε, ε-inv, euler-le, euler-nested, nested-euler}
-use Rattle.orbits.proofs.Number.{count-all}
+use Rattle.orbits.proofs.Tally.{count-all}
 use Rattle.orbits.proofs.Span.{Connected, spanned, tour}
 
 -- no position stays where it is

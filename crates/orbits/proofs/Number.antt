@@ -1,6 +1,5 @@
 -- A permutation with one cycle numbers what it permutes: from any r the iterates of r run through all the numbers below N, each once. Assumes nothing.
 --
---   count-all          there are n numbers below n
 --   one-label          one cycle has one label
 --   dart, dart-bound   the i-th iterate of r
 --   pos, pos-bound, dart-pos, pos-dart   its inverse
@@ -16,15 +15,9 @@ use Rattle.model.specs.Numbers.{count, iter, least, isLeast, cycles}
 use Rattle.orbits.specs.Permutation.{Perm}
 use Rattle.orbits.specs.Chord.{next}
 use Rattle.orbits.proofs.Order.{eq-split, eq→eqb, find-below}
-use Rattle.orbits.proofs.Tally.{except, except-in, count-except, count-inj}
+use Rattle.orbits.proofs.Tally.{count-all, except, except-in, count-except, count-inj}
 use Rattle.orbits.proofs.Cycle.{least-bound, least-idem, iter-bound, iter-inj, iter-out, comes-back, same-reach, Back, On, on-step}
 use Rattle.orbits.proofs.Chord.{next-cases}
-
--- every number passes: there are n below n
-pub count-all : (n : ℕ) → count (λ i. true) n ≡ n
-unfolding count
-count-all zero = refl
-count-all (suc n) = ap suc (count-all n)
 
 module _ (N : ℕ) (p : ℕ → ℕ) (perm : Perm N p) (single : cycles p N ≡ 1) where
   -- one cycle has one label

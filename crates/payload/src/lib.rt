@@ -18,7 +18,7 @@ const UP: u16 = 2;
 
 const FIRST: u16 = 3;
 
-// The label of a leaf.
+// The label of the edge to a bare leaf.
 const STAR: u16 = 2;
 
 // 1 where second stands at position i of the word, 0 elsewhere and past its end. The code 0 is

@@ -24,7 +24,7 @@ use borrow.Author.Tests.{eq-eqb, ne-eqb, ltb-true, ltb-false, eqb-true, not-fals
 use Rattle.model.specs.Numbers.{firstRefusal}
 use Rattle.model.specs.Shelf.{word16, passes, recordsIn, endToEnd, shelfRefused}
 use Rattle.model.specs.Calls.{fetchRefusal, fetched, Fetched}
-use Rattle.model.specs.Walk.{headOf, recordAt, placeOfRecord, beginPlace, nextPlace, Begun}
+use Rattle.model.specs.Walk.{firstRecord, recordAt, placeOfRecord, beginPlace, nextPlace, Begun}
 use Rattle.model.proofs.Booleans.{or-none}
 use Rattle.heads.proofs.Head.{not-met}
 use denote.Ref.{RefT, now}
@@ -36,7 +36,7 @@ use Rattle.shelf.proofs.Refusals.{used-part}
 
 record-drop : (bs : List ℕ) (l at : ℕ) → recordAt bs (l + at) ≡ recordAt (drop l bs) at
 unfolding recordAt
-record-drop bs l at = ap (λ (r : List ℕ). cond (passes (headOf r)) (headOf r) []) (sym (drop-drop at l bs))
+record-drop bs l at = ap (λ (r : List ℕ). cond (passes (firstRecord r)) (firstRecord r) []) (sym (drop-drop at l bs))
 
 pub place-record : (n : ℕ) (bs : List ℕ) → endToEnd bs ≡ true → n < length (recordsIn bs)
     → recordAt bs (placeOfRecord (recordsIn bs) n) ≡ getD (recordsIn bs) n []
@@ -56,7 +56,7 @@ place-record (suc n) bs t h =
 
 -- a record that passes stands there
 place-stands : (n : ℕ) (bs : List ℕ) → endToEnd bs ≡ true → n < length (recordsIn bs)
-    → passes (headOf (drop (placeOfRecord (recordsIn bs) n) bs)) ≡ true
+    → passes (firstRecord (drop (placeOfRecord (recordsIn bs) n) bs)) ≡ true
 unfolding placeOfRecord
 place-stands zero bs t h = end-head bs t (some-bytes bs 0 h)
 place-stands (suc n) bs t h =
@@ -64,9 +64,9 @@ place-stands (suc n) bs t h =
     let e = end-records bs t b in
     let l = ap length e in
     let w = head-whole bs (end-head bs t b) in
-    ap (λ (rs : List (List ℕ)). passes (headOf (drop (placeOfRecord rs (suc n)) bs))) e
-    ∙ (ap (λ (k : ℕ). passes (headOf (drop (k + placeOfRecord (recordsIn (rest bs)) n) bs))) (w .2)
-    ∙ (ap (λ (r : List ℕ). passes (headOf r)) (sym (drop-drop (placeOfRecord (recordsIn (rest bs)) n) (word16 bs 0) bs))
+    ap (λ (rs : List (List ℕ)). passes (firstRecord (drop (placeOfRecord rs (suc n)) bs))) e
+    ∙ (ap (λ (k : ℕ). passes (firstRecord (drop (k + placeOfRecord (recordsIn (rest bs)) n) bs))) (w .2)
+    ∙ (ap (λ (r : List ℕ). passes (firstRecord r)) (sym (drop-drop (placeOfRecord (recordsIn (rest bs)) n) (word16 bs 0) bs))
     ∙ place-stands n (rest bs) (end-rest bs t b) (omega arith)))
 
 pub next-fits : (bs : List ℕ) (at : ℕ) → (length (recordAt bs at) ≡ 0) ⊎ (at + length (recordAt bs at) ≤ length bs)
@@ -110,7 +110,7 @@ module _ (s : List ℕ) (u n : ℕ) where
     where
       go : (b : Bool) → eqb (fetchRefusal s u n) 0 ≡ b
           → let at = cond b (placeOfRecord (recordsIn (take u s)) n) u in
-          cond (passes (headOf (drop at (take u s)))) at 0 ≡ cond b (placeOfRecord (recordsIn (take u s)) n) 0
+          cond (passes (firstRecord (drop at (take u s)))) at 0 ≡ cond b (placeOfRecord (recordsIn (take u s)) n) 0
       go true e = let f = fine-parts (eqb-true _ _ e) in rw (place-stands n (take u s) (f .1) (f .2))
       go false e = rw (stands-not (take u s) u (ap length (none-left s u)))
 

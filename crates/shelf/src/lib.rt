@@ -1,5 +1,5 @@
 // The shelf: a lent byte slice with a used length, whose used bytes are records end to end. Shelving, fetching and walking look at heads and lengths
-// only. The public calls are `shelve`, `fetch`, `walk_begin`, `walk_length` and `walk_step`, and for the walker `used_part` and `next_place`; they have no
+// only. The public calls are `shelve`, `fetch`, `walk_begin`, `walk_length` and `walk_next`, and for the walker `used_part` and `next_place`; they have no
 // `requires`.
 ghost use mathlib.Core.Path.{_≡_};
 ghost use mathlib.Core.List.{_++_};
@@ -76,7 +76,7 @@ pub fn walk_length(shelf: &[u8], used: usize, at: usize) -> usize
 }
 
 // The place past that record; the place itself if none stands there.
-pub fn walk_step(shelf: &[u8], used: usize, at: usize) -> usize
+pub fn walk_next(shelf: &[u8], used: usize, at: usize) -> usize
     ensures { λ r. ⌜ r ≡ nextPlace (take used (now (shelf .entry))) at ⌝ }
 {
     next_place(used_part(shelf, used), at)

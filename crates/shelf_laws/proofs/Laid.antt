@@ -14,7 +14,7 @@ use native.Mathlib.Omega.{arith}
 use lib.ListN.{length, take, drop, length-drop, take-append-drop, List·getD-append}
 use lib.Seq.{take-append-seam, drop-append-seam}
 use Rattle.model.specs.Shelf.{word16, passes, recordsIn, allPass, endToEnd}
-use Rattle.model.specs.Walk.{headOf}
+use Rattle.model.specs.Walk.{firstRecord}
 use Rattle.model.proofs.Booleans.{and-left, and-right}
 use Rattle.heads.proofs.Head.{passes-long, passes-length}
 use Rattle.cutting.proofs.Stands.{head-whole}
@@ -37,7 +37,7 @@ laid-back-below (suc n) (b ∷ bs) h t =
     let w = head-whole (b ∷ bs) p in
     let d = length-drop (word16 (b ∷ bs) 0) (b ∷ bs) in
     ap laid (end-records (b ∷ bs) t (omega arith))
-    ∙ (ap (λ (x : List ℕ). headOf (b ∷ bs) ++ x) (laid-back-below n (rest (b ∷ bs)) (omega arith) (end-rest (b ∷ bs) t (omega arith)))
+    ∙ (ap (λ (x : List ℕ). firstRecord (b ∷ bs) ++ x) (laid-back-below n (rest (b ∷ bs)) (omega arith) (end-rest (b ∷ bs) t (omega arith)))
     ∙ take-append-drop (word16 (b ∷ bs) 0) (b ∷ bs))
 
 pub laid-back : (bs : List ℕ) → endToEnd bs ≡ true → laid (recordsIn bs) ≡ bs
@@ -52,13 +52,13 @@ module _ (r x : List ℕ) (p : passes r ≡ true) where
       let l = passes-long r p in
       rw (List·getD-append r x 0 0 (omega arith), List·getD-append r x 0 1 (omega arith)) (passes-length r p)
 
-  front-head : headOf (r ++ x) ≡ r
+  front-head : firstRecord (r ++ x) ≡ r
   front-head = ap (λ (k : ℕ). take k (r ++ x)) field-front ∙ take-append-seam r x
 
   front-rest : rest (r ++ x) ≡ x
   front-rest = ap (λ (k : ℕ). drop k (r ++ x)) field-front ∙ drop-append-seam r x
 
-  front-passes : passes (headOf (r ++ x)) ≡ true
+  front-passes : passes (firstRecord (r ++ x)) ≡ true
   front-passes = ap passes front-head ∙ p
 
   front-end : endToEnd x ≡ true → endToEnd (r ++ x) ≡ true

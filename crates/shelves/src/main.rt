@@ -1,5 +1,5 @@
 // Shelves the starred records of document 01, fetches them and walks over them, and meets each refusal of shelving, fetching and walking. Each answer is a
-// line: numbers and places in decimal, bytes in hexadecimal. The file stdout has what it must write.
+// line: numbers and places in decimal, bytes in hexadecimal. The file stdout has what it must write; tests/shelves.py holds it to the second coder.
 ghost use mathlib.Core.Path.{_≡_};
 ghost use Rattle.model.specs.Parts.{CutOut};
 ghost use Rattle.model.specs.Walk.{nextPlace};
@@ -120,7 +120,7 @@ fn places(shelf: &[u8], used: usize, place: usize, count: usize) {
     let mut left = count;
     while left > 0 {
         show_place(at);
-        at = shelf::walk_step(shelf, used, at);
+        at = shelf::walk_next(shelf, used, at);
         left -= 1;
     }
 }

@@ -18,7 +18,7 @@ use Rattle.model.proofs.Opposite.{opposite-opposite}
 use Rattle.model.proofs.Permutations.{elem-at, at-elem}
 use Rattle.model.proofs.Fitness.{count-even}
 use Rattle.orbits.proofs.Tally.{count-inj, count-tight}
-use Rattle.orbits.proofs.Number.{count-all}
+use Rattle.orbits.proofs.Tally.{count-all}
 use Rattle.words.specs.Toured.{dartsMet, dartAt}
 use Rattle.words.proofs.Positions.{length-darts}
 use Rattle.traversal.specs.Walked.{Among, Walked}

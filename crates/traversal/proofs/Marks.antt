@@ -18,7 +18,7 @@ use lib.Seq.{getD-set-same, getD-set-other, set-out}
 use Rattle.model.specs.Numbers.{count}
 use Rattle.orbits.proofs.Order.{eq-split, lt-or-le, eq→eqb}
 use Rattle.orbits.proofs.Tally.{count-mono, count-except}
-use Rattle.orbits.proofs.Number.{count-all}
+use Rattle.orbits.proofs.Tally.{count-all}
 
 abbrev pub Marked : List ℕ → ℕ → Type 0
 Marked m x = getD m x 0 ≢ 0

@@ -1,10 +1,9 @@
-// A walker over a shelf: it holds the used bytes and the place that it has come to. Each function over it is thin, leaves the work to a covered
-// function of `shelf` or `cutting` with plain parameters, and is proved by a walk of its MIR.
+// A walker over a shelf: it holds the used bytes and the place that it has come to. Each function over it is thin and
+// leaves the work to a function of `shelf` or `cutting` with plain parameters.
 ghost use mathlib.Core.Path.{_≡_};
 ghost use lib.ListN.{take};
 ghost use Rattle.model.specs.Walk.{nextPlace, Begun};
-ghost use Rattle.model.specs.Parts.{CutOut};
-ghost use Rattle.model.specs.Parts.{FetchedPart};
+ghost use Rattle.model.specs.Parts.{CutOut, FetchedPart};
 
 pub struct Walker<'a> {
     pub src: &'a [u8],

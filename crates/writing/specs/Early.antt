@@ -1,9 +1,8 @@
 -- Writing's refusals that need no work area, and what the call leaves before the work area is cleared.
 --
---   earlyRefusals        2, 3, 4, 6, 7, 8, each with its condition
---   earlyRefusal         the first of them that concerns the call; 0 if none does
+--   earlyRefusal         the first of 2, 3, 4, 6, 7, 8 that concerns the call; 0 if none does
 --   Ready                room for the record, and the contour word of a plan that fits at 3n
---   Recorded                 the record of that word in the output
+--   Recorded             the record of that word in the output
 --   Made                 the answer and the output of writing, and the work area's length
 use Prim.Native.Nat.{ℕ, _*_, _/_, _≤_}
 use mathlib.Core.Path.{_≡_}

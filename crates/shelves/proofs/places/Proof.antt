@@ -16,8 +16,8 @@ loop-holds c = search needs
 show-place-requires : tie.Need-show-place-requires Inv-loop μ-loop
 show-place-requires c κs = search needs
 
-walk-step-requires : tie.Need-walk-step-requires Inv-loop μ-loop
-walk-step-requires c κs = search needs
+walk-next-requires : tie.Need-walk-step-requires Inv-loop μ-loop
+walk-next-requires c κs = search needs
 
 sub-left : tie.Need-sub-left Inv-loop μ-loop
 sub-left c = search needs
@@ -39,7 +39,7 @@ places-spec =
     μ-loop
     loop-holds
     show-place-requires
-    walk-step-requires
+    walk-next-requires
     sub-left
     loop-less
     loop-again

@@ -3,8 +3,8 @@ use mathlib.Core.List.{List}
 use Prim.Native.Nat.{ℕ}
 use Rattle.model.specs.Walk.{nextPlace}
 use borrow.Author.Needs.{needs}
-use Rattle.shelf.proofs.walk_step.Statement.{statement}
-use Rattle.shelf.proofs.walk_step.Tie as tie
+use Rattle.shelf.proofs.walk_next.Statement.{statement}
+use Rattle.shelf.proofs.walk_next.Tie as tie
 
 used-part-requires : tie.Need-used-part-requires
 used-part-requires c κs = search needs
@@ -16,5 +16,5 @@ returns : tie.Need-returns
 returns c = let at = c .before .before .before .args .at in
     c .next-place .ensures ∙ ap (λ (r : List ℕ). nextPlace r at) (c .before .used-part .ensures .0)
 
-pub walk-step-spec : {M : Type 1} → statement M
-walk-step-spec = tie.close (tie.spec used-part-requires next-place-requires returns)
+pub walk-next-spec : {M : Type 1} → statement M
+walk-next-spec = tie.close (tie.spec used-part-requires next-place-requires returns)
