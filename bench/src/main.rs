@@ -7,7 +7,8 @@ mod coders;
 mod plain;
 mod plans;
 
-use coders::CODERS;
+use coders::{Coder, CODERS};
+use plans::Plan;
 use second_coder::grow::{grow, Rng, Shape};
 use std::collections::HashSet;
 use std::hint::black_box;
@@ -43,140 +44,173 @@ fn least<const N: usize>(mut calls: [&mut dyn FnMut(); N]) -> [f64; N] {
     least
 }
 
-/// Times of the three coders for one plan in one kind, in ns per edge: writing, reading.
-fn time_plan(plan: &plans::Plan, kind: u16) -> [[f64; 3]; 2] {
-    let m = plan.order.len() / 2;
-    let length = jurnadel::record_length(kind, m as u16).expect("a kind and a size");
-    let mut work = vec![vec![0; jurnadel::work_length(m as u16)]; 3];
-    let mut records = vec![vec![0; length]; 3];
-    let mut orders = vec![vec![0; 2 * m]; 3];
-    for (i, coder) in CODERS.iter().enumerate() {
-        let written = (coder.write)(kind, plan.start, &plan.order, &mut work[i], &mut records[i]);
-        let read = (coder.read)(&records[i], &mut work[i], &mut orders[i]);
+/// A coder, and what is lent to it for one plan in one kind.
+struct Lent<'a> {
+    coder: Coder,
+    plan: &'a Plan,
+    kind: u16,
+    work: Vec<u16>,
+    record: Vec<u8>,
+    order: Vec<u16>,
+}
+
+impl<'a> Lent<'a> {
+    fn new(coder: Coder, plan: &'a Plan, kind: u16) -> Self {
+        let m = plan.order.len() / 2;
+        let length = jurnadel::record_length(kind, m as u16).expect("a kind and a size");
+        Lent {
+            coder,
+            plan,
+            kind,
+            work: vec![0; jurnadel::work_length(m as u16)],
+            record: vec![0; length],
+            order: vec![0; 2 * m],
+        }
+    }
+
+    fn write(&mut self) -> usize {
+        black_box((self.coder.write)(
+            self.kind,
+            self.plan.start,
+            black_box(&self.plan.order),
+            &mut self.work,
+            &mut self.record,
+        ))
+    }
+
+    fn read(&mut self) -> usize {
+        black_box((self.coder.read)(
+            black_box(&self.record),
+            &mut self.work,
+            &mut self.order,
+        ))
+    }
+}
+
+/// Fails if the coders do not write one record and read one plan from it.
+fn hold_alike(lent: &mut [Lent; 3]) {
+    for (i, lent) in lent.iter_mut().enumerate() {
+        let (kind, m) = (lent.kind, lent.plan.order.len() / 2);
+        let lengths = (lent.write(), lent.read());
         assert_eq!(
-            (written, read),
-            (length, m),
+            lengths,
+            (lent.record.len(), m),
             "coder {i}, kind {kind}, m {m}"
         );
     }
+    let [proved, others @ ..] = lent;
+    let (kind, m) = (proved.kind, proved.plan.order.len() / 2);
     assert!(
-        records[0] == records[1] && records[0] == records[2],
+        others.iter().all(|other| other.record == proved.record),
         "the records differ, kind {kind}, m {m}"
     );
     assert!(
-        orders[0] == orders[1] && orders[0] == orders[2],
+        others.iter().all(|other| other.order == proved.order),
         "the plans differ, kind {kind}, m {m}"
     );
-
-    let per_edge = |times: [f64; 3]| times.map(|time| time / m as f64);
-    let [work_0, work_1, work_2] = &mut work[..] else {
-        unreachable!()
-    };
-    let [record_0, record_1, record_2] = &mut records[..] else {
-        unreachable!()
-    };
-    let [order_0, order_1, order_2] = &mut orders[..] else {
-        unreachable!()
-    };
-    let write = |i: usize, work: &mut [u16], record: &mut [u8]| {
-        black_box((CODERS[i].write)(
-            kind,
-            plan.start,
-            black_box(&plan.order),
-            work,
-            record,
-        ));
-    };
-    let writing = least([
-        &mut || write(0, work_0, record_0),
-        &mut || write(1, work_1, record_1),
-        &mut || write(2, work_2, record_2),
-    ]);
-    let read = |i: usize, record: &[u8], work: &mut [u16], order: &mut [u16]| {
-        black_box((CODERS[i].read)(black_box(record), work, order));
-    };
-    let reading = least([
-        &mut || read(0, record_0, work_0, order_0),
-        &mut || read(1, record_1, work_1, order_1),
-        &mut || read(2, record_2, work_2, order_2),
-    ]);
-    [per_edge(writing), per_edge(reading)]
 }
 
-/// Times of the coders for all plans; the worst ratios to the peer, of writing and of reading.
-fn time_coders() -> [f64; 2] {
+/// Times of the three coders for one plan in one kind, in ns per edge: writing, reading.
+fn time_plan(plan: &Plan, kind: u16) -> [[f64; 3]; 2] {
+    let mut lent = CODERS.map(|coder| Lent::new(coder, plan, kind));
+    hold_alike(&mut lent);
+    let [proved, second, peer] = &mut lent;
+    let writing = least([
+        &mut || _ = proved.write(),
+        &mut || _ = second.write(),
+        &mut || _ = peer.write(),
+    ]);
+    let reading = least([
+        &mut || _ = proved.read(),
+        &mut || _ = second.read(),
+        &mut || _ = peer.read(),
+    ]);
+    let m = plan.order.len() / 2;
+    [writing, reading].map(|times| times.map(|time| time / m as f64))
+}
+
+/// What was timed, and its times, as `time_plan` gives them.
+struct Row {
+    name: &'static str,
+    kind: u16,
+    m: usize,
+    times: [[f64; 3]; 2],
+}
+
+impl Row {
+    fn print(&self) {
+        print!("{:<16}{:>5}{:>6}", self.name, self.kind, self.m);
+        for [proved, second, peer] in self.times {
+            let (to_second, to_peer) = (proved / second, proved / peer);
+            print!("  {proved:>8.2}{second:>8.2}{peer:>8.2}{to_second:>7.2}{to_peer:>7.2}");
+        }
+        println!();
+    }
+}
+
+fn print_heading() {
     println!("ns per edge (proved, second coder, peer), and the proved library's time by that of the others");
     println!();
-    println!(
-        "{:<16}{:>5}{:>6}  {:-^38}  {:-^38}",
-        "", "", "", " write ", " read "
-    );
-    println!(
-        "{:<16}{:>5}{:>6}  {:>8}{:>8}{:>8}{:>7}{:>7}  {:>8}{:>8}{:>8}{:>7}{:>7}",
-        "shape",
-        "kind",
-        "m",
-        "proved",
-        "second",
-        "peer",
-        "/sec.",
-        "/peer",
-        "proved",
-        "second",
-        "peer",
-        "/sec.",
-        "/peer"
-    );
-    let mut worst = [0.0f64; 2];
-    let mut growths = Vec::new();
-    for (name, shape) in plans::SHAPES {
-        let mut at_256 = Vec::new();
-        for m in SIZES {
-            let plan = plans::plan(shape, m, &mut Rng::new(m as u64));
-            for &kind in plan.kinds {
-                let times = time_plan(&plan, kind);
-                print!("{name:<16}{kind:>5}{m:>6}");
-                for ([proved, second, peer], worst) in times.into_iter().zip(&mut worst) {
-                    let (to_second, to_peer) = (proved / second, proved / peer);
-                    *worst = worst.max(to_peer);
-                    print!("  {proved:>8.2}{second:>8.2}{peer:>8.2}{to_second:>7.2}{to_peer:>7.2}");
-                }
-                println!();
-                match m {
-                    256 => at_256.push((kind, times)),
-                    4096 => {
-                        for (_, before) in at_256.iter().filter(|(of, _)| *of == kind) {
-                            growths.push((
-                                name,
-                                kind,
-                                times[0][0] / before[0][0],
-                                times[1][0] / before[1][0],
-                            ));
-                        }
-                    }
-                    _ => {}
-                }
-            }
-        }
+    println!("{:<27}  {:-^38}  {:-^38}", "", " write ", " read ");
+    print!("{:<16}{:>5}{:>6}", "shape", "kind", "m");
+    for _ in ["write", "read"] {
+        print!("  {:>8}{:>8}{:>8}", "proved", "second", "peer");
+        print!("{:>7}{:>7}", "/sec.", "/peer");
     }
+    println!();
+}
+
+fn print_growths(rows: &[Row]) {
     println!();
     println!(
         "growth of the proved library's time per edge from m = 256 to m = 4,096 (1 is linear)"
     );
     println!();
-    for (name, kind, write, read) in growths {
-        println!("{name:<16}{kind:>5}  write {write:.2}  read {read:.2}");
+    for Row {
+        name, kind, times, ..
+    } in rows.iter().filter(|row| row.m == 4096)
+    {
+        let of_same = |row: &&Row| (row.name, row.kind, row.m) == (*name, *kind, 256);
+        if let Some(before) = rows.iter().find(of_same) {
+            let [write, read] = [0, 1].map(|i| times[i][0] / before.times[i][0]);
+            println!("{name:<16}{kind:>5}  write {write:.2}  read {read:.2}");
+        }
     }
-    worst
 }
 
-/// Times of the proved library and the second coder on a large shelf.
-fn time_shelf() {
+/// Times of the coders for all plans; the worst ratios to the peer, of writing and of reading.
+fn time_coders() -> [f64; 2] {
+    print_heading();
+    let mut rows = Vec::new();
+    for (name, shape) in plans::SHAPES {
+        for m in SIZES {
+            let plan = plans::plan(shape, m, &mut Rng::new(m as u64));
+            for &kind in plan.kinds {
+                let times = time_plan(&plan, kind);
+                let row = Row {
+                    name,
+                    kind,
+                    m,
+                    times,
+                };
+                row.print();
+                rows.push(row);
+            }
+        }
+    }
+    print_growths(&rows);
+    [0, 1].map(|i| {
+        let to_peer = rows.iter().map(|row| row.times[i][0] / row.times[i][2]);
+        to_peer.fold(0.0, f64::max)
+    })
+}
+
+/// So many different records.
+fn different_records(count: usize) -> Vec<Vec<u8>> {
     let mut rng = Rng::new(SHELVED as u64);
     let mut seen = HashSet::new();
-    let mut shelf = Vec::new();
     let mut records = Vec::new();
-    while records.len() <= SHELVED {
+    while records.len() < count {
         let growth = grow(Shape::Mixed, SHELVED_TRAILS, &mut rng);
         let order = growth.renumbered(&mut rng);
         let record = jurnadel::record_of(&order, 0, 2).expect("a fit plan");
@@ -184,8 +218,58 @@ fn time_shelf() {
             records.push(record);
         }
     }
+    records
+}
+
+fn print_shelf_row(name: &str, [proved, second]: [f64; 2]) {
+    println!(
+        "{name:<34}{:>10.1}{:>10.1}{:>7.2}",
+        proved / 1e3,
+        second / 1e3,
+        proved / second
+    );
+}
+
+/// The record is shelved again and again on a shelf of this used length.
+fn time_shelve(name: &str, record: &[u8], shelf: &[u8], used: usize) {
+    let (mut shelf, mut other) = (shelf.to_vec(), shelf.to_vec());
+    let times = least([
+        &mut || assert!(black_box(jurnadel::shelve(record, &mut shelf, used)).is_ok()),
+        &mut || assert!(black_box(second_coder::shelve(&mut other, used, record)).is_ok()),
+    ]);
+    print_shelf_row(name, times);
+}
+
+fn time_fetch(name: &str, number: usize, shelf: &[u8], used: usize) {
+    let mut refusal = 0;
+    let times = least([
+        &mut || assert!(black_box(jurnadel::fetch(shelf, used, number)).is_ok()),
+        &mut || {
+            assert!(!black_box(second_coder::fetch(shelf, used, number, &mut refusal)).is_empty())
+        },
+    ]);
+    print_shelf_row(name, times);
+}
+
+fn time_walk(name: &str, shelf: &[u8], used: usize) {
+    let times = least([
+        &mut || {
+            let walk = black_box(jurnadel::walk(shelf, used, 0));
+            assert_eq!(walk.map(Iterator::count), Ok(SHELVED))
+        },
+        &mut || {
+            let walk = black_box(second_coder::begin_walk(shelf, used, 0));
+            assert_eq!(walk.map(Iterator::count), Ok(SHELVED))
+        },
+    ]);
+    print_shelf_row(name, times);
+}
+
+/// Times of the proved library and the second coder on a large shelf.
+fn time_shelf() {
+    let mut records = different_records(SHELVED + 1);
     let new = records.pop().unwrap_or_default();
-    records.iter().for_each(|record| shelf.extend(record));
+    let mut shelf = records.concat();
     let used = shelf.len();
     shelf.resize(used + new.len(), 0);
     let last = SHELVED - 1;
@@ -195,53 +279,12 @@ fn time_shelf() {
     println!("a shelf of {SHELVED} records of {SHELVED_TRAILS} edges, {used} bytes; us per call, and the proved library's time by the second coder's");
     println!();
     println!("{:<34}{:>10}{:>10}{:>7}", "", "proved", "second", "/sec.");
-    let row = |name: &str, [proved, second]: [f64; 2]| {
-        println!(
-            "{name:<34}{:>10.1}{:>10.1}{:>7.2}",
-            proved / 1e3,
-            second / 1e3,
-            proved / second
-        );
-    };
-    let mut other = shelf.clone();
-    for (name, record) in [
-        ("shelve, new", &new),
-        ("shelve, the last one again", &records[last]),
-        ("shelve, the first one again", &records[0]),
-    ] {
-        let times = least([
-            &mut || assert!(black_box(jurnadel::shelve(record, &mut shelf, used)).is_ok()),
-            &mut || assert!(black_box(second_coder::shelve(&mut other, used, record)).is_ok()),
-        ]);
-        row(name, times);
-    }
-    for (name, number) in [("fetch the last", last), ("fetch the middle one", last / 2)] {
-        let mut refusal = 0;
-        let times = least([
-            &mut || assert!(black_box(jurnadel::fetch(&shelf, used, number)).is_ok()),
-            &mut || {
-                assert!(
-                    !black_box(second_coder::fetch(&shelf, used, number, &mut refusal)).is_empty()
-                )
-            },
-        ]);
-        row(name, times);
-    }
-    let times = least([
-        &mut || {
-            assert_eq!(
-                black_box(jurnadel::walk(&shelf, used, 0)).map(Iterator::count),
-                Ok(SHELVED)
-            )
-        },
-        &mut || {
-            assert_eq!(
-                black_box(second_coder::begin_walk(&shelf, used, 0)).map(Iterator::count),
-                Ok(SHELVED)
-            )
-        },
-    ]);
-    row("walk all", times);
+    time_shelve("shelve, new", &new, &shelf, used);
+    time_shelve("shelve, the last one again", &records[last], &shelf, used);
+    time_shelve("shelve, the first one again", &records[0], &shelf, used);
+    time_fetch("fetch the last", last, &shelf, used);
+    time_fetch("fetch the middle one", last / 2, &shelf, used);
+    time_walk("walk all", &shelf, used);
     time_shelving(&records, used);
 }
 
