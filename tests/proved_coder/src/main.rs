@@ -10,6 +10,7 @@ use jurnadel::sys;
 use lent::Lent;
 use std::fmt::Write as _;
 use std::io::{self, BufRead, BufReader, BufWriter, Write as _};
+use std::str::SplitAsciiWhitespace;
 
 /// No outcome depends on a lent length past this one; longer ones are cut.
 const LONGEST: usize = 1 << 24;
@@ -43,29 +44,13 @@ fn main() -> io::Result<()> {
 fn answer_to(line: &str) -> Option<String> {
     let mut words = line.split_ascii_whitespace();
     let answer = match words.next()? {
-        "write" => {
-            let kind = words.next()?.parse().ok()?;
-            let start = words.next()?.parse().ok()?;
-            let work = length(words.next()?)?;
-            let output = length(words.next()?)?;
-            let order = words
-                .by_ref()
-                .map(|word| word.parse().ok())
-                .collect::<Option<Vec<u16>>>()?;
-            write(kind, start, work, output, &order)
-        }
+        "write" => asked_write(&mut words)?,
         "read" => {
             let work = length(words.next()?)?;
             let output = length(words.next()?)?;
             read(work, output, &from_hex(words.next()?)?)
         }
-        "shelve" => {
-            let used = words.next()?.parse().ok()?;
-            let shelf_length = length(words.next()?)?;
-            let mut shelf = from_hex(words.next()?)?;
-            shelf.resize(shelf_length, 0);
-            shelve(used, &shelf, &from_hex(words.next()?)?)
-        }
+        "shelve" => asked_shelve(&mut words)?,
         word @ ("fetch" | "walk") => {
             let used = words.next()?.parse().ok()?;
             let number = words.next()?.parse().ok()?;
@@ -82,6 +67,25 @@ fn answer_to(line: &str) -> Option<String> {
         None => Some(answer.unwrap_or_else(|what| format!("broken {what}"))),
         Some(_) => None,
     }
+}
+
+fn asked_write(words: &mut SplitAsciiWhitespace) -> Option<Answer> {
+    let kind = words.next()?.parse().ok()?;
+    let start = words.next()?.parse().ok()?;
+    let work = length(words.next()?)?;
+    let output = length(words.next()?)?;
+    let order = words
+        .map(|word| word.parse().ok())
+        .collect::<Option<Vec<u16>>>()?;
+    Some(write(kind, start, work, output, &order))
+}
+
+fn asked_shelve(words: &mut SplitAsciiWhitespace) -> Option<Answer> {
+    let used = words.next()?.parse().ok()?;
+    let shelf_length = length(words.next()?)?;
+    let mut shelf = from_hex(words.next()?)?;
+    shelf.resize(shelf_length, 0);
+    Some(shelve(used, &shelf, &from_hex(words.next()?)?))
 }
 
 /// An answer, or what the call broke.
