@@ -37,7 +37,7 @@ bench: $(LIBRARY)
 second_coder:
 	cd tests/second_coder && cargo build --release --offline --quiet
 
-# The lines that Vectors.antt proves, and those that the programs `cases` and `shelves` must write, are the second coder's answers.
+# The lines that Vectors.antt proves are those that the second coder answers; so are those that `cases` and `shelves` write.
 vectors: second_coder
 	tests/vectors
 
