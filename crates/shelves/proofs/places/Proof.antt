@@ -16,7 +16,7 @@ loop-holds c = search needs
 show-place-requires : tie.Need-show-place-requires Inv-loop μ-loop
 show-place-requires c κs = search needs
 
-walk-next-requires : tie.Need-walk-step-requires Inv-loop μ-loop
+walk-next-requires : tie.Need-walk-next-requires Inv-loop μ-loop
 walk-next-requires c κs = search needs
 
 sub-left : tie.Need-sub-left Inv-loop μ-loop
