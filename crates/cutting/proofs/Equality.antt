@@ -4,16 +4,15 @@
 --   same-unlike                   lists of two lengths fail
 --   same-turn, same-stops, same-ends    one turn of its loop
 --   part-unlike, part-same        a part of bytes beside a list
-use mathlib.Core.Path.{_≡_, refl, sym, ap, _∙_}
+use mathlib.Core.Path.{_≡_, refl, sym, ap, _∙_, subst}
 use mathlib.Core.Bool.{true, false, false≢true}
 use mathlib.Core.List.{List, [], _∷_}
-use Prim.Native.Nat.{ℕ, _+_, _-_, _≤_, _<_}
+use Prim.Native.Nat.{ℕ, suc, _+_, _-_, _≤_, _<_}
 use native.Mathlib.Omega.{arith}
-use native.Mathlib.Numerals.{add-one}
 use lib.Dec.{eqb}
 use lib.ListN.{length, getD, take, drop, length-drop}
 use lib.Seq.{drop-cons, drop-length, length-take-le}
-use borrow.Author.Tests.{eq-eqb, ne-eqb, eqb-true}
+use borrow.Author.Tests.{eq-eqb, eqb-true}
 use Rattle.model.specs.Shelf.{same}
 use Rattle.model.proofs.Booleans.{and-left, and-right, not-intro}
 
@@ -33,14 +32,16 @@ pub same-unlike : (xs ys : List ℕ) → (length xs ≡ length ys → ⊥) → s
 same-unlike xs ys d = not-intro _ (λ e. d (ap length (same-eq xs ys e)))
 
 module _ (xs ys : List ℕ) (i : ℕ) where
-  module _ (h : i < length xs) (k : i < length ys) where
-    pub same-turn : getD xs i 0 ≡ getD ys i 0 → same (drop i xs) (drop i ys) ≡ same (drop (i + 1) xs) (drop (i + 1) ys)
-    unfolding same
-    same-turn e = rw (add-one, drop-cons xs i 0 h, drop-cons ys i 0 k, eq-eqb _ _ e)
+  -- the entry before those from place j on
+  pub same-turn : (j : ℕ) → j ≡ suc i → j ≤ length xs → j ≤ length ys → getD xs i 0 ≡ getD ys i 0 → same (drop j xs) (drop j ys) ≡ true
+      → same (drop i xs) (drop i ys) ≡ true
+  unfolding same
+  same-turn j n h k e s =
+      let t : same (drop (suc i) xs) (drop (suc i) ys) ≡ true = subst (λ (m : ℕ). same (drop m xs) (drop m ys) ≡ true) n s in
+      rw (drop-cons xs i 0 (omega arith), drop-cons ys i 0 (omega arith), eq-eqb _ _ e) t
 
-    pub same-stops : (getD xs i 0 ≡ getD ys i 0 → ⊥) → same (drop i xs) (drop i ys) ≡ false
-    unfolding same
-    same-stops d = rw (drop-cons xs i 0 h, drop-cons ys i 0 k, ne-eqb _ _ d)
+  pub same-stops : (getD xs i 0 ≡ getD ys i 0 → ⊥) → same xs ys ≡ false
+  same-stops d = not-intro _ (λ e. d (ap (λ (zs : List ℕ). getD zs i 0) (same-eq xs ys e)))
 
   pub same-ends : i ≡ length xs → i ≡ length ys → same (drop i xs) (drop i ys) ≡ true
   unfolding same
