@@ -26,6 +26,7 @@ use lib.Seq.{length-take-le, take-at, drop-at, take-take, take-add, drop-drop, d
 use lib.Seq.{set-append-left, set-append-seam, drop-cons, append-snoc, take-set-lt, take-set-le, drop-set-add, drop-set-lt, take-nil}
 use lib.Seq.{sets, sets-eq, take-suc-set, getD-set-same, lt-length-set}
 use Rattle.model.specs.Calls.{front}
+use Rattle.model.proofs.Stores.{set-append-right}
 use Rattle.areas.specs.Area.{region, placed}
 
 -- one of two cases
@@ -84,11 +85,6 @@ region-front a c t x w l h =
     ∙ ap (λ (p : ℕ). x ∷ region p (c - suc t) w) (sym (add-suc a t))
 
 -- ---- what is placed
-
-set-append-add : (xs ys : List ℕ) (i v : ℕ) → set (xs ++ ys) (length xs + i) v ≡ xs ++ set ys i v
-set-append-add [] ys i v = ap (λ (k : ℕ). set ys k v) (zero-add i)
-set-append-add (x ∷ xs) ys i v =
-    ap (λ (k : ℕ). set (x ∷ (xs ++ ys)) k v) (suc-add (length xs) i) ∙ ap (λ (r : List ℕ). x ∷ r) (set-append-add xs ys i v)
 
 module _ (a : ℕ) (xs w : List ℕ) (fits : a + length xs ≤ length w) where
   before-it : length (take a w) ≡ a
@@ -150,7 +146,7 @@ module _ (a : ℕ) (xs w : List ℕ) (fits : a + length xs ≤ length w) where
 
   -- a store at or behind place a
   set-behind : (ys : List ℕ) (i v : ℕ) → set (take a w ++ ys) (a + i) v ≡ take a w ++ set ys i v
-  set-behind ys i v = subst (λ (k : ℕ). set (take a w ++ ys) (k + i) v ≡ take a w ++ set ys i v) before-it (set-append-add (take a w) ys i v)
+  set-behind ys i v = subst (λ (k : ℕ). set (take a w ++ ys) (k + i) v ≡ take a w ++ set ys i v) before-it (set-append-right (take a w) ys i v)
 
   pub set-placed : (i v : ℕ) → i < length xs → set (placed a xs w) (a + i) v ≡ placed a (set xs i v) w
   unfolding placed

@@ -4,12 +4,11 @@
 --   is-one, is-two           a kind is 1 or 2
 --   kind-one, kind-other     the length of a record of kind 1, and of another
 --   refuse-short, refuse-length, refuse-kind, refuse-none, refuse-many, refuse-size, refuse-nothing   the head refusal, check by check
---   not-met                  a refusal that was not met, with the rest of the checks
 --   passes-length            a record that passes has its length field's length
 --   passes-long              a record that passes has 6 bytes or more
 --   passes-short             a record that passes has 65,535 bytes or fewer
 --   passes-head              passing is decided by the length and the first six bytes
-use mathlib.Core.Path.{_≡_, refl, sym}
+use mathlib.Core.Path.{_≡_, sym}
 use mathlib.Core.Bool.{Bool, true, false, not, _||_, cond}
 use mathlib.Core.List.{List}
 use Prim.Native.Nat.{ℕ, _+_, _*_, _/_, _≤_, _<_}
@@ -19,6 +18,7 @@ use lib.Dec.{eqb, ltb}
 use lib.ListN.{length, getD}
 use borrow.Author.Tests.{lt-ltb, le-ltb, eq-eqb, ne-eqb, ltb-false, eqb-true, not-false}
 use Rattle.model.proofs.Booleans.{or-none}
+use Rattle.model.proofs.Refusals.{not-met}
 use Rattle.model.specs.Numbers.{firstRefusal}
 use Rattle.model.specs.Map.{isKind}
 use Rattle.model.specs.Record.{recordLength}
@@ -86,10 +86,6 @@ module _ (r : List ℕ) where
 -- ---- the two laws of a record that passes
 
 -- a refusal that was not met, with the rest of the checks
-pub not-met : (b : Bool) (k n : ℕ) → (k ≡ 0 → ⊥) → cond b k n ≡ 0 → (b ≡ false) × (n ≡ 0)
-not-met true k n d e = absurd (d e)
-not-met false k n d e = (refl, e)
-
 record Checked (r : List ℕ) : Type 0 where
   long : ltb (length r) 6 ≡ false
   field : not (eqb (word16 r 0) (length r)) ≡ false

@@ -11,3 +11,4 @@ pub mod Line
 pub mod Unreadable
 pub mod Table
 pub mod Vectors
+pub mod Stores

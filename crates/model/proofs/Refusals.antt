@@ -1,5 +1,6 @@
 -- Lists of refusals.
 --
+--   not-met              the test b of refusal k fails, and what comes after it
 --   not-first            none holds: not the first of them, nor any other
 --   Numbered             every number is a refusal's
 --   first-append         the first of two lists of refusals, one after the other
@@ -11,10 +12,13 @@ use mathlib.Core.List.{List, [], _∷_, _++_}
 use lib.Dec.{eqb}
 use Rattle.model.specs.Numbers.{Refusal, firstRefusal, refuse}
 
+pub not-met : (b : Bool) (k n : ℕ) → (k ≡ 0 → ⊥) → cond b k n ≡ 0 → (b ≡ false) × (n ≡ 0)
+not-met true k n d e = absurd (d e)
+not-met false k n d e = (refl, e)
+
 pub not-first : (n : ℕ) (b : Bool) (rs : List Refusal) → firstRefusal (refuse (suc n) b ∷ rs) ≡ 0 → (b ≡ false) × (firstRefusal rs ≡ 0)
 unfolding firstRefusal
-not-first n true rs e = absurd (suc-ne-zero n e)
-not-first n false rs e = (refl, e)
+not-first n b rs e = not-met b (suc n) (firstRefusal rs) (suc-ne-zero n) e
 
 abbrev pub Numbered : List Refusal → Type 0
 Numbered [] = Unit

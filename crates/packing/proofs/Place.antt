@@ -4,23 +4,20 @@
 --   unpack-read             the digit at place k by dividing
 --   put-fits, unpack-put    a digit put where 0 stands, by adding
 use Prim.Native.Nat.{ℕ, zero, suc, _+_, _-_, _*_, _/_, _%_, _^_, _<_}
-use native.Mathlib.Nat.{not-suc-le-zero, le-of-suc-le-suc, zero-mul, suc-mul, zero-add, suc-add, mod-lt, div-add-mod', div-lt-iff-lt-mul}
+use native.Mathlib.Nat.{not-suc-le-zero, le-of-suc-le-suc, zero-mul, suc-mul, zero-add, mod-lt, div-add-mod', div-lt-iff-lt-mul}
 use native.Mathlib.Omega.{arith}
 use native.Mathlib.Numerals.{one-add}
 use mathlib.Core.Path.{_≡_, sym, ap, _∙_}
 use mathlib.Core.Bool.{true}
-use mathlib.Core.List.{List, [], _∷_, _++_}
+use mathlib.Core.List.{List, [], _∷_}
 use lib.ListN.{length, getD, set, drop, length-set, List·getD-append}
 use lib.Seq.{take-all, getD-append-add, getD-drop, set-append-left}
+use Rattle.model.proofs.Stores.{set-append-right}
 use Rattle.model.specs.Numbers.{allBelow}
 use Rattle.model.specs.Record.{digits}
 use Rattle.model.proofs.Below.{below-set}
 use Rattle.packing.specs.Unpack.{digitsOf, unpack}
 use Rattle.packing.proofs.Digits.{digits-below, length-digitsOf, digitsOf-below, digitsOf-at, digitsOf-digits, digits-digitsOf, digits-set}
-
-set-append-right : (xs ys : List ℕ) (k a : ℕ) → set (xs ++ ys) (length xs + k) a ≡ xs ++ set ys k a
-set-append-right [] ys k a = rw (zero-add k)
-set-append-right (x ∷ xs) ys k a = rw (suc-add (length xs) k) (ap (λ (r : List ℕ). x ∷ r) (set-append-right xs ys k a))
 
 module _ (b w : ℕ) where
   pub unpack-at : (n : ℕ) (xs : List ℕ) (q j : ℕ) → q < n → j < w → getD (unpack b w n xs) (q * w + j) 0 ≡ getD (digitsOf b w (getD xs q 0)) j 0

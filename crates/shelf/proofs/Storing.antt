@@ -22,7 +22,7 @@ use Rattle.shelf.specs.declared.Spot.the-variants.{There, New, Refused}
 use Rattle.model.specs.Numbers.{firstRefusal}
 use Rattle.model.specs.Shelf.{headRefusal, recordsIn, endToEnd, firstEqual, shelfRefused}
 use Rattle.model.specs.Calls.{front, shelveRefusal, shelveAnswer, shelvedBytes, Stored}
-use Rattle.heads.proofs.Head.{not-met}
+use Rattle.model.proofs.Refusals.{not-met}
 use Rattle.shelf.specs.Count.{shelfCount}
 use Rattle.shelf.specs.Spot.{spotOf}
 use Rattle.shelf.proofs.Refusals.{used-part, count-broken, count-records}

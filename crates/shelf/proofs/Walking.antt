@@ -26,7 +26,7 @@ use Rattle.model.specs.Shelf.{word16, passes, recordsIn, endToEnd, shelfRefused
 use Rattle.model.specs.Calls.{fetchRefusal, fetched, Fetched}
 use Rattle.model.specs.Walk.{firstRecord, recordAt, placeOfRecord, beginPlace, nextPlace, Begun}
 use Rattle.model.proofs.Booleans.{or-none}
-use Rattle.heads.proofs.Head.{not-met}
+use Rattle.model.proofs.Refusals.{not-met}
 use denote.Ref.{RefT, now}
 use Rattle.model.specs.Parts.{cutPlace, CutOut}
 use Rattle.cutting.proofs.Stands.{head-whole, record-is, record-short, stands, stands-length, stands-not}

@@ -20,7 +20,7 @@ use Rattle.model.specs.declared.Shelved.the-variants.{At, Refused}
 use Rattle.model.specs.Numbers.{firstRefusal}
 use Rattle.model.specs.Shelf.{headRefusal, passes, recordsIn, endToEnd, firstEqual, shelfRefused}
 use Rattle.model.specs.Calls.{front, shelveRefusal, shelveAnswer, shelvedBytes, Stored, fetchRefusal, fetched, Fetched}
-use Rattle.heads.proofs.Head.{not-met}
+use Rattle.model.proofs.Refusals.{not-met}
 use Rattle.shelf.proofs.Walking.{used-fine, fine-parts}
 use Rattle.shelf_laws.proofs.Laid.{one-more}
 use Rattle.shelf_laws.proofs.Number.{first-bound, first-there, first-behind}
