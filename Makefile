@@ -47,7 +47,7 @@ rust-tests: $(LIBRARY)
 test: vectors rust-tests
 	tests/part
 	tests/compare
-	tests/tool
+	tests/tool/run
 	rt ci
 
 install: tool

@@ -1,15 +1,18 @@
 //! The coach's tool: plan files, records and a shelf file, over the proved library.
 //!
-//! What is refused, and what a record is, the library says. This program reads and writes files, words and numbers:
+//! What a record is, and every refusal, comes from the library. This program reads and writes files, words and numbers:
 //!
-//! * `commands`: what each command does;
-//! * `options`: the words of the command line; `help`: the text of `--help`;
+//! * `commands`: what each command does, with its help; `help`: the overview;
+//! * `options`: the words of the command line; `names`: names as a terminal can take them;
+//! * `files`: files read whole, and files that appear whole or not at all;
 //! * `plan_file`, `record_file`, `shelf_file`: the three kinds of file;
 //! * `planar_code`: the interchange format that `import` reads;
 //! * `report`: messages and the exit status.
 
 mod commands;
+mod files;
 mod help;
+mod names;
 mod options;
 mod plan_file;
 mod planar_code;
@@ -17,6 +20,7 @@ mod record_file;
 mod report;
 mod shelf_file;
 
+use commands::{Command, COMMANDS};
 use options::Word;
 use report::{Problem, Report};
 use std::process::ExitCode;
@@ -27,18 +31,23 @@ fn main() -> ExitCode {
         return usage("no command");
     };
     let command = word.text().unwrap_or_default();
-    let known = help::COMMANDS.iter().find(|&&(name, _)| name == command);
-    match (command, known) {
-        ("--help" | "-h" | "help", _) => return say(&help::overview()),
-        ("--version", _) => return say(concat!("jurnadel ", env!("CARGO_PKG_VERSION"), "\n")),
-        (_, None) => return usage(&format!("no command '{word}'")),
-        (_, Some((_, text))) if asks_for_help(rest) => return say(text),
+    match command {
+        "--help" | "-h" | "help" => return say(&help::overview()),
+        "--version" => return say(concat!("jurnadel ", env!("CARGO_PKG_VERSION"), "\n")),
         _ => {}
     }
+    match COMMANDS.iter().find(|known| known.name == command) {
+        Some(known) if asks_for_help(rest) => say(known.help),
+        Some(known) => run(known, rest),
+        None => usage(&format!("no command '{word}'")),
+    }
+}
+
+fn run(command: &Command, words: &[Word]) -> ExitCode {
     let mut report = Report::new();
-    match commands::run(command, rest, &mut report) {
+    match (command.run)(words, &mut report) {
         Ok(()) => {}
-        Err(Problem::Usage(text)) => return usage(&format!("{command}: {text}")),
+        Err(Problem::Usage(text)) => return usage(&format!("{}: {text}", command.name)),
         Err(problem) => report.problem(&problem),
     }
     report.end()

@@ -1,11 +1,13 @@
 //! The words after a command: options, then files and numbers.
 
+use crate::names::shown;
 use crate::report::Problem;
-use std::ffi::OsString;
+use std::ffi::{OsStr, OsString};
 use std::fmt;
+use std::os::unix::ffi::OsStrExt as _;
 use std::path::Path;
 
-/// A word of the command line. It may name a file, in whatever encoding names have; it is shown as well as it can be.
+/// A word of the command line. It may name a file, in whatever encoding names have; it is shown as a terminal can take it.
 #[derive(Debug, Clone)]
 pub struct Word(OsString);
 
@@ -20,8 +22,22 @@ impl Word {
         self.0 == "-"
     }
 
+    /// The parts of a word `--NAME=VALUE`; the value may be in any encoding.
+    fn name_and_value(&self) -> Option<(&str, Word)> {
+        let bytes = self.0.as_bytes();
+        let equals = bytes.iter().position(|&byte| byte == b'=').filter(|_| bytes.starts_with(b"--"))?;
+        let name = std::str::from_utf8(&bytes[..equals]).ok()?;
+        Some((name, Word(OsStr::from_bytes(&bytes[equals + 1..]).to_owned())))
+    }
+
     fn is_option(&self) -> bool {
         self.0.as_encoded_bytes().starts_with(b"-") && !self.is_input()
+    }
+}
+
+impl From<&str> for Word {
+    fn from(word: &str) -> Word {
+        Word(word.into())
     }
 }
 
@@ -39,7 +55,7 @@ impl AsRef<Path> for Word {
 
 impl fmt::Display for Word {
     fn fmt(&self, f: &mut fmt::Formatter<'_>) -> fmt::Result {
-        self.0.display().fmt(f)
+        shown(&self.0).fmt(f)
     }
 }
 
@@ -52,7 +68,8 @@ pub struct Options {
 }
 
 impl Options {
-    /// Takes the words apart. `switches` stand alone, `valued` have a word after them. After `--` no word is an option.
+    /// Takes the words apart. `switches` stand alone, `valued` have a word after them, or after `=`. After `--` no word is an
+    /// option.
     pub fn parse(words: &[Word], switches: &[&str], valued: &[&str]) -> Result<Options, Problem> {
         let mut options = Options { switches: Vec::new(), values: Vec::new(), words: Vec::new() };
         let mut rest = words.iter();
@@ -64,8 +81,11 @@ impl Options {
                     let value = rest.next().ok_or_else(|| Problem::Usage(format!("{name} needs a word after it")))?;
                     options.values.push((name.to_string(), value.clone()));
                 }
-                _ if word.is_option() => return Err(Problem::Usage(format!("no option {word}"))),
-                _ => options.words.push(word.clone()),
+                _ => match word.name_and_value().filter(|(name, _)| valued.contains(name)) {
+                    Some((name, value)) => options.values.push((name.to_string(), value)),
+                    None if word.is_option() => return Err(Problem::Usage(format!("no option {word}"))),
+                    None => options.words.push(word.clone()),
+                },
             }
         }
         Ok(options)

@@ -3,12 +3,12 @@
 //! One line `start: DART` and one line of entries, the turning order; `#` begins a comment, blank lines are skipped.
 //! Comments may be in any encoding that has ASCII's bytes.
 
+use crate::files::{bytes_of, text_of};
+use crate::names::beginning;
 use crate::options::Word;
 use crate::report::Problem;
 use jurnadel::Refusal;
-use std::borrow::Cow;
 use std::fmt::Write as _;
-use std::io::Read as _;
 
 /// A plan and the lines that it stands in.
 #[derive(Debug, PartialEq, Eq)]
@@ -78,15 +78,9 @@ impl Plan {
 /// A dart's number. No plan has a dart 65,535, so a larger number is taken as that one: it is refused for the same reason.
 fn entry(word: &str) -> Result<u16, String> {
     if word.is_empty() || !word.bytes().all(|byte| byte.is_ascii_digit()) {
-        return Err(format!("not a number: '{}'", shown(word)));
+        return Err(format!("not a number: '{}'", beginning(word)));
     }
     Ok(word.parse().unwrap_or(u16::MAX))
-}
-
-/// The beginning of a word of a file, as a terminal can take it.
-fn shown(word: &str) -> String {
-    let more = if word.chars().nth(20).is_some() { ".." } else { "" };
-    format!("{}{more}", word.chars().take(20).flat_map(char::escape_debug).collect::<String>())
 }
 
 /// The text of a plan file, with a comment on its first line.
@@ -97,23 +91,6 @@ pub fn text(comment: &str, order: &[u16], start: u16) -> String {
     }
     text.push('\n');
     text
-}
-
-/// The text of a file's bytes, without a byte order mark, or nothing if they are none. What isn't UTF-8 becomes a character
-/// that no plan or record has, so it can stand in comments.
-pub fn text_of(bytes: &[u8]) -> Option<Cow<'_, str>> {
-    let bytes = bytes.strip_prefix("\u{FEFF}".as_bytes()).unwrap_or(bytes);
-    (!bytes.contains(&0)).then(|| String::from_utf8_lossy(bytes))
-}
-
-/// The bytes of a file, `-` for standard input.
-pub fn bytes_of(path: &Word) -> Result<Vec<u8>, Problem> {
-    if path.is_input() {
-        let mut bytes = Vec::new();
-        let read = std::io::stdin().lock().read_to_end(&mut bytes);
-        return read.map(|_| bytes).map_err(|error| Problem::file("standard input", error));
-    }
-    std::fs::read(path).map_err(|error| Problem::file(path, error))
 }
 
 #[cfg(test)]
@@ -143,7 +120,7 @@ mod tests {
         assert_eq!(wrong("start: 0\nstart: 0\n0 1\n"), (2, String::from("a second line of start")));
         assert_eq!(wrong("start: 0\n0\n1\n"), (3, String::from("a second line of entries")));
         assert_eq!(wrong(""), (1, String::from("no line 'start: DART'")));
-        assert_eq!(wrong("start: \u{1b}[7m\n").1, "not a number: '\\u{1b}[7m'");
+        assert_eq!(wrong("start: \u{1b}[7m\n").1, "not a number: '\\x1B[7m'");
         assert_eq!(wrong(&"x".repeat(1000)).1, format!("not a number: '{}..'", "x".repeat(20)));
     }
 

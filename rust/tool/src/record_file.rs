@@ -2,8 +2,8 @@
 //!
 //! In text a record is one line of byte pairs, with spaces as one likes; `#` begins a comment, blank lines are skipped.
 
+use crate::files::{bytes_of, text_of};
 use crate::options::Word;
-use crate::plan_file::{bytes_of, text_of};
 use crate::report::Problem;
 
 /// The record of a file, `-` for standard input, and the line that it stands in: none where the file is raw.

@@ -4,11 +4,13 @@
 //! shelves holds a lock on `SHELF.lock` from before it reads the file until it ends; the lock goes with the process, the
 //! empty lock file stays. Runs that only read need no lock: they find the old file or the new one.
 
+use crate::files::{beside, led_to, sync_folder_of, Staged};
+use crate::names::shown;
 use crate::options::Word;
 use crate::report::{complain, Problem};
 use jurnadel::Refusal;
 use std::fs::{self, File, TryLockError};
-use std::io::{self, Write as _};
+use std::io;
 use std::path::{Path, PathBuf};
 
 /// A shelf file under lock.
@@ -38,7 +40,7 @@ impl ShelfFile {
         let path = led_to(name.as_ref());
         replaceable(&path).map_err(trouble)?;
         let lock_path = beside(&path, ".lock");
-        let lock = lock(&lock_path).map_err(|error| Problem::file(lock_path.display(), error))?;
+        let lock = lock(&lock_path).map_err(|error| Problem::file(shown(&lock_path), error))?;
         let bytes = match fs::read(&path) {
             Ok(bytes) => bytes,
             Err(error) if error.kind() == io::ErrorKind::NotFound => Vec::new(),
@@ -70,20 +72,6 @@ impl ShelfFile {
     }
 }
 
-/// The file that a name leads to by way of links, whether or not it is there: it is the one to lock and to replace.
-fn led_to(name: &Path) -> PathBuf {
-    fs::canonicalize(name).unwrap_or_else(|_| {
-        let mut path = name.to_path_buf();
-        for _ in 0..40 {
-            match fs::read_link(&path) {
-                Ok(link) => path = folder_of(&path).join(link),
-                Err(_) => break,
-            }
-        }
-        path
-    })
-}
-
 /// Whether a file may be replaced: a regular file that this user may write, or none. A rename alone would ask neither.
 fn replaceable(path: &Path) -> io::Result<()> {
     match fs::metadata(path) {
@@ -101,7 +89,7 @@ fn lock(path: &Path) -> io::Result<File> {
     match file.try_lock() {
         Ok(()) => {}
         Err(TryLockError::WouldBlock) => {
-            complain(format!("{}: waiting for another run to end", path.display()));
+            complain(format!("{}: waiting for another run to end", shown(path)));
             file.lock()?;
         }
         Err(TryLockError::Error(error)) => return Err(error),
@@ -109,38 +97,13 @@ fn lock(path: &Path) -> io::Result<File> {
     Ok(file)
 }
 
-/// Replaces a file in one step: whoever looks finds the old content or the new, also after a crash.
+/// Replaces a file in one step.
 fn replace(path: &Path, content: &[u8]) -> io::Result<()> {
-    let new = beside(path, ".new");
-    let written = write_synced(&new, path, content).and_then(|()| fs::rename(&new, path));
-    if written.is_err() {
-        let _ = fs::remove_file(&new);
+    let mut staged = Staged::begin(path)?;
+    staged.write(content)?;
+    if let Ok(old) = fs::metadata(path) {
+        staged.like(&old)?;
     }
-    written?;
-    File::open(folder_of(path))?.sync_all()
-}
-
-fn write_synced(new: &Path, old: &Path, content: &[u8]) -> io::Result<()> {
-    // What a run that was killed has left, perhaps another user's.
-    let _ = fs::remove_file(new);
-    let mut file = File::create_new(new)?;
-    if let Ok(metadata) = fs::metadata(old) {
-        file.set_permissions(metadata.permissions())?;
-    }
-    file.write_all(content)?;
-    file.sync_all()
-}
-
-fn folder_of(path: &Path) -> &Path {
-    match path.parent() {
-        Some(folder) if folder != Path::new("") => folder,
-        _ => Path::new("."),
-    }
-}
-
-/// The path with an ending added to its name.
-fn beside(path: &Path, ending: &str) -> PathBuf {
-    let mut name = path.as_os_str().to_owned();
-    name.push(ending);
-    PathBuf::from(name)
+    staged.replace()?;
+    sync_folder_of(path)
 }

@@ -1,0 +1,201 @@
+//! Files read whole, and files that appear whole or not at all.
+//!
+//! A file is first written beside its place, under the name with `.new` added, and synced; then it takes its place in one step.
+//! Whoever looks finds the old content, if any, or the new, also after a crash. While it is written it is locked, so that a
+//! second run waits for its turn; what a run that was killed has left is removed by the next one.
+
+use crate::names::shown;
+use crate::options::Word;
+use crate::report::Problem;
+use std::borrow::Cow;
+use std::fs::{self, File, Metadata};
+use std::io::{self, ErrorKind, Read as _, Write as _};
+use std::os::unix::fs::{fchown, MetadataExt as _, OpenOptionsExt as _};
+use std::path::{Path, PathBuf};
+
+/// Opening doesn't wait for the other end of a pipe. Linux's number, on x86-64.
+const O_NONBLOCK: i32 = 0o4000;
+
+/// The bytes of a file, `-` for standard input.
+pub fn bytes_of(path: &Word) -> Result<Vec<u8>, Problem> {
+    if path.is_input() {
+        let mut bytes = Vec::new();
+        let read = io::stdin().lock().read_to_end(&mut bytes);
+        return read.map(|_| bytes).map_err(|error| Problem::file("standard input", error));
+    }
+    fs::read(path).map_err(|error| Problem::file(path, error))
+}
+
+/// The text of a file's bytes, without a byte order mark, or nothing if they are none. What isn't UTF-8 becomes
+/// U+FFFD, so it can stand in comments.
+pub fn text_of(bytes: &[u8]) -> Option<Cow<'_, str>> {
+    let bytes = bytes.strip_prefix("\u{FEFF}".as_bytes()).unwrap_or(bytes);
+    (!bytes.contains(&0)).then(|| String::from_utf8_lossy(bytes))
+}
+
+/// What `-o` asks for: the output to a file that isn't there or, with `force`, in place of one. A file that the command reads
+/// is never replaced.
+pub fn put_out(target: &Word, force: bool, inputs: &[Word], bytes: &[u8]) -> Result<(), Problem> {
+    let wrong = |what: &str| Err(Problem::file(target, what));
+    let path = led_to(target.as_ref());
+    let old = fs::metadata(&path).ok();
+    if let Some(old) = &old {
+        if inputs.iter().any(|input| metadata_of(input).is_some_and(|input| same_file(old, &input))) {
+            return wrong("the command reads this file; -o must name another one");
+        } else if !old.is_file() {
+            return wrong("not a regular file");
+        } else if !force {
+            return wrong("this file is there already; --force replaces it");
+        }
+    }
+    put(&path, old.as_ref(), bytes).map_err(|error| Problem::file(target, error))
+}
+
+/// Puts a file in its place: a new one, or one that replaces the old.
+fn put(path: &Path, old: Option<&Metadata>, bytes: &[u8]) -> io::Result<()> {
+    let mut staged = Staged::begin(path)?;
+    staged.write(bytes)?;
+    match old {
+        Some(old) => staged.like(old).and_then(|()| staged.replace())?,
+        None => staged.create()?,
+    }
+    sync_folder_of(path)
+}
+
+fn metadata_of(input: &Word) -> Option<Metadata> {
+    match input.is_input() {
+        true => fs::metadata("/dev/stdin").ok(),
+        false => fs::metadata(input).ok(),
+    }
+}
+
+/// A file that is written beside its place.
+pub struct Staged {
+    path: PathBuf,
+    new: PathBuf,
+    file: File,
+}
+
+impl Staged {
+    /// Begins the file for this place. Waits for a run that is writing one for it.
+    pub fn begin(path: &Path) -> io::Result<Staged> {
+        let new = beside(path, ".new");
+        loop {
+            match File::create_new(&new) {
+                Ok(file) => {
+                    file.lock()?;
+                    if leads_to(&new, &file) {
+                        return Ok(Staged { path: path.to_path_buf(), new, file });
+                    }
+                }
+                Err(error) if error.kind() == ErrorKind::AlreadyExists => clear(&new)?,
+                Err(error) => return Err(error),
+            }
+        }
+    }
+
+    pub fn write(&mut self, bytes: &[u8]) -> io::Result<()> {
+        self.file.write_all(bytes)
+    }
+
+    /// Gives it the owner, group and mode of another file.
+    pub fn like(&self, other: &Metadata) -> io::Result<()> {
+        let own = self.file.metadata()?;
+        if (own.uid(), own.gid()) != (other.uid(), other.gid()) {
+            fchown(&self.file, Some(other.uid()), Some(other.gid())).map_err(|error| {
+                let owner = format!("{}:{}", other.uid(), other.gid());
+                io::Error::other(format!("its owner and group ({owner}) cannot be kept: {error}"))
+            })?;
+        }
+        self.file.set_permissions(other.permissions())
+    }
+
+    /// Puts it where no file is; if one is there, this is an error.
+    pub fn create(self) -> io::Result<()> {
+        self.sync()?;
+        match fs::hard_link(&self.new, &self.path) {
+            // Where the file system has no links.
+            Err(error) if error.kind() != ErrorKind::AlreadyExists && !self.path.exists() => fs::rename(&self.new, &self.path),
+            done => done,
+        }
+    }
+
+    /// Puts it in the place of the file that is there, if any.
+    pub fn replace(self) -> io::Result<()> {
+        self.sync()?;
+        fs::rename(&self.new, &self.path)
+    }
+
+    fn sync(&self) -> io::Result<()> {
+        self.file.sync_all()?;
+        match leads_to(&self.new, &self.file) {
+            true => Ok(()),
+            false => Err(io::Error::other(format!("{} was taken away while it was written", shown(&self.new)))),
+        }
+    }
+}
+
+impl Drop for Staged {
+    fn drop(&mut self) {
+        if leads_to(&self.new, &self.file) {
+            let _ = fs::remove_file(&self.new);
+        }
+    }
+}
+
+/// Waits until nobody writes a file, and removes it.
+fn clear(new: &Path) -> io::Result<()> {
+    let regular = fs::symlink_metadata(new).is_ok_and(|found| found.is_file());
+    if let (true, Ok(left)) = (regular, File::options().read(true).custom_flags(O_NONBLOCK).open(new)) {
+        left.lock()?;
+        if !leads_to(new, &left) {
+            return Ok(());
+        }
+    }
+    match fs::remove_file(new) {
+        Err(error) if error.kind() != ErrorKind::NotFound => Err(error),
+        _ => Ok(()),
+    }
+}
+
+/// Whether a path still leads to an open file.
+pub fn leads_to(path: &Path, file: &File) -> bool {
+    matches!((fs::metadata(path), file.metadata()), (Ok(found), Ok(open)) if same_file(&found, &open))
+}
+
+pub fn same_file(one: &Metadata, other: &Metadata) -> bool {
+    (one.dev(), one.ino()) == (other.dev(), other.ino())
+}
+
+/// The file that a name leads to by way of links, whether or not it is there: it is the one to lock and to replace.
+pub fn led_to(name: &Path) -> PathBuf {
+    fs::canonicalize(name).unwrap_or_else(|_| {
+        let mut path = name.to_path_buf();
+        for _ in 0..40 {
+            match fs::read_link(&path) {
+                Ok(link) => path = folder_of(&path).join(link),
+                Err(_) => break,
+            }
+        }
+        path
+    })
+}
+
+/// Makes a change of names in a path's folder last.
+pub fn sync_folder_of(path: &Path) -> io::Result<()> {
+    File::open(folder_of(path))?.sync_all()
+}
+
+fn folder_of(path: &Path) -> &Path {
+    match path.parent() {
+        Some(folder) if folder != Path::new("") => folder,
+        _ => Path::new("."),
+    }
+}
+
+/// The path with an ending added to its name.
+pub fn beside(path: &Path, ending: &str) -> PathBuf {
+    let mut name = path.as_os_str().to_owned();
+    name.push(ending);
+    PathBuf::from(name)
+}
