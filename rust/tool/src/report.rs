@@ -26,12 +26,37 @@ pub enum Problem {
 impl Problem {
     /// A refusal at a place: a file, and a line or record in it.
     pub fn refused(place: impl Display, refusal: Refusal) -> Problem {
-        Problem::Refused(format!("{place}: {refusal}"))
+        Problem::Refused(format!("{place}: {}", in_words(refusal)))
     }
 
     /// A file, or a place in one, and what is wrong with it.
     pub fn file(place: impl Display, what: impl Display) -> Problem {
         Problem::File(format!("{place}: {what}"))
+    }
+}
+
+/// A refusal in a coach's words, with its number behind them.
+pub fn in_words(refusal: Refusal) -> String {
+    let words = match refusal.number() {
+        Refusal::RECORD_CUT => "the record is cut short or too long: its length field and its bytes don't agree",
+        Refusal::KIND => "there is no such kind of record; the kinds are 1 and 2",
+        Refusal::COUNT => "a plan has 1 to 4,096 trails with two ends each",
+        Refusal::START => "the start is none of the plan's trail ends",
+        Refusal::LENGTH => "the record's length is not that of its kind and number of trails",
+        Refusal::ENTRY => "the entries must be the plan's trail ends, each once",
+        Refusal::NOT_CONNECTED => "the plan is in pieces: some trails cannot be reached from the others",
+        Refusal::NOT_PLANAR => "in this turning order the plan cannot be drawn without crossings",
+        Refusal::LOOP => "a trail leads back to the junction that it comes from; no kind takes such a loop",
+        Refusal::DEGREE_ONE => "the plan has a dead end, which kind 1 doesn't take; kind 2 does",
+        Refusal::NO_FIT_PLAN => "no plan has this record; it may have been damaged",
+        Refusal::SHELF_BROKEN => "the shelf is damaged: its bytes are not records end to end",
+        Refusal::NO_SUCH_RECORD => "the shelf has no record with this number; numbers count from 0",
+        Refusal::SHELF_FULL => "the shelf is full: the record is not on it and doesn't fit",
+        _ => refusal.meaning(),
+    };
+    match refusal.characteristic() {
+        Some(characteristic) => format!("{words} (refusal 10, characteristic {characteristic})"),
+        None => format!("{words} (refusal {})", refusal.number()),
     }
 }
 

@@ -2,7 +2,7 @@
 
 use super::{counted, Command, Done};
 use crate::options::{Options, Word};
-use crate::report::{Problem, Report};
+use crate::report::{in_words, Problem, Report};
 use crate::shelf_file;
 use jurnadel::Refusal;
 use std::collections::HashMap;
@@ -41,7 +41,7 @@ fn run(words: &[Word], report: &mut Report) -> Done {
     // Past the last record that stands there, the library says of the whole whether it is a shelf.
     if let Err(refusal) = jurnadel::walk(&shelf, shelf.len(), 0) {
         if refusal.number() == Refusal::SHELF_BROKEN {
-            return Err(Problem::Refused(format!("{path}: {refusal} No record stands at byte {at}, after {records}.")));
+            return Err(Problem::Refused(format!("{path}: {}; no record stands at byte {at}, after {records}", in_words(refusal))));
         }
     }
     match unreadable {
