@@ -14,7 +14,7 @@ use std::os::unix::fs::{fchown, MetadataExt as _, OpenOptionsExt as _};
 use std::path::{Path, PathBuf};
 
 /// Opening doesn't wait for the other end of a pipe. Linux's number, on x86-64.
-const O_NONBLOCK: i32 = 0o4000;
+pub const O_NONBLOCK: i32 = 0o4000;
 
 /// The bytes of a file, `-` for standard input.
 pub fn bytes_of(path: &Word) -> Result<Vec<u8>, Problem> {
@@ -56,7 +56,7 @@ fn put(path: &Path, old: Option<&Metadata>, bytes: &[u8]) -> io::Result<()> {
     let mut staged = Staged::begin(path)?;
     staged.write(bytes)?;
     match old {
-        Some(old) => staged.like(old).and_then(|()| staged.replace())?,
+        Some(old) => staged.like(old).and_then(|()| staged.replace()).map(drop)?,
         None => staged.create()?,
     }
     sync_folder_of(path)
@@ -94,8 +94,10 @@ impl Staged {
         }
     }
 
+    /// Writes its bytes, so that they last.
     pub fn write(&mut self, bytes: &[u8]) -> io::Result<()> {
-        self.file.write_all(bytes)
+        self.file.write_all(bytes)?;
+        self.file.sync_all()
     }
 
     /// Gives it the owner, group and mode of another file.
@@ -112,7 +114,7 @@ impl Staged {
 
     /// Puts it where no file is; if one is there, this is an error.
     pub fn create(self) -> io::Result<()> {
-        self.sync()?;
+        self.still_ours()?;
         match fs::hard_link(&self.new, &self.path) {
             // Where the file system has no links.
             Err(error) if error.kind() != ErrorKind::AlreadyExists && !self.path.exists() => fs::rename(&self.new, &self.path),
@@ -120,14 +122,15 @@ impl Staged {
         }
     }
 
-    /// Puts it in the place of the file that is there, if any.
-    pub fn replace(self) -> io::Result<()> {
-        self.sync()?;
-        fs::rename(&self.new, &self.path)
+    /// Puts it in the place of the file that is there, if any, and hands it over, not locked any more.
+    pub fn replace(self) -> io::Result<File> {
+        self.still_ours()?;
+        fs::rename(&self.new, &self.path)?;
+        self.file.unlock()?;
+        self.file.try_clone()
     }
 
-    fn sync(&self) -> io::Result<()> {
-        self.file.sync_all()?;
+    fn still_ours(&self) -> io::Result<()> {
         match leads_to(&self.new, &self.file) {
             true => Ok(()),
             false => Err(io::Error::other(format!("{} was taken away while it was written", shown(&self.new)))),
@@ -169,16 +172,14 @@ pub fn same_file(one: &Metadata, other: &Metadata) -> bool {
 
 /// The file that a name leads to by way of links, whether or not it is there: it is the one to lock and to replace.
 pub fn led_to(name: &Path) -> PathBuf {
-    fs::canonicalize(name).unwrap_or_else(|_| {
-        let mut path = name.to_path_buf();
-        for _ in 0..40 {
-            match fs::read_link(&path) {
-                Ok(link) => path = folder_of(&path).join(link),
-                Err(_) => break,
-            }
+    let mut path = name.to_path_buf();
+    for _ in 0..40 {
+        match fs::read_link(&path) {
+            Ok(link) => path = folder_of(&path).join(link),
+            Err(_) => break,
         }
-        path
-    })
+    }
+    path
 }
 
 /// Makes a change of names in a path's folder last.

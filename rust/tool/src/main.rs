@@ -5,20 +5,29 @@
 //! * `commands`: what each command does, with its help; `help`: the overview;
 //! * `options`: the words of the command line; `names`: names as a terminal can take them;
 //! * `files`: files read whole, and files that appear whole or not at all;
-//! * `plan_file`, `record_file`, `shelf_file`: the three kinds of file;
+//! * `plan_file`, `record_file`: two kinds of file;
+//! * `shelf`: a shelf in memory, with its `index`; `shelf_file`: its file, `lock` and `sums`; `survey`: what stands on a shelf
+//!   that may be damaged;
 //! * `planar_code`: the interchange format that `import` reads;
-//! * `report`: messages and the exit status.
+//! * `report`: messages and the exit status; `stdout`: whether standard output was closed.
 
 mod commands;
 mod files;
 mod help;
+mod index;
+mod inputs;
+mod lock;
 mod names;
 mod options;
 mod plan_file;
 mod planar_code;
 mod record_file;
 mod report;
+mod shelf;
 mod shelf_file;
+mod stdout;
+mod sums;
+mod survey;
 
 use commands::{Command, COMMANDS};
 use options::Word;

@@ -114,12 +114,16 @@ impl Options {
         self.value(name).map(|word| number(word, name)).transpose()
     }
 
+    /// The first word and the others.
+    pub fn first_and_rest(&self, first: &str) -> Result<(&Word, &[Word]), Problem> {
+        self.words.split_first().ok_or_else(|| Problem::Usage(format!("{first} is missing")))
+    }
+
     /// The first word and the others, at least one.
     pub fn first_and_more(&self, first: &str, more: &str) -> Result<(&Word, &[Word]), Problem> {
-        match self.words.split_first() {
-            None => Err(Problem::Usage(format!("{first} is missing"))),
-            Some((_, [])) => Err(Problem::Usage(format!("{more} is missing"))),
-            Some((word, others)) => Ok((word, others)),
+        match self.first_and_rest(first)? {
+            (_, []) => Err(Problem::Usage(format!("{more} is missing"))),
+            words => Ok(words),
         }
     }
 

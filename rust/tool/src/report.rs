@@ -1,5 +1,6 @@
 //! Messages, and the exit status that they lead to.
 
+use crate::stdout;
 use jurnadel::Refusal;
 use std::fmt::Display;
 use std::io::{self, Write};
@@ -77,10 +78,13 @@ impl Report {
         Report { output: io::BufWriter::new(io::stdout()), closed: false, status: 0 }
     }
 
-    /// Prints bytes. Once the reader of standard output has gone, nothing more is printed and the work goes on.
+    /// Prints bytes. Once standard output takes no more, nothing more is printed; the work goes on, and the status tells.
     pub fn bytes(&mut self, bytes: &[u8]) {
         if !self.closed {
-            let done = self.output.write_all(bytes);
+            let done = match stdout::was_closed() {
+                true => Err(io::Error::other("it is closed")),
+                false => self.output.write_all(bytes),
+            };
             self.note(done);
         }
     }
@@ -101,6 +105,11 @@ impl Report {
         self.status = self.status.max(status);
     }
 
+    /// Something was found wrong that standard output tells.
+    pub fn found_wrong(&mut self) {
+        self.status = self.status.max(REFUSED);
+    }
+
     /// Whether there was a problem.
     pub fn failed(&self) -> bool {
         self.status != 0
@@ -116,9 +125,10 @@ impl Report {
     fn note(&mut self, done: io::Result<()>) {
         if let Err(error) = done {
             self.closed = true;
+            self.status = self.status.max(FILE);
+            // A reader that has seen enough knows it.
             if error.kind() != io::ErrorKind::BrokenPipe {
                 complain(format!("standard output: {error}"));
-                self.status = self.status.max(FILE);
             }
         }
     }

@@ -1,74 +1,207 @@
 //! Shelf files: the used bytes of a shelf, as they are.
 //!
-//! A shelf file is replaced whole: its new content goes to `SHELF.new` beside it, is synced and renamed over it. A run that
-//! shelves holds a lock on `SHELF.lock` from before it reads the file until it ends; the lock goes with the process, the
-//! empty lock file stays. Runs that only read need no lock: they find the old file or the new one.
+//! A shelf file is replaced whole (`files`), its checksums (`sums`) just before it. A run that shelves holds a lock on `SHELF.lock`
+//! from before it reads the file until it ends. Before each replacement it makes sure that the lock file is still its own, and
+//! the shelf still the file that it read or wrote last, with those bytes; from this look until it is replaced the shelf file is
+//! locked too. So runs lose nothing to each other even where somebody removes the lock file, and a shelf that somebody put
+//! back from a copy stays. Runs that only read need no lock: they find the old file or the new one.
 
-use crate::files::{beside, led_to, sync_folder_of, Staged};
+use crate::files::{beside, leads_to, led_to, sync_folder_of, text_of, Staged};
+use crate::lock::Lock;
 use crate::names::shown;
 use crate::options::Word;
-use crate::report::{complain, Problem};
-use jurnadel::Refusal;
-use std::fs::{self, File, TryLockError};
-use std::io;
+use crate::record_file;
+use crate::report::{in_words, Problem};
+use crate::shelf::{sound, Shelf};
+use crate::sums;
+use jurnadel::{Refusal, Walk};
+use std::fs::{self, File};
+use std::io::{self, ErrorKind, Read as _};
 use std::path::{Path, PathBuf};
+
+/// The used bytes of a shelf file. What is plainly another file is rejected; damage is for the caller to find.
+pub fn load(path: &Word) -> Result<Vec<u8>, Problem> {
+    let bytes = fs::read(path).map_err(|error| Problem::file(path, error))?;
+    match another_file(&bytes) {
+        Some(what) => Err(Problem::file(path, format!("this is {what}, not a shelf"))),
+        None => Ok(bytes),
+    }
+}
+
+/// As [`load`], of a shelf whose records have the checksums that are kept for them.
+pub fn load_checked(path: &Word) -> Result<Vec<u8>, Problem> {
+    let bytes = load(path)?;
+    let sums: Vec<u32> = records(path, &bytes)?.map(sums::crc).collect();
+    check_sums(path, &led_to(path.as_ref()), &sums).map(|_| bytes)
+}
+
+/// How many checksums are kept for a shelf; a record with another one is found wrong.
+fn check_sums(name: &Word, path: &Path, sums: &[u32]) -> Result<usize, Problem> {
+    let kept = sums::load(path)?;
+    match sums::first_changed(sums, &kept) {
+        None => Ok(kept.len()),
+        Some(number) => {
+            let what = format!("its checksum is not the one that {} has", shown(sums::path_of(path)));
+            Err(Problem::Refused(format!("{name}: record {number} was changed since it was shelved: {what}")))
+        }
+    }
+}
+
+/// The records of a shelf's bytes.
+pub fn records<'a>(path: &Word, bytes: &'a [u8]) -> Result<Walk<'a>, Problem> {
+    sound(bytes, bytes.len()).map_err(|refusal| damaged(path, refusal))?;
+    Ok(jurnadel::walk_from(bytes, bytes.len(), 0))
+}
+
+/// A refusal of the shelf's calls; of 14 also what to do about it.
+pub fn refused(path: &Word, refusal: Refusal) -> Problem {
+    match refusal.number() {
+        Refusal::SHELF_BROKEN => damaged(path, refusal),
+        _ => Problem::refused(path, refusal),
+    }
+}
+
+fn damaged(path: &Word, refusal: Refusal) -> Problem {
+    Problem::Refused(format!("{path}: {}; 'verify' says where, 'salvage' keeps the rest", in_words(refusal)))
+}
+
+/// What the bytes of a file look like that is no shelf but may have been taken for one.
+fn another_file(bytes: &[u8]) -> Option<&'static str> {
+    if sound(bytes, bytes.len()).is_ok() {
+        return None;
+    } else if bytes.starts_with(b">>planar_code") {
+        return Some("planar_code");
+    }
+    let text = text_of(bytes)?;
+    if text.lines().any(|line| line.trim_start().starts_with("start:")) {
+        Some("a plan file")
+    } else {
+        record_file::parse(&text).is_ok().then_some("a record in hexadecimal")
+    }
+}
 
 /// A shelf file under lock.
 pub struct ShelfFile {
     /// The name that the user gave, for messages, and the file that it leads to.
     name: Word,
     path: PathBuf,
-    /// The used bytes, and the room that was lent to the last call.
-    bytes: Vec<u8>,
-    used: usize,
-    /// How many of the used bytes are in the file.
+    lock: Lock,
+    /// The file that was read, or written last; none where there was none. It has the first `saved` bytes of the shelf.
+    file: Option<File>,
     saved: usize,
-    /// The shelf's whole length; nothing if it may grow.
-    size: Option<usize>,
-    _lock: File,
-}
-
-/// The used bytes of a shelf file.
-pub fn load(path: &Word) -> Result<Vec<u8>, Problem> {
-    fs::read(path).map_err(|error| Problem::file(path, error))
+    /// How many records have a checksum in the file of checksums.
+    summed: usize,
+    pub shelf: Shelf,
 }
 
 impl ShelfFile {
     /// Locks the shelf file and reads it; one that isn't there is empty.
     pub fn open(name: &Word, size: Option<usize>) -> Result<ShelfFile, Problem> {
-        let trouble = |error: io::Error| Problem::file(name, error);
         let path = led_to(name.as_ref());
-        replaceable(&path).map_err(trouble)?;
+        replaceable(&path).map_err(|error| Problem::file(name, error))?;
+        taken_for_a_shelf(name, &path)?;
         let lock_path = beside(&path, ".lock");
-        let lock = lock(&lock_path).map_err(|error| Problem::file(shown(&lock_path), error))?;
-        let bytes = match fs::read(&path) {
-            Ok(bytes) => bytes,
-            Err(error) if error.kind() == io::ErrorKind::NotFound => Vec::new(),
-            Err(error) => return Err(trouble(error)),
-        };
-        let used = bytes.len();
-        Ok(ShelfFile { name: name.clone(), path, bytes, used, saved: used, size, _lock: lock })
+        let lock = Lock::take(lock_path.clone()).map_err(|error| Problem::file(shown(&lock_path), error))?;
+        let (file, bytes) = read(&path).map_err(|error| Problem::file(name, error))?;
+        let saved = bytes.len();
+        let shelf = Shelf::new(bytes, size).map_err(|refusal| match size {
+            Some(size) if size < saved => {
+                Problem::Refused(format!("{name}: the shelf has {saved} bytes already, more than --size {size} (refusal 14)"))
+            }
+            _ => damaged(name, refusal),
+        })?;
+        let summed = check_sums(name, &path, shelf.sums())?;
+        Ok(ShelfFile { name: name.clone(), path, lock, file, saved, summed, shelf })
     }
 
-    /// Shelves a record: its number, and whether it is new.
-    pub fn shelve(&mut self, record: &[u8]) -> Result<(usize, bool), Refusal> {
-        // No outcome depends on room past the record's length.
-        let enough = self.used + record.len();
-        let length = self.size.map_or(enough, |size| size.min(enough));
-        self.bytes.resize(length.max(self.used), 0);
-        let shelved = jurnadel::shelve(record, &mut self.bytes[..length], self.used)?;
-        let new = shelved.used > self.used;
-        self.used = shelved.used;
-        Ok((shelved.number, new))
+    /// As [`ShelfFile::open`], of a file that must not be there.
+    pub fn create(name: &Word) -> Result<ShelfFile, Problem> {
+        let there = || Problem::file(name, "this file is there already; name a new one");
+        if fs::exists(name).unwrap_or(false) {
+            return Err(there());
+        }
+        let made = ShelfFile::open(name, None)?;
+        made.file.is_none().then_some(made).ok_or_else(there)
     }
 
     /// Replaces the file, if there is something new.
     pub fn save(&mut self) -> Result<(), Problem> {
-        if self.saved < self.used {
-            replace(&self.path, &self.bytes[..self.used]).map_err(|error| Problem::file(&self.name, error))?;
-            self.saved = self.used;
+        match self.saved < self.shelf.bytes().len() || self.summed < self.shelf.sums().len() {
+            true => self.write(),
+            false => Ok(()),
         }
-        Ok(())
+    }
+
+    /// Replaces the file. If that fails there is no file where there was none.
+    pub fn write(&mut self) -> Result<(), Problem> {
+        self.shelf.judged().map_err(|refusal| damaged(&self.name, refusal))?;
+        let made = self.file.is_none();
+        let replaced = self.replace();
+        if let (Err(_), true, Some(file)) = (&replaced, made, &self.file) {
+            if leads_to(&self.path, file) {
+                let _ = fs::remove_file(&self.path);
+            }
+        }
+        replaced.map_err(|error| Problem::file(&self.name, format!("{error}; what was not printed is not stored")))
+    }
+
+    /// Replaces the file. One that isn't there is first made, empty, so that it can be locked.
+    fn replace(&mut self) -> io::Result<()> {
+        let old = match self.file.take() {
+            Some(file) => file,
+            None => File::create_new(&self.path)?,
+        };
+        let replaced = self.put_in_place_of(&old);
+        self.file = Some(old);
+        self.file = Some(replaced?);
+        (self.saved, self.summed) = (self.shelf.bytes().len(), self.shelf.sums().len());
+        sync_folder_of(&self.path)
+    }
+
+    /// Puts the checksums and the shelf in their places, while the old shelf is locked.
+    fn put_in_place_of(&self, old: &File) -> io::Result<File> {
+        let (mut sums, mut shelf) = (Staged::begin(&sums::path_of(&self.path))?, Staged::begin(&self.path)?);
+        let metadata = old.metadata()?;
+        sums.like(&metadata)?;
+        shelf.like(&metadata)?;
+        sums.write(sums::text(self.shelf.sums()).as_bytes())?;
+        shelf.write(self.shelf.bytes())?;
+        old.lock()?;
+        self.still_ours(old)?;
+        sums.replace()?;
+        shelf.replace()
+    }
+
+    /// Whether the lock and the shelf are still those that this run took, read or wrote last.
+    fn still_ours(&self, old: &File) -> io::Result<()> {
+        if !self.lock.is_held() {
+            Err(io::Error::other(format!("{} was removed during the run", shown(beside(&self.path, ".lock")))))
+        } else if !leads_to(&self.path, old) || fs::read(&self.path)? != self.shelf.bytes()[..self.saved] {
+            Err(io::Error::other("somebody else has changed or replaced the shelf during the run"))
+        } else {
+            Ok(())
+        }
+    }
+}
+
+/// Rejects a word that stands where the shelf's name should: a file of another kind, or a name that a shelf hardly has.
+fn taken_for_a_shelf(name: &Word, path: &Path) -> Result<(), Problem> {
+    let bytes = fs::read(path).unwrap_or_default();
+    let named_plan = bytes.is_empty() && path.extension().is_some_and(|ending| ending == "plan");
+    let what = another_file(&bytes).or(named_plan.then_some("the name of a plan file"));
+    match what {
+        Some(what) => Err(Problem::file(name, format!("this is {what}, not a shelf; the shelf comes first, then the plans"))),
+        None => Ok(()),
+    }
+}
+
+/// A file and its bytes; none, and no bytes, where there is none.
+fn read(path: &Path) -> io::Result<(Option<File>, Vec<u8>)> {
+    let mut bytes = Vec::new();
+    match File::open(path) {
+        Ok(mut file) => file.read_to_end(&mut bytes).map(|_| (Some(file), bytes)),
+        Err(error) if error.kind() == ErrorKind::NotFound => Ok((None, bytes)),
+        Err(error) => Err(error),
     }
 }
 
@@ -77,33 +210,7 @@ fn replaceable(path: &Path) -> io::Result<()> {
     match fs::metadata(path) {
         Ok(found) if found.is_file() => File::options().write(true).open(path).map(drop),
         Ok(_) => Err(io::Error::other("not a regular file")),
-        Err(error) if error.kind() == io::ErrorKind::NotFound => Ok(()),
+        Err(error) if error.kind() == ErrorKind::NotFound => Ok(()),
         Err(error) => Err(error),
     }
-}
-
-/// Waits for the lock, and says so if it has to. A lock file that another user made serves too.
-fn lock(path: &Path) -> io::Result<File> {
-    let made = File::options().create(true).truncate(false).write(true).open(path);
-    let file = made.or_else(|error| File::open(path).map_err(|_| error))?;
-    match file.try_lock() {
-        Ok(()) => {}
-        Err(TryLockError::WouldBlock) => {
-            complain(format!("{}: waiting for another run to end", shown(path)));
-            file.lock()?;
-        }
-        Err(TryLockError::Error(error)) => return Err(error),
-    }
-    Ok(file)
-}
-
-/// Replaces a file in one step.
-fn replace(path: &Path, content: &[u8]) -> io::Result<()> {
-    let mut staged = Staged::begin(path)?;
-    staged.write(content)?;
-    if let Ok(old) = fs::metadata(path) {
-        staged.like(&old)?;
-    }
-    staged.replace()?;
-    sync_folder_of(path)
 }

@@ -27,7 +27,7 @@ fn run(words: &[Word], report: &mut Report) -> Done {
     };
     let wanted = number(wanted, "NUMBER")?;
     let shelf = shelf_file::load(path)?;
-    let record = jurnadel::fetch(&shelf, shelf.len(), wanted).map_err(|refusal| Problem::refused(path, refusal))?;
+    let record = jurnadel::fetch(&shelf, shelf.len(), wanted).map_err(|refusal| shelf_file::refused(path, refusal))?;
     if options.has("--raw") {
         put_out(&options, std::slice::from_ref(path), record, report)
     } else if options.has("--record") {

@@ -2,7 +2,7 @@
 
 use super::{field, Command, Done};
 use crate::options::{Options, Word};
-use crate::report::{Problem, Report};
+use crate::report::Report;
 use crate::shelf_file;
 
 pub const COMMAND: Command = Command { name: "list", summary: "list the records of a shelf", help: HELP, run };
@@ -24,7 +24,7 @@ fn run(words: &[Word], report: &mut Report) -> Done {
         return Ok(());
     }
     let first = from.unwrap_or(0);
-    let mut walk = jurnadel::walk(&shelf, shelf.len(), first).map_err(|refusal| Problem::refused(path, refusal))?;
+    let mut walk = jurnadel::walk(&shelf, shelf.len(), first).map_err(|refusal| shelf_file::refused(path, refusal))?;
     let mut at = walk.place();
     let mut number = first;
     while let Some(record) = walk.next() {

@@ -2,10 +2,14 @@
 
 mod check;
 mod fetch;
+mod find;
 mod import;
 mod list;
+mod merge;
 mod read;
+mod salvage;
 mod shelve;
+mod stats;
 mod verify;
 mod write;
 
@@ -29,25 +33,29 @@ pub struct Command {
 }
 
 /// The commands, as the overview lists them.
-pub const COMMANDS: [Command; 8] = [
+pub const COMMANDS: [Command; 12] = [
+    check::COMMAND,
     write::COMMAND,
     read::COMMAND,
-    check::COMMAND,
     shelve::COMMAND,
+    find::COMMAND,
     fetch::COMMAND,
     list::COMMAND,
+    stats::COMMAND,
     verify::COMMAND,
+    salvage::COMMAND,
+    merge::COMMAND,
     import::COMMAND,
 ];
 
 /// The record of a plan file.
 pub fn record_of(path: &Word, kind: Option<u16>) -> Result<Vec<u8>, Problem> {
     let plan = Plan::load(path)?;
-    plan.record(kind).map_err(|refusal| refused(path, &plan, refusal))
+    plan.record(kind).map_err(|refusal| plan_problem(path, &plan, refusal))
 }
 
 /// A refusal of a plan, with file and line.
-pub fn refused(path: &Word, plan: &Plan, refusal: Refusal) -> Problem {
+pub fn plan_problem(path: &Word, plan: &Plan, refusal: Refusal) -> Problem {
     Problem::refused(format!("{path}:{}", plan.line_of(refusal)), refusal)
 }
 

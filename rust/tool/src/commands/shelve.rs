@@ -1,51 +1,54 @@
 //! `jurnadel shelve`.
 
-use super::{counted, record_of, Command, Done};
+use super::{counted, plan_problem, Command, Done};
 use crate::files::bytes_of;
+use crate::inputs::{self, FILES_FROM};
 use crate::options::{Options, Word};
+use crate::plan_file::Plan;
 use crate::report::{complain, Problem, Report};
 use crate::shelf_file::ShelfFile;
-use jurnadel::Refusal;
 use std::io::IsTerminal as _;
 use std::time::{Duration, Instant};
+
+pub const COMMAND: Command =
+    Command { name: "shelve", summary: "put plans on a shelf, and print their numbers", help: HELP, run };
+
+const HELP: &str = "\
+usage: jurnadel shelve [--kind KIND | --raw] [--size BYTES] [--progress] [--files-from LIST] SHELF PLAN..
+
+Shelves each plan file and prints its number, 'new' or 'already there', and its name. A plan that is refused is reported, and
+the others are shelved. A SHELF that isn't there is made. PLAN is a plan file, or a folder: the .plan files in it.
+
+  --kind KIND         1 or 2; else 1, or 2 for a plan with a dead end
+  --size BYTES        the shelf's whole length; a record that exceeds it is refused (16). Else the shelf grows
+  --raw               the files are records, as bytes; of a folder, the .record files in it
+  --files-from LIST   also the files that LIST names, a line each or NUL-separated; - is standard input
+  --progress          say how far the run is, also where standard error is no terminal
+
+A plan that is new in its kind but on the shelf in the other one is reported too.
+
+What is printed is in the file: the shelf file is replaced, in one step, before its numbers are printed. Runs on one shelf wait
+for each other (SHELF.lock). Checksums of the records are kept in SHELF.sums; a shelf with a wrong one is left as it is.
+";
 
 /// On a long run the shelf file is replaced, and the numbers printed, about this often.
 const BETWEEN_SAVES: Duration = Duration::from_secs(1);
 
-pub const COMMAND: Command = Command { name: "shelve", summary: "put plans on a shelf, and print their numbers", help: HELP, run };
-
-const HELP: &str = "\
-usage: jurnadel shelve [--kind KIND | --raw] [--size BYTES] [--progress] SHELF PLAN..
-
-Shelves each plan file and prints its number, 'new' or 'already there', and its name. A plan that is refused is
-reported, and the others are shelved. A SHELF that isn't there is made.
-
-  --kind KIND    1 or 2; else 1, or 2 for a plan with a dead end
-  --size BYTES   the shelf's whole length; a record that exceeds it is refused (16). Else the shelf grows
-  --raw          the files are records, as bytes
-  --progress     say how far the run is, also where standard error is no terminal
-
-What is printed is in the file: the shelf file is replaced, in one step, before its numbers are printed. Runs on one
-shelf wait for each other (SHELF.lock).
-";
-
 fn run(words: &[Word], report: &mut Report) -> Done {
-    let options = Options::parse(words, &["--raw", "--progress"], &["--kind", "--size"])?;
+    let options = Options::parse(words, &["--raw", "--progress"], &["--kind", "--size", FILES_FROM])?;
     options.not_both("--kind", "--raw")?;
     let kind = options.number("--kind")?;
     let size = options.number("--size")?;
-    let (path, files) = options.first_and_more("SHELF", "PLAN")?;
+    let (path, files) = options.first_and_rest("SHELF")?;
+    let files = inputs::files(&options, files, "PLAN", if options.has("--raw") { "record" } else { "plan" })?;
     let (asked, terminal) = (options.has("--progress"), std::io::stderr().is_terminal());
     let mut shelf = ShelfFile::open(path, size)?;
     let mut lines = Vec::new();
     let mut saved = Instant::now();
-    for (count, file) in (1..).zip(files) {
-        let record = if options.has("--raw") { bytes_of(file) } else { record_of(file, kind) };
-        match record.map(|record| shelf.shelve(&record)) {
-            Ok(Ok((number, true))) => lines.push(format!("{number} new {file}")),
-            Ok(Ok((number, false))) => lines.push(format!("{number} already there {file}")),
-            Ok(Err(refusal)) if refusal.number() == Refusal::SHELF_BROKEN => return Err(Problem::refused(path, refusal)),
-            Ok(Err(refusal)) => report.problem(&Problem::refused(file, refusal)),
+    for (count, file) in (1..).zip(&files) {
+        let shelved = if options.has("--raw") { shelve_record(&mut shelf, file) } else { shelve_plan(&mut shelf, file, kind) };
+        match shelved {
+            Ok((number, news)) => lines.push(format!("{number} {news} {file}")),
             Err(problem) => report.problem(&problem),
         }
         let last = count == files.len();
@@ -60,4 +63,27 @@ fn run(words: &[Word], report: &mut Report) -> Done {
         }
     }
     Ok(())
+}
+
+/// The number of a record that was put on the shelf or found there, and which of the two.
+type Shelved = Result<(usize, &'static str), Problem>;
+
+fn shelve_record(shelf: &mut ShelfFile, file: &Word) -> Shelved {
+    let shelved = shelf.shelf.shelve(&bytes_of(file)?);
+    let (number, new) = shelved.map_err(|refusal| Problem::refused(file, refusal))?;
+    Ok((number, if new { "new" } else { "already there" }))
+}
+
+fn shelve_plan(shelf: &mut ShelfFile, file: &Word, kind: Option<u16>) -> Shelved {
+    let plan = Plan::load(file)?;
+    let record = plan.record(kind).map_err(|refusal| plan_problem(file, &plan, refusal))?;
+    let (number, new) = shelf.shelf.shelve(&record).map_err(|refusal| Problem::refused(file, refusal))?;
+    if !new {
+        return Ok((number, "already there"));
+    }
+    let other = 3 - u16::from(record[2]);
+    if let Some(there) = plan.record(Some(other)).ok().and_then(|record| shelf.shelf.find(&record)) {
+        complain(format!("{file}: on the shelf in kind {other} too, as record {there}"));
+    }
+    Ok((number, "new"))
 }

@@ -1,10 +1,11 @@
 //! `jurnadel verify`.
 
 use super::{counted, Command, Done};
+use crate::files::led_to;
 use crate::options::{Options, Word};
 use crate::report::{in_words, Problem, Report};
-use crate::shelf_file;
-use jurnadel::Refusal;
+use crate::survey::{self, Found, Part};
+use crate::{shelf, shelf_file, sums};
 use std::collections::HashMap;
 
 pub const COMMAND: Command = Command { name: "verify", summary: "check a shelf file and every record on it", help: HELP, run };
@@ -12,41 +13,80 @@ pub const COMMAND: Command = Command { name: "verify", summary: "check a shelf f
 const HELP: &str = "\
 usage: jurnadel verify SHELF
 
-Checks that a shelf file is records end to end and that each record is a plan's; says which are not, and which stand
-there twice.
+Checks that a shelf file is records end to end, that each record is a plan's and that it has the checksum that is kept for it
+(SHELF.sums). Says which are not, where bytes are no record, and which records stand there twice.
 
-Exit status 1 if something is wrong; a record that stands there twice is none.
+Exit status 1 if something is wrong; a record that stands there twice, or one without a checksum, is not.
 ";
 
 fn run(words: &[Word], report: &mut Report) -> Done {
     let options = Options::parse(words, &[], &[])?;
     let path = options.only("SHELF")?;
-    let shelf = shelf_file::load(path)?;
-    let mut first_equal: HashMap<&[u8], usize> = HashMap::new();
-    let mut walk = jurnadel::walk_from(&shelf, shelf.len(), 0);
-    let (mut number, mut unreadable, mut at) = (0, 0, 0);
-    while let Some(record) = walk.next() {
-        if let Err(refusal) = jurnadel::plan_of(record) {
-            report.problem(&Problem::refused(format!("{path}: record {number} at byte {at}"), refusal));
-            unreadable += 1;
-        }
-        let first = *first_equal.entry(record).or_insert(number);
-        if first != number {
-            report.line(format!("{path}: record {number} at byte {at} is the same as record {first}"));
-        }
-        at = walk.place();
-        number += 1;
+    let bytes = shelf_file::load(path)?;
+    let kept = sums::load(&led_to(path.as_ref()))?;
+    let parts = survey::parts(&bytes, &kept);
+    parts.iter().for_each(|part| report_fault(path, part, report));
+    let records: Vec<&Found> = records(&parts).collect();
+    report_doubles(path, &records, report);
+    if let Err(refusal) = shelf::sound(&bytes, bytes.len()) {
+        let whole = records.iter().filter(|found| found.is_whole()).count();
+        let what = format!("{}; {} whole, which 'salvage' keeps", in_words(refusal), counted(whole, "record"));
+        return Err(Problem::Refused(format!("{path}: {what}")));
     }
-    let records = counted(number, "record");
-    // Past the last record that stands there, the library says of the whole whether it is a shelf.
-    if let Err(refusal) = jurnadel::walk(&shelf, shelf.len(), 0) {
-        if refusal.number() == Refusal::SHELF_BROKEN {
-            return Err(Problem::Refused(format!("{path}: {}; no record stands at byte {at}, after {records}", in_words(refusal))));
-        }
-    }
-    match unreadable {
-        0 => report.line(format!("{path}: {records}, {} bytes; each is a plan's", shelf.len())),
-        _ => report.line(format!("{path}: {records}, {} bytes; {unreadable} cannot be read", shelf.len())),
-    }
+    let unreadable = records.iter().filter(|found| found.unreadable.is_some()).count();
+    let readable = if unreadable == 0 { String::from("each is a plan's") } else { format!("{unreadable} cannot be read") };
+    let count = counted(records.len(), "record");
+    report.line(format!("{path}: {count}, {} bytes; {readable}; {}", bytes.len(), checksums(&records)));
     Ok(())
+}
+
+fn records<'a, 'b>(parts: &'b [Part<'a>]) -> impl Iterator<Item = &'b Found<'a>> {
+    parts.iter().filter_map(|part| match part {
+        Part::Record(found) => Some(found),
+        Part::Gap(_) => None,
+    })
+}
+
+/// Reports what is wrong with a part of a shelf, if anything is.
+pub fn report_fault(path: &Word, part: &Part, report: &mut Report) {
+    match part {
+        Part::Gap(gap) => {
+            report.problem(&Problem::Refused(format!("{path}: bytes {} to {} are no record", gap.start, gap.end - 1)));
+        }
+        Part::Record(found) => {
+            let place = place_of(path, found);
+            if let Some(refusal) = found.unreadable {
+                report.problem(&Problem::refused(&place, refusal));
+            }
+            if found.sum_agrees == Some(false) {
+                report.problem(&Problem::Refused(format!("{place}: changed since it was shelved: its checksum is another")));
+            }
+        }
+    }
+}
+
+fn place_of(path: &Word, found: &Found) -> String {
+    let number = found.number.map_or(String::new(), |number| format!(" {number}"));
+    format!("{path}: record{number} at byte {}", found.at)
+}
+
+fn report_doubles(path: &Word, records: &[&Found], report: &mut Report) {
+    let mut first_equal: HashMap<&[u8], &Found> = HashMap::new();
+    for found in records {
+        let first = first_equal.entry(found.record).or_insert(found);
+        if first.at != found.at {
+            report.line(format!("{} is the same as the one at byte {}", place_of(path, found), first.at));
+        }
+    }
+}
+
+/// What the checksums say of the records of a sound shelf.
+fn checksums(records: &[&Found]) -> String {
+    let wrong = records.iter().filter(|found| found.sum_agrees == Some(false)).count();
+    match records.iter().position(|found| found.sum_agrees.is_none()) {
+        _ if wrong > 0 => counted(wrong, "wrong checksum"),
+        Some(0) => String::from("no checksums are kept"),
+        Some(first) => format!("checksums agree, none are kept from record {first} on"),
+        None => String::from("checksums agree"),
+    }
 }

@@ -1,0 +1,53 @@
+//! `jurnadel find`.
+
+use super::{plan_problem, Command, Done};
+use crate::inputs::{self, FILES_FROM};
+use crate::options::{Options, Word};
+use crate::plan_file::Plan;
+use crate::report::{Problem, Report};
+use crate::shelf::Shelf;
+use crate::shelf_file;
+
+pub const COMMAND: Command = Command { name: "find", summary: "say under which number a plan is on a shelf", help: HELP, run };
+
+const HELP: &str = "\
+usage: jurnadel find [--kind KIND] [--files-from LIST] SHELF PLAN..
+
+Says of each plan file under which number it is on the shelf, in whatever kind: 'NUMBER there NAME', or '- not there NAME'.
+Nothing is shelved.
+
+  --kind KIND         look for records of this kind only
+  --files-from LIST   also the files that LIST names, a line each or NUL-separated; - is standard input
+
+PLAN is a plan file, or a folder: the .plan files in it. Exit status 1 if some plan is not there.
+";
+
+fn run(words: &[Word], report: &mut Report) -> Done {
+    let options = Options::parse(words, &[], &["--kind", FILES_FROM])?;
+    let kinds = options.number("--kind")?.map_or(vec![1, 2], |kind: u16| vec![kind]);
+    let (path, plans) = options.first_and_rest("SHELF")?;
+    let plans = inputs::files(&options, plans, "PLAN", "plan")?;
+    let shelf = Shelf::new(shelf_file::load(path)?, None).map_err(|refusal| shelf_file::refused(path, refusal))?;
+    for plan in &plans {
+        match numbers(&shelf, plan, &kinds) {
+            Ok(found) if found.is_empty() => {
+                report.line(format!("- not there {plan}"));
+                report.found_wrong();
+            }
+            Ok(found) => found.iter().for_each(|number| report.line(format!("{number} there {plan}"))),
+            Err(problem) => report.problem(&problem),
+        }
+    }
+    Ok(())
+}
+
+/// The numbers under which a plan is on a shelf. A plan that no kind takes is refused.
+fn numbers(shelf: &Shelf, path: &Word, kinds: &[u16]) -> Result<Vec<usize>, Problem> {
+    let plan = Plan::load(path)?;
+    let records = kinds.iter().map(|&kind| plan.record(Some(kind)));
+    let (records, refused): (Vec<_>, Vec<_>) = records.partition(Result::is_ok);
+    match refused.into_iter().next_back() {
+        Some(Err(refusal)) if records.is_empty() => Err(plan_problem(path, &plan, refusal)),
+        _ => Ok(records.iter().flatten().filter_map(|record| shelf.find(record)).collect()),
+    }
+}

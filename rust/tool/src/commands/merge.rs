@@ -1,0 +1,35 @@
+//! `jurnadel merge`.
+
+use super::{counted, Command, Done};
+use crate::options::{Options, Word};
+use crate::report::{Problem, Report};
+use crate::shelf_file::{self, ShelfFile};
+
+pub const COMMAND: Command = Command { name: "merge", summary: "put the records of several shelves on a new one", help: HELP, run };
+
+const HELP: &str = "\
+usage: jurnadel merge NEW SHELF..
+
+Puts the records of the shelves, one after another, on a new shelf NEW; a record that is there already is left out. Prints how
+many records of each shelf are new. NEW must not be there; it appears when all is done.
+";
+
+fn run(words: &[Word], report: &mut Report) -> Done {
+    let options = Options::parse(words, &[], &[])?;
+    let (new, shelves) = options.first_and_more("NEW", "SHELF")?;
+    let mut merged = ShelfFile::create(new)?;
+    let mut lines = Vec::new();
+    for path in shelves {
+        let bytes = shelf_file::load_checked(path)?;
+        let (mut count, before) = (0, merged.shelf.sums().len());
+        for record in shelf_file::records(path, &bytes)? {
+            merged.shelf.shelve(record).map_err(|refusal| Problem::refused(new, refusal))?;
+            count += 1;
+        }
+        lines.push(format!("{path}: {}, {} new", counted(count, "record"), merged.shelf.sums().len() - before));
+    }
+    merged.write()?;
+    lines.iter().for_each(|line| report.line(line));
+    report.line(format!("{new}: {}, {} bytes", counted(merged.shelf.sums().len(), "record"), merged.shelf.bytes().len()));
+    Ok(())
+}

@@ -1,0 +1,79 @@
+//! `jurnadel salvage`.
+
+use super::verify::report_fault;
+use super::{counted, Command, Done};
+use crate::files::led_to;
+use crate::options::{Options, Word};
+use crate::report::{Problem, Report};
+use crate::shelf_file::{self, ShelfFile};
+use crate::sums;
+use crate::survey::{self, Part};
+
+pub const COMMAND: Command =
+    Command { name: "salvage", summary: "keep what is whole of a damaged shelf, in a new file", help: HELP, run };
+
+const HELP: &str = "\
+usage: jurnadel salvage OLD NEW
+
+Puts every record of shelf OLD that stands whole on a new shelf NEW, also past damage, and reports what it could not keep.
+A record is whole if it has the checksum that is kept for it (OLD.sums) or, where none is, if a plan has it. Prints which
+numbers the records had and have now; OLD is not changed, and NEW must not be there.
+
+Exit status 1 if something was not kept.
+";
+
+fn run(words: &[Word], report: &mut Report) -> Done {
+    let options = Options::parse(words, &[], &[])?;
+    let [old, new] = &options.words[..] else {
+        return Err(Problem::Usage(String::from("OLD and NEW are needed")));
+    };
+    let bytes = shelf_file::load(old)?;
+    let kept = sums::load(&led_to(old.as_ref()))?;
+    let parts = survey::parts(&bytes, &kept);
+    let mut shelf = ShelfFile::create(new)?;
+    let mut runs = Vec::new();
+    for part in &parts {
+        report_fault(old, part, report);
+        match part {
+            Part::Record(found) if found.is_whole() => {
+                let (number, _) = shelf.shelf.shelve(found.record).map_err(|refusal| Problem::refused(new, refusal))?;
+                Run::extend(&mut runs, number, found.number, found.at);
+            }
+            _ => {}
+        }
+    }
+    shelf.write()?;
+    runs.iter().for_each(|run| report.line(run.line()));
+    report.line(format!("{new}: {}, {} bytes", counted(shelf.shelf.sums().len(), "record"), shelf.shelf.bytes().len()));
+    Ok(())
+}
+
+/// Records that keep their order: the first one's number now, its number before and its place.
+struct Run {
+    now: usize,
+    before: Option<usize>,
+    at: usize,
+    count: usize,
+}
+
+impl Run {
+    /// Adds a record to the last run, or begins one.
+    fn extend(runs: &mut Vec<Run>, now: usize, before: Option<usize>, at: usize) {
+        match runs.last_mut() {
+            Some(run) if run.now + run.count == now && run.before.map(|first| first + run.count) == before => run.count += 1,
+            _ => runs.push(Run { now, before, at, count: 1 }),
+        }
+    }
+
+    fn line(&self) -> String {
+        let span = |first: usize| match self.count {
+            1 => format!("record {first}"),
+            count => format!("records {first} to {}", first + count - 1),
+        };
+        match self.before {
+            Some(before) if before == self.now => format!("{}: as before", span(self.now)),
+            Some(before) => format!("{}: before, {}", span(self.now), span(before)),
+            None => format!("{}: before, from byte {} on", span(self.now), self.at),
+        }
+    }
+}

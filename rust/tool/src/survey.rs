@@ -1,0 +1,145 @@
+//! What stands on a shelf file that may be damaged.
+//!
+//! Records are taken one after another. Where none stands, or one that no plan has and that no record follows, the search goes on
+//! byte by byte to the next record that a plan has; what is passed over is a gap. Up to the first gap a record's number is how
+//! many stand before it. Past it the checksums tell, if they are kept: a run of records stands where its checksums do.
+
+use crate::sums;
+use jurnadel::Refusal;
+use std::ops::Range;
+
+/// A part of a shelf file.
+#[derive(Debug)]
+pub enum Part<'a> {
+    Record(Found<'a>),
+    /// Bytes that belong to no record.
+    Gap(Range<usize>),
+}
+
+/// A record that stands on a shelf file.
+#[derive(Debug)]
+pub struct Found<'a> {
+    pub record: &'a [u8],
+    pub at: usize,
+    /// Its number on the shelf before the damage, if that is known.
+    pub number: Option<usize>,
+    /// Why it cannot be read.
+    pub unreadable: Option<Refusal>,
+    /// Whether it has the checksum that is kept for it, if one is.
+    pub sum_agrees: Option<bool>,
+}
+
+impl Found<'_> {
+    /// Whether it is the record that was shelved, as far as one can tell.
+    pub fn is_whole(&self) -> bool {
+        self.sum_agrees.unwrap_or(self.unreadable.is_none())
+    }
+}
+
+/// The parts of a shelf file, with the checksums that are kept for it.
+pub fn parts<'a>(shelf: &'a [u8], kept: &[u32]) -> Vec<Part<'a>> {
+    let mut parts = Vec::new();
+    let (mut at, mut least) = (0, 0);
+    while at < shelf.len() {
+        let run = run_at(shelf, at);
+        let first = if at == 0 { Some(0) } else { first_number(&run, kept, least) };
+        least = first.map_or(least, |first| first + run.len());
+        for (index, record) in run.into_iter().enumerate() {
+            parts.push(Part::Record(found(record, at, first.map(|first| first + index), kept)));
+            at += record.len();
+        }
+        if at < shelf.len() {
+            let end = next_record(shelf, at + 1);
+            parts.push(Part::Gap(at..end));
+            at = end;
+        }
+    }
+    parts
+}
+
+/// The records that stand one after another from a place on.
+fn run_at(shelf: &[u8], at: usize) -> Vec<&[u8]> {
+    let mut walk = jurnadel::walk_from(shelf, shelf.len(), at);
+    let mut run = Vec::new();
+    while let Some(record) = walk.next() {
+        let followed = walk.place() == shelf.len() || walk.clone().next().is_some();
+        if !followed && jurnadel::plan_of(record).is_err() {
+            break;
+        }
+        run.push(record);
+    }
+    run
+}
+
+/// The number of a run's first record, at least this one, by the first checksum that is kept.
+fn first_number(run: &[&[u8]], kept: &[u32], least: usize) -> Option<usize> {
+    let kept = kept.get(least..)?;
+    run.iter().take(100).enumerate().find_map(|(index, record)| {
+        let sum = sums::crc(record);
+        let place = kept.iter().skip(index).position(|&kept| kept == sum)?;
+        Some(least + place)
+    })
+}
+
+fn found<'a>(record: &'a [u8], at: usize, number: Option<usize>, kept: &[u32]) -> Found<'a> {
+    let unreadable = jurnadel::plan_of(record).err();
+    let sum_agrees = number.and_then(|number| kept.get(number)).map(|&kept| kept == sums::crc(record));
+    Found { record, at, number, unreadable, sum_agrees }
+}
+
+/// The next place of a record that a plan has, or the end.
+fn next_record(shelf: &[u8], from: usize) -> usize {
+    let stands = |at: &usize| {
+        let record = jurnadel::walk_from(shelf, shelf.len(), *at).next();
+        record.is_some_and(|record| jurnadel::plan_of(record).is_ok())
+    };
+    (from..shelf.len()).find(stands).unwrap_or(shelf.len())
+}
+
+#[cfg(test)]
+mod tests {
+    use super::*;
+
+    const PAIR: [u8; 7] = [7, 0, 1, 0, 2, 0, 0xC8];
+    const TRIANGLE: [u8; 8] = [8, 0, 1, 0, 3, 0, 0xE2, 0];
+    const THREE: [u8; 8] = [8, 0, 1, 0, 3, 0, 0xD2, 0x80];
+    const STICK: [u8; 8] = [8, 0, 2, 0, 1, 0, 0x80, 0xA2];
+
+    /// The shelf with one byte changed: its parts in a line, records by number or `?`, with `!` where not whole.
+    fn line(place: usize, value: u8, sums: bool) -> String {
+        let records: [&[u8]; 4] = [&PAIR, &TRIANGLE, &THREE, &STICK];
+        let kept: Vec<u32> = if sums { records.map(sums::crc).to_vec() } else { Vec::new() };
+        let mut shelf = records.concat();
+        shelf[place] = value;
+        let words = parts(&shelf, &kept).into_iter().map(|part| match part {
+            Part::Gap(gap) => format!("{gap:?}"),
+            Part::Record(found) => {
+                let number = found.number.map_or(String::from("?"), |number| number.to_string());
+                number + if found.is_whole() { "" } else { "!" }
+            }
+        });
+        words.collect::<Vec<_>>().join(" ")
+    }
+
+    #[test]
+    fn damage_of_one_byte() {
+        assert_eq!(line(0, 7, false), "0 1 2 3");
+        assert_eq!(line(0, 9, true), "0..7 1 2 3");
+        assert_eq!(line(0, 9, false), "0..7 ? ? ?");
+        assert_eq!(line(9, 3, true), "0 7..15 2 3");
+        assert_eq!(line(9, 3, false), "0 7..15 ? ?");
+        // Another plan's record, or none's.
+        assert_eq!(line(13, 0xD2, true), "0 1! 2 3");
+        assert_eq!(line(13, 0xFF, false), "0 1! 2 3");
+        // The last record; a record whose length is another's.
+        assert_eq!(line(23, 0, true), "0 1 2 23..31");
+        assert_eq!(line(30, 0xFF, true), "0 1 2 3!");
+        assert_eq!(line(30, 0xFF, false), "0 1 2 3!");
+    }
+
+    #[test]
+    fn no_shelf_at_all() {
+        assert!(parts(&[], &[]).is_empty());
+        assert!(matches!(&parts(&[1, 2, 3], &[])[..], [Part::Gap(gap)] if *gap == (0..3)));
+    }
+}
