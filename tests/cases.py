@@ -1,5 +1,5 @@
 #!/usr/bin/env python3
-"""Holds the lines that program `cases` must write to the answers of the second coder, whose folder is the argument."""
+"""Holds the lines that program `cases` must write to the answers of the second coder, whose command is the arguments."""
 import subprocess
 import sys
 
@@ -50,7 +50,7 @@ def main():
     with open("crates/cases/stdout") as stored:
         cases = [case.rstrip("\n").split(": ") for case in stored]
     requests = "".join(request(case) + "\n" for case, _ in cases)
-    coder = subprocess.run([sys.argv[1] + "/second_coder"], input=requests, capture_output=True, text=True, check=True)
+    coder = subprocess.run(sys.argv[1:], input=requests, capture_output=True, text=True, check=True)
     answers = coder.stdout.splitlines()
     wrong = [
         f"{case}: {said}, not {line(answer)}"

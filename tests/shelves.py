@@ -1,5 +1,5 @@
 #!/usr/bin/env python3
-"""Holds the lines that program `shelves` must write to the answers of the second coder, whose folder is the argument.
+"""Holds the lines that program `shelves` must write to the answers of the second coder, whose command is the arguments.
 
 The cases stand here as in the program, so that a line with another case is seen too. The second coder is asked all but
 steps from a place that no walk comes to; those follow document 01.
@@ -47,7 +47,7 @@ def ask(*words):
     """The number of the refusal, 0 if there is none, and the words that come with the answer."""
     request = " ".join(map(str, words))
     coder = subprocess.run(
-        [sys.argv[1] + "/second_coder"], input=request + "\n", capture_output=True, text=True, check=True
+        sys.argv[1:], input=request + "\n", capture_output=True, text=True, check=True
     )
     outcome, *rest = coder.stdout.split()
     if outcome not in ("ok", "refused"):

@@ -7,7 +7,7 @@ mod coders;
 mod plain;
 mod plans;
 
-use coders::{Coder, CODERS};
+use coders::{Coder, CODERS, LANDED, TABLE};
 use plans::Plan;
 use second_coder::grow::{grow, Rng, Shape};
 use std::collections::HashSet;
@@ -138,6 +138,11 @@ struct Row {
 }
 
 impl Row {
+    /// The proved library's time by the peer's.
+    fn to_peer(&self) -> [f64; 2] {
+        self.times.map(|[proved, _, peer]| proved / peer)
+    }
+
     fn print(&self) {
         print!("{:<16}{:>5}{:>6}", self.name, self.kind, self.m);
         for [proved, second, peer] in self.times {
@@ -178,8 +183,19 @@ fn print_growths(rows: &[Row]) {
     }
 }
 
-/// Times of the coders for all plans; the worst ratios to the peer, of writing and of reading.
-fn time_coders() -> [f64; 2] {
+/// The ratios to the peer, of writing and of reading: their geometric means, then the worst.
+fn print_ratios(rows: &[Row]) {
+    let ratios = |i: usize| rows.iter().map(move |row| row.to_peer()[i]);
+    let mean = |i| (ratios(i).map(f64::ln).sum::<f64>() / rows.len() as f64).exp();
+    let worst = |i| ratios(i).fold(0.0, f64::max);
+    let (count, [write, read]) = (rows.len(), [0, 1].map(mean));
+    println!("geometric mean of {count} ratios to peer: write {write:.2}, read {read:.2}");
+    let [write, read] = [0, 1].map(worst);
+    println!("worst ratio to peer: write {write:.2}, read {read:.2}");
+}
+
+/// Times of the coders for all plans.
+fn time_coders() -> Vec<Row> {
     print_heading();
     let mut rows = Vec::new();
     for (name, shape) in plans::SHAPES {
@@ -199,10 +215,7 @@ fn time_coders() -> [f64; 2] {
         }
     }
     print_growths(&rows);
-    [0, 1].map(|i| {
-        let to_peer = rows.iter().map(|row| row.times[i][0] / row.times[i][2]);
-        to_peer.fold(0.0, f64::max)
-    })
+    rows
 }
 
 /// So many different records.
@@ -235,7 +248,10 @@ fn time_shelve(name: &str, record: &[u8], shelf: &[u8], used: usize) {
     let (mut shelf, mut other) = (shelf.to_vec(), shelf.to_vec());
     let times = least([
         &mut || assert!(black_box(jurnadel::shelve(record, &mut shelf, used)).is_ok()),
-        &mut || assert!(black_box(second_coder::shelve(&mut other, used, record)).is_ok()),
+        &mut || {
+            let shelved = second_coder::shelve(*LANDED, &TABLE, &mut other, used, record, &mut []);
+            assert!(black_box(shelved).is_ok())
+        },
     ]);
     print_shelf_row(name, times);
 }
@@ -245,7 +261,8 @@ fn time_fetch(name: &str, number: usize, shelf: &[u8], used: usize) {
     let times = least([
         &mut || assert!(black_box(jurnadel::fetch(shelf, used, number)).is_ok()),
         &mut || {
-            assert!(!black_box(second_coder::fetch(shelf, used, number, &mut refusal)).is_empty())
+            let part = second_coder::fetch(*LANDED, shelf, used, number, &mut refusal);
+            assert!(!black_box(part).is_empty())
         },
     ]);
     print_shelf_row(name, times);
@@ -258,7 +275,7 @@ fn time_walk(name: &str, shelf: &[u8], used: usize) {
             assert_eq!(walk.map(Iterator::count), Ok(SHELVED))
         },
         &mut || {
-            let walk = black_box(second_coder::begin_walk(shelf, used, 0));
+            let walk = black_box(second_coder::begin_walk(*LANDED, shelf, used, 0));
             assert_eq!(walk.map(Iterator::count), Ok(SHELVED))
         },
     ]);
@@ -321,8 +338,8 @@ fn main() {
     println!("least of {ROUNDS} rounds. Buffers are made once for each plan and lent again: a work area of 32 m numbers, not cleared");
     println!("before a call (each call leaves it zeros, and that is timed), and outputs of just the length, not cleared either.");
     println!();
-    let [write, read] = time_coders();
+    let rows = time_coders();
     time_shelf();
     println!();
-    println!("worst ratio to peer: write {write:.2}, read {read:.2}");
+    print_ratios(&rows);
 }

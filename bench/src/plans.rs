@@ -1,7 +1,6 @@
 //! The plans that are timed.
 
 use second_coder::grow::{grow, Growth, Rng, Shape};
-use second_coder::plan::has_degree_one;
 
 /// Makes a plan of about so many trails, never more.
 pub type Maker = fn(usize, &mut Rng) -> Growth;
@@ -29,11 +28,7 @@ pub fn plan(shape: Maker, m: usize, rng: &mut Rng) -> Plan {
     while growth.trails() < m {
         growth.divide(rng.below(growth.trails()));
     }
-    let kinds: &[u16] = if has_degree_one(growth.order()) {
-        &[2]
-    } else {
-        &[1, 2]
-    };
+    let kinds: &[u16] = if growth.has_dead_end() { &[2] } else { &[1, 2] };
     Plan {
         order: growth.renumbered(rng),
         start: rng.below(2 * m) as u16,

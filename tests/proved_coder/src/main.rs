@@ -1,19 +1,18 @@
-//! The line protocol of `tests/second_coder` (see the top of its `src/main.rs`), answered by the proved library.
+//! The line protocol of `tests/second_coder` (see the top of its `src/main.rs`), answered by the proved library: verbs and
+//! options of the requests in `tests/landed`. Any other is `malformed`.
 //!
 //! Each call gets lent buffers between guards, with work area and out-numbers of a value that the call must replace. An
 //! answer that begins `broken` tells that a call touched what it must leave alone, left its work area not all zeros, or set
 //! an out-number to something else than the header says.
 
 mod lent;
+mod words;
 
 use jurnadel::sys;
 use lent::Lent;
 use std::fmt::Write as _;
 use std::io::{self, BufRead, BufReader, BufWriter, Write as _};
-use std::str::SplitAsciiWhitespace;
-
-/// No outcome depends on a lent length past this one; longer ones are cut.
-const LONGEST: usize = 1 << 24;
+use words::{to_hex, Words};
 
 /// What stands in work areas and outputs before a call.
 const NUMBER: u16 = 0x5A5A;
@@ -42,50 +41,52 @@ fn main() -> io::Result<()> {
 
 /// The answer to a request, or nothing if the line is none.
 fn answer_to(line: &str) -> Option<String> {
-    let mut words = line.split_ascii_whitespace();
+    let words = &mut Words::of(line);
     let answer = match words.next()? {
-        "write" => asked_write(&mut words)?,
-        "read" => {
-            let work = length(words.next()?)?;
-            let output = length(words.next()?)?;
-            read(work, output, &from_hex(words.next()?)?)
-        }
-        "shelve" => asked_shelve(&mut words)?,
-        word @ ("fetch" | "walk") => {
-            let used = words.next()?.parse().ok()?;
-            let number = words.next()?.parse().ok()?;
-            let shelf = from_hex(words.next()?)?;
-            if word == "fetch" {
-                fetch(used, number, &shelf)
-            } else {
-                walk(used, number, &shelf)
-            }
-        }
+        "write" => asked_write(words)?,
+        "read" => asked_read(words)?,
+        "shelve" => asked_shelve(words)?,
+        "fetch" => asked_of_shelf(fetch, words)?,
+        "walk" => asked_of_shelf(walk, words)?,
         _ => return None,
     };
-    match words.next() {
-        None => Some(answer.unwrap_or_else(|what| format!("broken {what}"))),
-        Some(_) => None,
-    }
+    Some(answer.unwrap_or_else(|what| format!("broken {what}")))
 }
 
-fn asked_write(words: &mut SplitAsciiWhitespace) -> Option<Answer> {
-    let kind = words.next()?.parse().ok()?;
-    let start = words.next()?.parse().ok()?;
-    let work = length(words.next()?)?;
-    let output = length(words.next()?)?;
-    let order = words
-        .map(|word| word.parse().ok())
-        .collect::<Option<Vec<u16>>>()?;
+fn asked_write(words: &mut Words) -> Option<Answer> {
+    let kind = words.number()?;
+    let start = words.number()?;
+    let work = words.length()?;
+    let output = words.length()?;
+    let order = words.numbers_to_end()?;
     Some(write(kind, start, work, output, &order))
 }
 
-fn asked_shelve(words: &mut SplitAsciiWhitespace) -> Option<Answer> {
-    let used = words.next()?.parse().ok()?;
-    let shelf_length = length(words.next()?)?;
-    let mut shelf = from_hex(words.next()?)?;
-    shelf.resize(shelf_length, 0);
-    Some(shelve(used, &shelf, &from_hex(words.next()?)?))
+fn asked_read(words: &mut Words) -> Option<Answer> {
+    let work = words.length()?;
+    let output = words.length()?;
+    let record = words.hex()?;
+    words.end()?;
+    Some(read(work, output, &record))
+}
+
+fn asked_shelve(words: &mut Words) -> Option<Answer> {
+    let used = words.number()?;
+    let length = words.length()?;
+    let mut shelf = words.hex()?;
+    let record = words.hex()?;
+    words.end()?;
+    shelf.resize(length, 0);
+    Some(shelve(used, &shelf, &record))
+}
+
+/// A call that takes used length, number and shelf.
+fn asked_of_shelf(call: fn(usize, usize, &[u8]) -> Answer, words: &mut Words) -> Option<Answer> {
+    let used = words.number()?;
+    let number = words.number()?;
+    let shelf = words.hex()?;
+    words.end()?;
+    Some(call(used, number, &shelf))
 }
 
 /// An answer, or what the call broke.
@@ -245,35 +246,4 @@ fn walk(used: usize, number: usize, shelf: &[u8]) -> Answer {
         text.push_str(&to_hex(part));
         at += length;
     }
-}
-
-fn length(word: &str) -> Option<usize> {
-    let length: usize = word.parse().ok()?;
-    Some(length.min(LONGEST))
-}
-
-fn from_hex(word: &str) -> Option<Vec<u8>> {
-    if word == "-" {
-        return Some(Vec::new());
-    }
-    let digits = word.as_bytes();
-    if digits.len() % 2 == 1 {
-        return None;
-    }
-    let digit = |byte: u8| char::from(byte).to_digit(16);
-    digits
-        .chunks(2)
-        .map(|pair| Some((16 * digit(pair[0])? + digit(pair[1])?) as u8))
-        .collect()
-}
-
-fn to_hex(bytes: &[u8]) -> String {
-    if bytes.is_empty() {
-        return String::from("-");
-    }
-    let mut text = String::with_capacity(2 * bytes.len());
-    for byte in bytes {
-        let _ = write!(text, "{byte:02X}");
-    }
-    text
 }

@@ -1,0 +1,77 @@
+//! The words of a line.
+
+use std::fmt::Write;
+use std::str::{FromStr, SplitAsciiWhitespace};
+
+/// No outcome depends on a lent length past this one; longer ones are cut.
+const LONGEST: usize = 1 << 24;
+
+/// The words of a line that are not taken yet.
+pub struct Words<'a>(SplitAsciiWhitespace<'a>);
+
+impl<'a> Words<'a> {
+    pub fn of(line: &'a str) -> Words<'a> {
+        Words(line.split_ascii_whitespace())
+    }
+
+    pub fn next(&mut self) -> Option<&'a str> {
+        self.0.next()
+    }
+
+    pub fn number<T: FromStr>(&mut self) -> Option<T> {
+        number(self.next()?)
+    }
+
+    /// The length of something to be lent.
+    pub fn length(&mut self) -> Option<usize> {
+        Some(self.number::<usize>()?.min(LONGEST))
+    }
+
+    /// Bytes; `-` is none.
+    pub fn hex(&mut self) -> Option<Vec<u8>> {
+        match self.next()? {
+            "-" => Some(Vec::new()),
+            word => from_hex(word.as_bytes()),
+        }
+    }
+
+    pub fn numbers_to_end(&mut self) -> Option<Vec<u16>> {
+        self.0.by_ref().map(number).collect()
+    }
+
+    /// Nothing may follow.
+    pub fn end(&mut self) -> Option<()> {
+        self.next().is_none().then_some(())
+    }
+}
+
+/// A decimal number, of digits only.
+fn number<T: FromStr>(word: &str) -> Option<T> {
+    if !word.bytes().all(|byte| byte.is_ascii_digit()) {
+        return None;
+    }
+    word.parse().ok()
+}
+
+fn from_hex(digits: &[u8]) -> Option<Vec<u8>> {
+    if digits.len() % 2 == 1 {
+        return None;
+    }
+    let digit = |byte: u8| char::from(byte).to_digit(16);
+    digits
+        .chunks(2)
+        .map(|pair| Some((16 * digit(pair[0])? + digit(pair[1])?) as u8))
+        .collect()
+}
+
+/// Bytes in hexadecimal; `-` if there are none.
+pub fn to_hex(bytes: &[u8]) -> String {
+    if bytes.is_empty() {
+        return String::from("-");
+    }
+    let mut text = String::with_capacity(2 * bytes.len());
+    for byte in bytes {
+        let _ = write!(text, "{byte:02X}");
+    }
+    text
+}
