@@ -45,7 +45,7 @@ rust-tests: $(LIBRARY)
 	cargo test $(CARGO_FLAGS) --workspace
 
 test: vectors rust-tests
-	tests/part
+	tests/package
 	tests/compare
 	tests/tool
 	rt ci
