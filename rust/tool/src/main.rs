@@ -1,6 +1,6 @@
 //! The coach's tool: plan files, records and a shelf file, over the proved library.
 //!
-//! What is refused, and what a record is, the library says. This program reads and writes files, words and numbers:
+//! Every refusal and every record comes from the library. This program reads and writes files, words and numbers:
 //!
 //! * `commands`: what each command does;
 //! * `options`: the words of the command line; `help`: the text of `--help`;
