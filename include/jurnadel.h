@@ -1,15 +1,22 @@
 /*
  * jurnadel.h: trail plans, their records and shelves, for C and C++.
  *
- * Link with libjurnadel.a (x86-64). The library has no state and no heap, and calls
- * nothing but memset, which the compiler makes of loops: it is re-entrant and can be
- * linked into firmware that supplies this one function. A call takes less than 2 KiB of
- * stack, beside memset's.
+ * Link with libjurnadel.a. It is for x86-64: ELF objects, the System V AMD64 calling
+ * convention, no instruction beyond SSE2, which every x86-64 processor has. The Rattle kit
+ * builds no other target today, so there is no library for ARM.
+ *
+ * The library has no state and no heap, and calls nothing but memset, which the compiler
+ * makes of loops: it is re-entrant and can be linked into firmware that supplies this one
+ * function. A call takes less than 2 KiB of stack, beside memset's.
+ *
+ * Documents, installed in share/doc/jurnadel: FORMAT.md has the record to the bit, PROOF.md
+ * the argument and its theorems, TRACE.md the way from each demand to theorem and test;
+ * definitions/ says what each call answers.
  *
  * Words. A trail is an edge, a trail end a dart, a junction a vertex, an area a face.
  * A plan has m trails and 2m darts; darts 2e and 2e+1 are the two ends of trail e. The
  * turning order is a list of 2m numbers: entry d is the next dart counterclockwise
- * around d's junction. The start is one dart. docs/FORMAT.md has the record to the bit.
+ * around d's junction. The start is one dart.
  *
  * Lent buffers. A list or a run of bytes is handed over as a pointer and a number of
  * entries. A caller must see to this, since nothing checks it:
@@ -29,10 +36,9 @@
  *
  * What is proved. For each exported function, machine-checked: it ends, stays within what
  * is lent, and its returned number, out-numbers, output, shelf and work area are those of
- * the definitions in crates/model/specs, for every input. docs/PROOF.md lists the theorems.
- * What is not proved: the compiler's back end (LLVM) and the assembler, that these C
- * declarations agree with the Rattle functions (tests/ runs all of them), and the
- * caller's side of "Lent buffers" above.
+ * the definitions, for every input. What is not proved: the compiler's back end (LLVM) and
+ * the assembler, that these C declarations agree with the Rattle functions (the tests run
+ * all of them), and the caller's side of "Lent buffers" above.
  */
 #ifndef JURNADEL_H
 #define JURNADEL_H
@@ -44,51 +50,64 @@
 extern "C" {
 #endif
 
+/* ---- Version ---------------------------------------------------------------------- */
+
+#define JURNADEL_VERSION_MAJOR 0
+#define JURNADEL_VERSION_MINOR 2
+#define JURNADEL_VERSION_PATCH 0
+#define JURNADEL_VERSION "0.2.0"
+
 /* ---- Sizes ------------------------------------------------------------------------ */
 
-/* The most trails that a plan has, and the most darts. */
-#define JURNADEL_MOST_TRAILS 4096
-#define JURNADEL_MOST_DARTS (2 * JURNADEL_MOST_TRAILS)
+/* A plan has at most 4,096 trails and 8,192 darts. */
+#define JURNADEL_MAX_TRAILS 4096
+#define JURNADEL_MAX_DARTS (2 * JURNADEL_MAX_TRAILS)
 
-/* The work area, in 16-bit numbers, for a plan or record of m trails. */
+/* Lengths are what the calls take: work areas and turning orders count 16-bit numbers, records count bytes. */
+
+/* The work area for m trails: 32m numbers, 64m bytes. */
 #define JURNADEL_WORK_LEN(m) ((size_t)32 * (m))
 
-/* The length of a record, in bytes, of this kind (1 or 2) and m trails (1 to 4,096). */
+/* The turning order of m trails: 2m numbers, 4m bytes. */
+#define JURNADEL_ORDER_LEN(m) ((size_t)2 * (m))
+
+/* A record of this kind (1 or 2) and m trails (1 to 4,096), in bytes. */
 #define JURNADEL_RECORD_LEN(kind, m) \
     ((size_t)6 + ((kind) == 1 ? (3 * (size_t)(m) + 7) / 8 : (2 * (size_t)(m) + 7) / 8 + ((size_t)(m) + 4) / 5))
 
-/* Buffers that serve every plan and every record: 262,144, 1,850 and 16,384 bytes. */
-#define JURNADEL_MOST_WORK_LEN JURNADEL_WORK_LEN(JURNADEL_MOST_TRAILS)
-#define JURNADEL_MOST_RECORD_LEN JURNADEL_RECORD_LEN(2, JURNADEL_MOST_TRAILS)
+/* Lengths that serve every plan and every record. */
+#define JURNADEL_MAX_WORK_LEN JURNADEL_WORK_LEN(JURNADEL_MAX_TRAILS)        /* 131,072 numbers, 262,144 bytes */
+#define JURNADEL_MAX_ORDER_LEN JURNADEL_ORDER_LEN(JURNADEL_MAX_TRAILS)      /* 8,192 numbers, 16,384 bytes */
+#define JURNADEL_MAX_RECORD_LEN JURNADEL_RECORD_LEN(2, JURNADEL_MAX_TRAILS) /* 1,850 bytes */
 
 /* The same as functions, for callers that know kind and m only when they run. */
 
-/* 32 * trails. */
+/* The work area, in 16-bit numbers: 32 * trails. */
 size_t jurnadel_work_length(uint16_t trails);
 
-/* The record's length, or 0 where there is none: the kind is not 1 or 2, or trails is 0 or above 4,096. */
+/* The record, in bytes; 0 where there is none: the kind is not 1 or 2, or trails is 0 or above 4,096. */
 uint16_t jurnadel_record_length(uint16_t kind, uint16_t trails);
 
 /* ---- Refusals, in checking order -------------------------------------------------- */
 
 enum {
-    JURNADEL_DONE = 0,           /* not refused */
-    JURNADEL_RECORD_CUT = 1,     /* The record has fewer than 6 bytes, or its length field isn't the number of bytes lent. */
-    JURNADEL_KIND = 2,           /* The kind is not 1 or 2. */
-    JURNADEL_COUNT = 3,          /* The dart count is 0, odd or above 8,192; in a record, m is 0 or above 4,096. */
-    JURNADEL_START = 4,          /* The start is not below the dart count. */
-    JURNADEL_LENGTH = 5,         /* The length is not the one for this kind and m. */
-    JURNADEL_ENTRY = 6,          /* An entry of the turning order is not below the dart count, or two entries are equal. */
-    JURNADEL_WORK_AREA = 7,      /* The work area (16-bit numbers) is shorter than 32 x m. */
-    JURNADEL_OUTPUT = 8,         /* The output is shorter than the record, or than 2m entries. */
-    JURNADEL_NOT_CONNECTED = 9,  /* The plan is not connected. */
-    JURNADEL_NOT_PLANAR = 10,    /* It is not planar; this answer also gives the characteristic, as a signed number. */
-    JURNADEL_LOOP = 11,          /* It has a loop. */
-    JURNADEL_DEGREE_ONE = 12,    /* Kind 1, and a junction has degree one. */
-    JURNADEL_NO_FIT_PLAN = 13,   /* No fit plan of this kind has this record. */
-    JURNADEL_SHELF_BROKEN = 14,  /* The used length exceeds the shelf, or the used bytes are not records end to end that each pass 1, 2, 3 and 5. */
-    JURNADEL_NO_SUCH_RECORD = 15,/* The shelf holds no record with this number, counting from 0. */
-    JURNADEL_SHELF_FULL = 16     /* The record isn't on the shelf and exceeds the bytes past the used length. */
+    JURNADEL_DONE = 0,            /* not refused */
+    JURNADEL_RECORD_CUT = 1,      /* The record has fewer than 6 bytes, or its length field isn't the number of bytes lent. */
+    JURNADEL_BAD_KIND = 2,        /* The kind is not 1 or 2. */
+    JURNADEL_BAD_COUNT = 3,       /* The dart count is 0, odd or above 8,192; in a record, m is 0 or above 4,096. */
+    JURNADEL_BAD_START = 4,       /* The start is not below the dart count. */
+    JURNADEL_BAD_LENGTH = 5,      /* The length is not the one for this kind and m. */
+    JURNADEL_BAD_ENTRY = 6,       /* An entry of the turning order is not below the dart count, or two entries are equal. */
+    JURNADEL_SHORT_WORK = 7,      /* The work area (16-bit numbers) is shorter than 32 x m. */
+    JURNADEL_SHORT_OUTPUT = 8,    /* The output is shorter than the record, or than 2m entries. */
+    JURNADEL_NOT_CONNECTED = 9,   /* The plan is not connected. */
+    JURNADEL_NOT_PLANAR = 10,     /* It is not planar; this answer also gives the characteristic, as a signed number. */
+    JURNADEL_HAS_LOOP = 11,       /* It has a loop. */
+    JURNADEL_HAS_DEGREE_ONE = 12, /* Kind 1, and a junction has degree one. */
+    JURNADEL_NO_FIT_PLAN = 13,    /* No fit plan of this kind has this record. */
+    JURNADEL_SHELF_BROKEN = 14,   /* The used length exceeds the shelf, or the used bytes are not records end to end that each pass 1, 2, 3 and 5. */
+    JURNADEL_NO_SUCH_RECORD = 15, /* The shelf holds no record with this number, counting from 0. */
+    JURNADEL_SHELF_FULL = 16      /* The record isn't on the shelf and exceeds the bytes past the used length. */
 };
 
 /* ---- Plans and records ------------------------------------------------------------ */
@@ -117,7 +136,7 @@ uint16_t jurnadel_write(const uint16_t *order, size_t darts, uint16_t start, uin
  *
  *   record, record_len   the record, all of it and no more
  *   work, work_len       JURNADEL_WORK_LEN(m) numbers or more, any content; zeros on return
- *   order, order_len     2m entries or more; the first 2m are filled with the turning order
+ *   order, order_len     JURNADEL_ORDER_LEN(m) numbers or more; the first 2m are filled with the turning order
  *   trails               m; 0 if refused
  *
  * Refusals: 1, 2, 3, 5, 7, 8, 13. Writing the plan in the record's kind gives the record.

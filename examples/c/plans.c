@@ -3,11 +3,11 @@
 #include "jurnadel.h"
 #include <stdio.h>
 
-#define MOST 8
+#define MAX_TRAILS 8
 
-static uint16_t work[JURNADEL_WORK_LEN(MOST)];
-static uint16_t order[2 * MOST];
-static uint8_t record[JURNADEL_RECORD_LEN(2, MOST)];
+static uint16_t work[JURNADEL_WORK_LEN(MAX_TRAILS)];
+static uint16_t order[JURNADEL_ORDER_LEN(MAX_TRAILS)];
+static uint8_t record[JURNADEL_RECORD_LEN(2, MAX_TRAILS)];
 static uint8_t shelf[64];
 
 static void show(const uint8_t *bytes, size_t length) {

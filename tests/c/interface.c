@@ -13,8 +13,8 @@ static int failed, passed;
     } while (0)
 
 /* Dirty, as a maker's memory is; sized by the macros. */
-static uint16_t work[JURNADEL_MOST_WORK_LEN], order[JURNADEL_MOST_DARTS];
-static uint8_t output[JURNADEL_MOST_RECORD_LEN];
+static uint16_t work[JURNADEL_MAX_WORK_LEN], order[JURNADEL_MAX_ORDER_LEN];
+static uint8_t output[JURNADEL_MAX_RECORD_LEN];
 static uint16_t length, trails;
 static int32_t characteristic;
 
@@ -31,7 +31,7 @@ static int cleared(size_t n) {
     size_t i;
     for (i = 0; i < n; i++)
         if (work[i] != 0) return 0;
-    return n == JURNADEL_MOST_WORK_LEN || work[n] == 0x5a5a;
+    return n == JURNADEL_MAX_WORK_LEN || work[n] == 0x5a5a;
 }
 
 static int untouched_from(size_t n) {
@@ -71,7 +71,7 @@ static void starred(void) {
         CHECK(refusal_of(table[i].order, 2 * m, 0, table[i].kind, JURNADEL_WORK_LEN(m), table[i].length) == JURNADEL_DONE);
         CHECK(length == table[i].length && memcmp(output, table[i].record, length) == 0);
         dirty();
-        CHECK(jurnadel_read(table[i].record, table[i].length, work, JURNADEL_WORK_LEN(m), order, 2 * m, &trails) == JURNADEL_DONE);
+        CHECK(jurnadel_read(table[i].record, table[i].length, work, JURNADEL_WORK_LEN(m), order, JURNADEL_ORDER_LEN(m), &trails) == JURNADEL_DONE);
         CHECK(trails == m && cleared(JURNADEL_WORK_LEN(m)) && order[2 * m] == 0x5a5a);
         CHECK(jurnadel_write(order, 2 * m, 0, table[i].kind, work, JURNADEL_WORK_LEN(m), again, sizeof again, &length, &characteristic) == 0);
         CHECK(length == table[i].length && memcmp(again, table[i].record, length) == 0);
@@ -81,30 +81,30 @@ static void starred(void) {
 static void writing(void) {
     static const uint16_t pair[] = {3, 2, 1, 0}, apart[] = {0, 1, 2, 3}, crossing[] = {3, 2, 4, 5, 1, 0}, ring[] = {1, 0}, stick[] = {0, 1},
                           twice[] = {3, 3, 1, 0};
-    CHECK(refusal_of(pair, 4, 0, 3, 64, 8) == JURNADEL_KIND);
-    CHECK(refusal_of(pair, 3, 0, 1, 64, 8) == JURNADEL_COUNT);
-    CHECK(refusal_of(pair, 0, 0, 1, 64, 8) == JURNADEL_COUNT);
-    CHECK(refusal_of(pair, 4, 4, 1, 64, 8) == JURNADEL_START);
-    CHECK(refusal_of(twice, 4, 0, 1, 64, 8) == JURNADEL_ENTRY);
-    CHECK(refusal_of(pair, 4, 0, 1, 63, 8) == JURNADEL_WORK_AREA);
-    CHECK(refusal_of(pair, 4, 0, 1, 64, 6) == JURNADEL_OUTPUT);
+    CHECK(refusal_of(pair, 4, 0, 3, 64, 8) == JURNADEL_BAD_KIND);
+    CHECK(refusal_of(pair, 3, 0, 1, 64, 8) == JURNADEL_BAD_COUNT);
+    CHECK(refusal_of(pair, 0, 0, 1, 64, 8) == JURNADEL_BAD_COUNT);
+    CHECK(refusal_of(pair, 4, 4, 1, 64, 8) == JURNADEL_BAD_START);
+    CHECK(refusal_of(twice, 4, 0, 1, 64, 8) == JURNADEL_BAD_ENTRY);
+    CHECK(refusal_of(pair, 4, 0, 1, 63, 8) == JURNADEL_SHORT_WORK);
+    CHECK(refusal_of(pair, 4, 0, 1, 64, 6) == JURNADEL_SHORT_OUTPUT);
     CHECK(refusal_of(apart, 4, 0, 2, 64, 8) == JURNADEL_NOT_CONNECTED);
     CHECK(refusal_of(crossing, 6, 0, 2, 96, 8) == JURNADEL_NOT_PLANAR && characteristic == 0);
-    CHECK(refusal_of(ring, 2, 0, 2, 32, 8) == JURNADEL_LOOP);
-    CHECK(refusal_of(stick, 2, 0, 1, 32, 8) == JURNADEL_DEGREE_ONE);
+    CHECK(refusal_of(ring, 2, 0, 2, 32, 8) == JURNADEL_HAS_LOOP);
+    CHECK(refusal_of(stick, 2, 0, 1, 32, 8) == JURNADEL_HAS_DEGREE_ONE);
 }
 
 /* A round of 4,096 trails, the longest plan: dart 2e+1 and dart 2e+2 share a junction. */
 static void longest(void) {
-    static uint16_t round[JURNADEL_MOST_DARTS];
-    size_t d, last = JURNADEL_MOST_DARTS - 1;
+    static uint16_t round[JURNADEL_MAX_DARTS];
+    size_t d, last = JURNADEL_MAX_DARTS - 1;
     for (d = 0; d <= last; d++) round[d] = (uint16_t)(d == 0 ? last : d == last ? 0 : d % 2 ? d + 1 : d - 1);
-    CHECK(refusal_of(round, JURNADEL_MOST_DARTS, 4095, 1, JURNADEL_MOST_WORK_LEN, sizeof output) == JURNADEL_DONE);
+    CHECK(refusal_of(round, JURNADEL_MAX_DARTS, 4095, 1, JURNADEL_MAX_WORK_LEN, sizeof output) == JURNADEL_DONE);
     CHECK(length == 1542);
-    CHECK(refusal_of(round, JURNADEL_MOST_DARTS, 4095, 2, JURNADEL_MOST_WORK_LEN, sizeof output) == JURNADEL_DONE);
+    CHECK(refusal_of(round, JURNADEL_MAX_DARTS, 4095, 2, JURNADEL_MAX_WORK_LEN, sizeof output) == JURNADEL_DONE);
     CHECK(length == 1850);
-    CHECK(jurnadel_read(output, length, work, JURNADEL_MOST_WORK_LEN, order, JURNADEL_MOST_DARTS, &trails) == JURNADEL_DONE);
-    CHECK(trails == JURNADEL_MOST_TRAILS && cleared(JURNADEL_MOST_WORK_LEN));
+    CHECK(jurnadel_read(output, length, work, JURNADEL_MAX_WORK_LEN, order, JURNADEL_MAX_ORDER_LEN, &trails) == JURNADEL_DONE);
+    CHECK(trails == JURNADEL_MAX_TRAILS && cleared(JURNADEL_MAX_WORK_LEN));
 }
 
 static uint16_t reads(const uint8_t *record, size_t record_len, size_t work_len, size_t order_len) {
@@ -121,14 +121,14 @@ static void reading(void) {
     CHECK(reads(record, 6, 64, 4) == JURNADEL_RECORD_CUT);
     CHECK(reads(record, 0, 64, 4) == JURNADEL_RECORD_CUT);
     record[2] = 4;
-    CHECK(reads(record, 7, 64, 4) == JURNADEL_KIND);
+    CHECK(reads(record, 7, 64, 4) == JURNADEL_BAD_KIND);
     record[2] = 1, record[4] = 0;
-    CHECK(reads(record, 7, 64, 4) == JURNADEL_COUNT);
+    CHECK(reads(record, 7, 64, 4) == JURNADEL_BAD_COUNT);
     record[4] = 3;
-    CHECK(reads(record, 7, 96, 6) == JURNADEL_LENGTH);
+    CHECK(reads(record, 7, 96, 6) == JURNADEL_BAD_LENGTH);
     record[4] = 2;
-    CHECK(reads(record, 7, 63, 4) == JURNADEL_WORK_AREA);
-    CHECK(reads(record, 7, 64, 3) == JURNADEL_OUTPUT);
+    CHECK(reads(record, 7, 63, 4) == JURNADEL_SHORT_WORK);
+    CHECK(reads(record, 7, 64, 3) == JURNADEL_SHORT_OUTPUT);
     record[6] = 0xC9;
     CHECK(reads(record, 7, 64, 4) == JURNADEL_NO_FIT_PLAN);
 }
@@ -162,14 +162,25 @@ static void shelves(void) {
 static void sizes(void) {
     uint16_t kind, m;
     for (kind = 1; kind <= 2; kind++)
-        for (m = 1; m <= JURNADEL_MOST_TRAILS; m++)
+        for (m = 1; m <= JURNADEL_MAX_TRAILS; m++)
             if (jurnadel_record_length(kind, m) != JURNADEL_RECORD_LEN(kind, m) || jurnadel_work_length(m) != JURNADEL_WORK_LEN(m)) {
                 CHECK(!"the macros are the functions");
                 return;
             }
     CHECK(jurnadel_record_length(1, 0) == 0 && jurnadel_record_length(2, 4097) == 0 && jurnadel_record_length(0, 1) == 0);
     CHECK(jurnadel_record_length(3, 1) == 0 && jurnadel_record_length(65535, 65535) == 0);
-    CHECK(JURNADEL_MOST_RECORD_LEN == 1850 && JURNADEL_MOST_WORK_LEN == 131072);
+    /* As numbers, and as bytes. */
+    CHECK(JURNADEL_MAX_TRAILS == 4096 && JURNADEL_MAX_DARTS == 8192);
+    CHECK(JURNADEL_MAX_WORK_LEN == 131072 && sizeof work == 262144);
+    CHECK(JURNADEL_MAX_ORDER_LEN == 8192 && sizeof order == 16384);
+    CHECK(JURNADEL_MAX_RECORD_LEN == 1850 && sizeof output == 1850);
+    CHECK(JURNADEL_WORK_LEN(3) == 96 && JURNADEL_ORDER_LEN(3) == 6);
+}
+
+static void version(void) {
+    char text[32];
+    sprintf(text, "%d.%d.%d", JURNADEL_VERSION_MAJOR, JURNADEL_VERSION_MINOR, JURNADEL_VERSION_PATCH);
+    CHECK(strcmp(text, JURNADEL_VERSION) == 0);
 }
 
 int main(void) {
@@ -179,6 +190,7 @@ int main(void) {
     reading();
     shelves();
     sizes();
+    version();
     printf("tests/c/interface.c: %d passed, %d failed\n", passed, failed);
     return failed != 0;
 }

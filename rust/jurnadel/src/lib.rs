@@ -5,34 +5,57 @@
 //! one dart. A record is the plan in about 3 bits a trail (kind 1) or 3.6 (kind 2); a shelf is records end to end.
 //!
 //! [`write()`], [`read()`], [`shelve()`], [`fetch()`] and [`walk()`] are the library's calls on lent buffers, one for one:
-//! no allocation, no state. [`record_of()`] and [`plan_of()`] allocate what they need.
+//! no allocation, no state. `record_of` and `plan_of` allocate what they need.
 //!
 //! ```
+//! let (mut work, mut record, mut order) = ([0; 96], [0; 8], [0; 6]);
+//!
 //! // Three parallel trails.
-//! let record = jurnadel::record_of(&[5, 2, 4, 0, 1, 3], 0, 1)?;
+//! jurnadel::write(&[5, 2, 4, 0, 1, 3], 0, 1, &mut work, &mut record)?;
 //! assert_eq!(record, [0x08, 0, 0x01, 0, 0x03, 0, 0xD2, 0x80]);
 //!
 //! // The same plan, numbered in the order of the contour walk from start 0.
-//! let order = jurnadel::plan_of(&record)?;
-//! assert_eq!(jurnadel::record_of(&order, 0, 1)?, record);
+//! jurnadel::read(&record, &mut work, &mut order)?;
+//! let mut again = [0; 8];
+//! jurnadel::write(&order, 0, 1, &mut work, &mut again)?;
+//! assert_eq!(again, record);
 //! # Ok::<(), jurnadel::Refusal>(())
 //! ```
+//!
+//! The crate is `no_std`. Its features:
+//!
+//! * `alloc`: `record_of` and `plan_of`;
+//! * `std`, the default: `alloc`, for programs over std. Nothing else in the crate needs std.
 //!
 //! The library's functions are proved for every input. Not proved: the compiler's back end, this crate and its C
 //! declarations ([`sys`]). The proved calls need lent buffers that don't overlap; Rust's borrows see to that.
 
+#![no_std]
 #![warn(missing_docs)]
 
+#[cfg(feature = "alloc")]
+extern crate alloc;
+
+#[cfg(feature = "alloc")]
+mod owned;
 mod refusal;
 pub mod sys;
 
+#[cfg(feature = "alloc")]
+pub use owned::{plan_of, record_of};
 pub use refusal::Refusal;
 
 /// The most trails that a plan has.
-pub const MOST_TRAILS: u16 = 4096;
+pub const MAX_TRAILS: u16 = 4096;
+
+/// A work area that serves every plan and record, in 16-bit numbers; in bytes it is 262,144.
+pub const MAX_WORK_LENGTH: usize = 131_072;
+
+/// A turning order that holds every plan, in 16-bit numbers; in bytes it is 16,384.
+pub const MAX_ORDER_LENGTH: usize = 8192;
 
 /// The most bytes that a record has.
-pub const MOST_RECORD_LENGTH: usize = 1850;
+pub const MAX_RECORD_LENGTH: usize = 1850;
 
 /// Done, or the refusal with this number.
 fn settle<T>(refusal: u16, characteristic: i32, value: T) -> Result<T, Refusal> {
@@ -54,7 +77,7 @@ pub fn work_length(trails: u16) -> usize {
 }
 
 /// The length of a record of this kind with this many trails. Nothing where there is none: another kind than 1 or 2, no
-/// trail, or more than [`MOST_TRAILS`].
+/// trail, or more than [`MAX_TRAILS`].
 ///
 /// ```
 /// assert_eq!(jurnadel::record_length(1, 4096), Some(1542));
@@ -152,7 +175,7 @@ pub struct Shelved {
 /// Refusals 1, 2, 3, 5, 14, 16. A refused call leaves the shelf untouched.
 ///
 /// ```
-/// let record = jurnadel::record_of(&[0, 1], 0, 2)?;
+/// let record = [0x08, 0, 0x02, 0, 0x01, 0, 0x80, 0xA2];
 /// let mut shelf = [0; 20];
 /// let first = jurnadel::shelve(&record, &mut shelf, 0)?;
 /// assert_eq!(first, jurnadel::Shelved { number: 0, used: 8 });
@@ -183,7 +206,7 @@ pub fn shelve(record: &[u8], shelf: &mut [u8], used: usize) -> Result<Shelved, R
 /// Refusals 14, 15.
 ///
 /// ```
-/// let record = jurnadel::record_of(&[0, 1], 0, 2)?;
+/// let record = [0x08, 0, 0x02, 0, 0x01, 0, 0x80, 0xA2];
 /// assert_eq!(jurnadel::fetch(&record, record.len(), 0)?, record);
 /// assert_eq!(jurnadel::fetch(&record, record.len(), 1).unwrap_err().number(), 15);
 /// # Ok::<(), jurnadel::Refusal>(())
@@ -228,7 +251,7 @@ impl<'a> Iterator for Walk<'a> {
     }
 }
 
-impl std::iter::FusedIterator for Walk<'_> {}
+impl core::iter::FusedIterator for Walk<'_> {}
 
 /// Begins a walk at a record of this number.
 ///
@@ -237,11 +260,9 @@ impl std::iter::FusedIterator for Walk<'_> {}
 /// Refusals 14, 15; so a walk from the number just past the last record is 15.
 ///
 /// ```
-/// let pair = jurnadel::record_of(&[3, 2, 1, 0], 0, 1)?;
-/// let trail = jurnadel::record_of(&[0, 1], 0, 2)?;
-/// let shelf = [&pair[..], &trail[..]].concat();
-/// let records: Vec<&[u8]> = jurnadel::walk(&shelf, shelf.len(), 0)?.collect();
-/// assert_eq!(records, [pair, trail]);
+/// let shelf = [0x07, 0, 0x01, 0, 0x02, 0, 0xC8, 0x08, 0, 0x02, 0, 0x01, 0, 0x80, 0xA2];
+/// let mut walk = jurnadel::walk(&shelf, shelf.len(), 0)?;
+/// assert_eq!((walk.next(), walk.next(), walk.next()), (Some(&shelf[..7]), Some(&shelf[7..]), None));
 /// # Ok::<(), jurnadel::Refusal>(())
 /// ```
 pub fn walk(shelf: &[u8], used: usize, number: usize) -> Result<Walk<'_>, Refusal> {
@@ -255,64 +276,12 @@ pub fn walk(shelf: &[u8], used: usize, number: usize) -> Result<Walk<'_>, Refusa
 /// sound. It ends at the first place where none stands.
 ///
 /// ```
-/// let mut shelf = jurnadel::record_of(&[0, 1], 0, 2)?;
-/// shelf.push(99);
+/// let shelf = [0x08, 0, 0x02, 0, 0x01, 0, 0x80, 0xA2, 99];
 /// assert_eq!(jurnadel::walk(&shelf, shelf.len(), 0).unwrap_err().number(), 14);
 /// let mut walk = jurnadel::walk_from(&shelf, shelf.len(), 0);
 /// assert!(walk.next().is_some() && walk.next().is_none());
 /// assert_eq!(walk.place(), 8);
-/// # Ok::<(), jurnadel::Refusal>(())
 /// ```
 pub fn walk_from(shelf: &[u8], used: usize, at: usize) -> Walk<'_> {
     Walk { shelf, used, at }
-}
-
-/// The number of trails of a plan with this turning order, as far as the library asks: at most one more than the most.
-fn trails_of(order: &[u16]) -> u16 {
-    (order.len() / 2).min(usize::from(MOST_TRAILS) + 1) as u16
-}
-
-/// The record of a plan, by [`write()`] with buffers of its own.
-///
-/// # Errors
-///
-/// Refusals 2, 3, 4, 6, 9 to 12.
-///
-/// ```
-/// assert_eq!(jurnadel::record_of(&[0, 1], 0, 2)?, [0x08, 0, 0x02, 0, 0x01, 0, 0x80, 0xA2]);
-/// assert_eq!(jurnadel::record_of(&[0, 1], 0, 1).unwrap_err().number(), 12);
-/// assert_eq!(jurnadel::record_of(&[1, 0], 0, 2).unwrap_err().number(), 11);
-/// # Ok::<(), jurnadel::Refusal>(())
-/// ```
-pub fn record_of(order: &[u16], start: u16, kind: u16) -> Result<Vec<u8>, Refusal> {
-    let trails = trails_of(order);
-    let mut work = vec![0; work_length(trails)];
-    let mut output = vec![0; record_length(kind, trails).unwrap_or(0)];
-    let length = write(order, start, kind, &mut work, &mut output)?;
-    output.truncate(length);
-    Ok(output)
-}
-
-/// The turning order of a record's plan, in standard numbering with start 0, by [`read()`] with buffers of its own.
-///
-/// # Errors
-///
-/// Refusals 1, 2, 3, 5, 13.
-///
-/// ```
-/// let order = jurnadel::plan_of(&[0x08, 0, 0x01, 0, 0x03, 0, 0xE2, 0x00])?;
-/// assert_eq!(order, [5, 2, 1, 4, 3, 0]);
-/// assert_eq!(jurnadel::plan_of(&[0x07, 0, 0x01, 0, 0x02, 0, 0xCC]).unwrap_err().number(), 13);
-/// # Ok::<(), jurnadel::Refusal>(())
-/// ```
-pub fn plan_of(record: &[u8]) -> Result<Vec<u16>, Refusal> {
-    let trails = match record.get(4..6) {
-        Some(field) => u16::from_le_bytes([field[0], field[1]]).min(MOST_TRAILS),
-        None => 0,
-    };
-    let mut work = vec![0; work_length(trails)];
-    let mut order = vec![0; 2 * usize::from(trails)];
-    let trails = read(record, &mut work, &mut order)?;
-    order.truncate(2 * trails);
-    Ok(order)
 }

@@ -1,6 +1,6 @@
 //! Refusals: their numbers and meanings.
 
-use std::fmt;
+use core::fmt;
 
 /// Makes the constants of the refusals, by the names that `jurnadel.h` has for them, and `meaning_of`.
 macro_rules! refusals {
@@ -25,17 +25,17 @@ macro_rules! refusals {
 
 refusals! {
     RECORD_CUT = 1: "The record has fewer than 6 bytes, or its length field isn't the number of bytes lent.",
-    KIND = 2: "The kind is not 1 or 2.",
-    COUNT = 3: "The dart count is 0, odd or above 8,192; in a record, m is 0 or above 4,096.",
-    START = 4: "The start is not below the dart count.",
-    LENGTH = 5: "The length is not the one for this kind and m.",
-    ENTRY = 6: "An entry of the turning order is not below the dart count, or two entries are equal.",
-    WORK_AREA = 7: "The work area (16-bit numbers) is shorter than 32 x m.",
-    OUTPUT = 8: "The output is shorter than the record, or than 2m entries.",
+    BAD_KIND = 2: "The kind is not 1 or 2.",
+    BAD_COUNT = 3: "The dart count is 0, odd or above 8,192; in a record, m is 0 or above 4,096.",
+    BAD_START = 4: "The start is not below the dart count.",
+    BAD_LENGTH = 5: "The length is not the one for this kind and m.",
+    BAD_ENTRY = 6: "An entry of the turning order is not below the dart count, or two entries are equal.",
+    SHORT_WORK = 7: "The work area (16-bit numbers) is shorter than 32 x m.",
+    SHORT_OUTPUT = 8: "The output is shorter than the record, or than 2m entries.",
     NOT_CONNECTED = 9: "The plan is not connected.",
     NOT_PLANAR = 10: "It is not planar.",
-    LOOP = 11: "It has a loop.",
-    DEGREE_ONE = 12: "Kind 1, and a junction has degree one.",
+    HAS_LOOP = 11: "It has a loop.",
+    HAS_DEGREE_ONE = 12: "Kind 1, and a junction has degree one.",
     NO_FIT_PLAN = 13: "No fit plan of this kind has this record.",
     SHELF_BROKEN = 14: "The used length exceeds the shelf, or the used bytes are not records end to end that each pass 1, 2, 3 and 5.",
     NO_SUCH_RECORD = 15: "The shelf holds no record with this number, counting from 0.",
@@ -45,12 +45,14 @@ refusals! {
 /// A refusal: its number in document 01 and, of refusal 10, the characteristic.
 ///
 /// ```
-/// let refusal = jurnadel::record_of(&[3, 2, 4, 5, 1, 0], 0, 2).unwrap_err();
+/// let crossing = [3, 2, 4, 5, 1, 0];
+/// let refusal = jurnadel::write(&crossing, 0, 2, &mut [0; 96], &mut [0; 8]).unwrap_err();
 /// assert_eq!(refusal.number(), jurnadel::Refusal::NOT_PLANAR);
+/// assert_eq!(refusal.meaning(), "It is not planar.");
 /// assert_eq!(refusal.characteristic(), Some(0));
 /// assert_eq!(refusal.to_string(), "refusal 10: It is not planar. Its characteristic is 0.");
 /// ```
-#[derive(Debug, Clone, Copy, PartialEq, Eq, Hash)]
+#[derive(Clone, Copy, PartialEq, Eq, Hash)]
 pub struct Refusal {
     number: u16,
     characteristic: i32,
@@ -91,11 +93,37 @@ impl fmt::Display for Refusal {
     }
 }
 
-impl std::error::Error for Refusal {}
+/// What `unwrap` prints has the text too.
+impl fmt::Debug for Refusal {
+    fn fmt(&self, f: &mut fmt::Formatter<'_>) -> fmt::Result {
+        let mut fields = f.debug_struct("Refusal");
+        fields.field("number", &self.number).field("meaning", &self.meaning());
+        if let Some(characteristic) = self.characteristic() {
+            fields.field("characteristic", &characteristic);
+        }
+        fields.finish()
+    }
+}
+
+impl core::error::Error for Refusal {}
 
 #[cfg(test)]
 mod tests {
+    extern crate std;
     use super::*;
+    use std::{format, string::ToString, vec::Vec};
+
+    #[test]
+    fn a_refusal_carries_its_text() {
+        for &(_, number) in NAMES {
+            let refusal = Refusal::new(number, -2);
+            assert!(refusal.to_string().starts_with(&format!("refusal {number}: {}", meaning_of(number))), "{refusal}");
+            assert!(format!("{refusal:?}").contains(meaning_of(number)), "{refusal:?}");
+            for print in [refusal.to_string(), format!("{refusal:?}")] {
+                assert_eq!(print.contains("-2"), number == Refusal::NOT_PLANAR, "{print}");
+            }
+        }
+    }
 
     /// The header has the same names, numbers and meanings; of the characteristic it says more.
     #[test]

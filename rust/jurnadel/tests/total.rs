@@ -114,3 +114,11 @@ fn shelves() {
     }
     assert!(shelved > 100, "{shelved} shelved");
 }
+
+#[test]
+fn sizes() {
+    assert_eq!(jurnadel::work_length(jurnadel::MAX_TRAILS), jurnadel::MAX_WORK_LENGTH);
+    assert_eq!(jurnadel::record_length(2, jurnadel::MAX_TRAILS), Some(jurnadel::MAX_RECORD_LENGTH));
+    assert_eq!(jurnadel::record_length(2, jurnadel::MAX_TRAILS + 1), None);
+    assert_eq!(jurnadel::MAX_ORDER_LENGTH, 2 * usize::from(jurnadel::MAX_TRAILS));
+}

@@ -1,6 +1,6 @@
 //! The coach's tool: plan files, records and a shelf file, over the proved library.
 //!
-//! What a record is, and every refusal, comes from the library. This program reads and writes files, words and numbers:
+//! Every refusal and every record comes from the library. This program reads and writes files, words and numbers:
 //!
 //! * `commands`: what each command does, with its help; `help`: the overview;
 //! * `options`: the words of the command line; `names`: names as a terminal can take them;

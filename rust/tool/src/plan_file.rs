@@ -62,14 +62,16 @@ impl Plan {
         let in_kind = |kind| jurnadel::record_of(&self.order, self.start, kind);
         match kind {
             Some(kind) => in_kind(kind),
-            None => in_kind(1).or_else(|refusal| if refusal.number() == Refusal::DEGREE_ONE { in_kind(2) } else { Err(refusal) }),
+            None => {
+                in_kind(1).or_else(|refusal| if refusal.number() == Refusal::HAS_DEGREE_ONE { in_kind(2) } else { Err(refusal) })
+            }
         }
     }
 
     /// The line that a refusal is about.
     pub fn line_of(&self, refusal: Refusal) -> usize {
         match refusal.number() {
-            Refusal::START => self.start_line,
+            Refusal::BAD_START => self.start_line,
             _ => self.order_line,
         }
     }

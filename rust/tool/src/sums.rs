@@ -33,7 +33,8 @@ fn parse(bytes: &[u8]) -> Result<Vec<u32>, usize> {
 }
 
 fn sum(line: &[u8]) -> Option<u32> {
-    let digits = std::str::from_utf8(line).ok().filter(|text| text.len() == 8 && text.bytes().all(|byte| byte.is_ascii_hexdigit()));
+    let digits =
+        std::str::from_utf8(line).ok().filter(|text| text.len() == 8 && text.bytes().all(|byte| byte.is_ascii_hexdigit()));
     u32::from_str_radix(digits?, 16).ok()
 }
 

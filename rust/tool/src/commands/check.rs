@@ -6,7 +6,8 @@ use crate::options::{Options, Word};
 use crate::plan_file::Plan;
 use crate::report::{Problem, Report};
 
-pub const COMMAND: Command = Command { name: "check", summary: "say whether plan files are sound, and how long their records are", help: HELP, run };
+pub const COMMAND: Command =
+    Command { name: "check", summary: "say whether plan files are sound, and how long their records are", help: HELP, run };
 
 const HELP: &str = "\
 usage: jurnadel check [--kind KIND] [--files-from LIST] PLAN..

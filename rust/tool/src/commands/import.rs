@@ -69,7 +69,7 @@ fn run(words: &[Word], report: &mut Report) -> Done {
 fn import_one(graph: &Graph, place: &str, name: &str, plan: &Path, force: bool) -> Done {
     // Too many trails are refused before the parallel ones are joined, which would take long.
     let darts: usize = graph.iter().map(Vec::len).sum();
-    if darts > 2 * usize::from(jurnadel::MOST_TRAILS) {
+    if darts > 2 * usize::from(jurnadel::MAX_TRAILS) {
         jurnadel::record_of(&vec![0; darts], 0, 2).map_err(|refusal| Problem::refused(place, refusal))?;
     }
     let order = planar_code::turning_order(graph).map_err(|untaken| match untaken {

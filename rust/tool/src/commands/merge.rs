@@ -5,7 +5,8 @@ use crate::options::{Options, Word};
 use crate::report::{Problem, Report};
 use crate::shelf_file::{self, ShelfFile};
 
-pub const COMMAND: Command = Command { name: "merge", summary: "put the records of several shelves on a new one", help: HELP, run };
+pub const COMMAND: Command =
+    Command { name: "merge", summary: "put the records of several shelves on a new one", help: HELP, run };
 
 const HELP: &str = "\
 usage: jurnadel merge NEW SHELF..
