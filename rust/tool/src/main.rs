@@ -5,7 +5,8 @@
 //! * `commands`: what each command does, with its help; `help`: the overview;
 //! * `options`: the words of the command line; `names`: names as a terminal can take them;
 //! * `files`: files read whole, and files that appear whole or not at all;
-//! * `plan_file`, `record_file`, `shelf_file`: the three kinds of file;
+//! * `plan_file`, `record_file`, `shelf_file`: the three kinds of file; `source`: a plan in any of them;
+//! * `shape`: junctions, areas and the contour walk of a turning order;
 //! * `planar_code`: the interchange format that `import` reads;
 //! * `report`: messages and the exit status.
 
@@ -18,7 +19,9 @@ mod plan_file;
 mod planar_code;
 mod record_file;
 mod report;
+mod shape;
 mod shelf_file;
+mod source;
 
 use commands::{Command, COMMANDS};
 use options::Word;

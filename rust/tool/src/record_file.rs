@@ -18,7 +18,7 @@ pub fn load(path: &Word, raw: bool) -> Result<(Vec<u8>, Option<usize>), Problem>
 }
 
 /// The record of a text and its line, or a line and what is wrong there.
-fn parse(text: &str) -> Result<(Vec<u8>, usize), (usize, String)> {
+pub fn parse(text: &str) -> Result<(Vec<u8>, usize), (usize, String)> {
     let mut record = None;
     for (number, line) in (1..).zip(text.lines()) {
         let digits: String = line.split('#').next().unwrap_or("").split_whitespace().collect();

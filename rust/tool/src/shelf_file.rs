@@ -33,6 +33,13 @@ pub fn load(path: &Word) -> Result<Vec<u8>, Problem> {
     fs::read(path).map_err(|error| Problem::file(path, error))
 }
 
+/// The record of this number on a shelf file.
+pub fn record(path: &Word, number: usize) -> Result<Vec<u8>, Problem> {
+    let shelf = load(path)?;
+    let record = jurnadel::fetch(&shelf, shelf.len(), number).map_err(|refusal| Problem::refused(path, refusal))?;
+    Ok(record.to_vec())
+}
+
 impl ShelfFile {
     /// Locks the shelf file and reads it; one that isn't there is empty.
     pub fn open(name: &Word, size: Option<usize>) -> Result<ShelfFile, Problem> {

@@ -1,0 +1,364 @@
+//! A plan by junctions: a line `JUNCTION: TRAIL ..` for each, its trails counterclockwise, and a line `start: JUNCTION TRAIL`.
+//!
+//! Each trail is named twice in the file; twice in one line it is a loop. Trails are numbered as first named, and the first
+//! mention is the even dart. The start is the mention in its junction's line, of a loop the first.
+
+use super::{Lines, Plan, Written, Wrong};
+use crate::names::{acts, beginning};
+use crate::report::{in_words, with_number};
+use crate::shape::{round, walk, Walk};
+use jurnadel::Refusal;
+use std::collections::{HashMap, HashSet};
+
+/// The names in a plan file, and where they stand.
+#[derive(Debug, Default, PartialEq, Eq)]
+pub struct Names {
+    /// As their lines come.
+    junctions: Vec<Junction>,
+    trails: Vec<Name>,
+}
+
+#[derive(Debug, PartialEq, Eq)]
+struct Junction {
+    name: Name,
+    /// Its darts, counterclockwise.
+    darts: Vec<usize>,
+}
+
+/// A name, and the line that has it first.
+#[derive(Debug, PartialEq, Eq)]
+struct Name {
+    text: String,
+    line: usize,
+}
+
+impl Name {
+    /// As messages show it.
+    fn shown(&self) -> String {
+        beginning(&self.text)
+    }
+}
+
+/// The plan of a file's lines.
+pub fn plan(lines: &Lines) -> Result<Plan, Wrong> {
+    let mut reader = Reader::default();
+    for &(line, words) in &lines.others {
+        reader.junction(line, words).map_err(|what| (line, what))?;
+    }
+    let (line, words) = lines.start.ok_or((lines.last, String::from("no line 'start: JUNCTION TRAIL'")))?;
+    reader.each_trail_twice()?;
+    let names = reader.names;
+    let start = match (names.junctions.is_empty(), names.trails.is_empty()) {
+        (true, _) => return Err((line, String::from("no junction; each has a line, as in 'A: a b c'"))),
+        // The library refuses such a plan before it asks for the start.
+        (false, true) => 0,
+        (false, false) => names.start(words).map_err(|what| (line, what))?,
+    };
+    Ok(Plan { order: names.order(), start: number(start), written: Written::Junctions(names) })
+}
+
+/// A dart's number. With one that doesn't fit, the plan has too many trails and is refused for that.
+fn number(dart: usize) -> u16 {
+    u16::try_from(dart).unwrap_or(u16::MAX)
+}
+
+/// What was read so far.
+#[derive(Default)]
+struct Reader<'a> {
+    names: Names,
+    junctions: HashMap<&'a str, usize>,
+    trails: HashMap<&'a str, usize>,
+    /// Whether each trail was named twice.
+    twice: Vec<bool>,
+}
+
+impl<'a> Reader<'a> {
+    /// Takes a junction's line.
+    fn junction(&mut self, line: usize, words: &'a str) -> Result<(), String> {
+        let wanted = "a junction's line is its name, a colon and its trails, as in 'A: a b c'";
+        let (name, trails) = words.split_once(':').ok_or_else(|| format!("no colon; {wanted}"))?;
+        let name = name.trim_end();
+        if name.is_empty() || trails.contains(':') {
+            return Err(format!("{}; {wanted}", if name.is_empty() { "no name before the colon" } else { "a second colon" }));
+        }
+        if name.contains(char::is_whitespace) {
+            return Err(format!("'{}': a name is one word; {wanted}", beginning(name)));
+        }
+        let place = self.names.junctions.len();
+        if let Some(first) = self.junctions.insert(name, place) {
+            let first = self.names.junctions[first].name.line;
+            return Err(format!("a second line for junction {}; the first is line {first}", beginning(name)));
+        }
+        let name = Name { text: plain(name)?, line };
+        let darts = trails.split_whitespace().map(|trail| self.mention(line, trail)).collect::<Result<_, _>>()?;
+        self.names.junctions.push(Junction { name, darts });
+        Ok(())
+    }
+
+    /// Takes a mention of a trail: its dart.
+    fn mention(&mut self, line: usize, name: &'a str) -> Result<usize, String> {
+        let next = self.names.trails.len();
+        let trail = *self.trails.entry(name).or_insert(next);
+        if trail == next {
+            self.names.trails.push(Name { text: plain(name)?, line });
+            self.twice.push(false);
+            return Ok(2 * trail);
+        }
+        match std::mem::replace(&mut self.twice[trail], true) {
+            true => Err(format!("trail {} is named a third time; a trail is named at both its ends", beginning(name))),
+            false => Ok(2 * trail + 1),
+        }
+    }
+
+    fn each_trail_twice(&self) -> Result<(), Wrong> {
+        match self.twice.iter().position(|twice| !twice) {
+            Some(trail) => {
+                let name = &self.names.trails[trail];
+                Err((name.line, format!("trail {} is named once; a trail is named at both its ends", name.shown())))
+            }
+            None => Ok(()),
+        }
+    }
+}
+
+/// A name that can be told from others and that a terminal can take.
+fn plain(name: &str) -> Result<String, String> {
+    let wrong = |what| Err(format!("{what} in the name '{}'", beginning(name)));
+    if name.contains(char::REPLACEMENT_CHARACTER) {
+        return wrong("what is not UTF-8");
+    }
+    if name.contains(acts) {
+        return wrong("a control character");
+    }
+    Ok(name.to_string())
+}
+
+impl Names {
+    /// The dart that the words after `start:` name.
+    fn start(&self, words: &str) -> Result<usize, String> {
+        let [junction, trail] = words.split_whitespace().collect::<Vec<_>>()[..] else {
+            return Err(String::from("a plan by junctions has 'start: JUNCTION TRAIL', a junction and one of its trails"));
+        };
+        let found = self.junctions.iter().find(|known| known.name.text == junction);
+        let darts = &found.ok_or_else(|| format!("there is no junction {} to start at", beginning(junction)))?.darts;
+        let dart = darts.iter().find(|&dart| self.trails[dart / 2].text == trail);
+        dart.copied().ok_or_else(|| format!("junction {} has no trail {} to start with", beginning(junction), beginning(trail)))
+    }
+
+    fn order(&self) -> Vec<u16> {
+        let mut order = vec![0; 2 * self.trails.len()];
+        for Junction { darts, .. } in &self.junctions {
+            for (place, &dart) in darts.iter().enumerate() {
+                order[dart] = number(darts[(place + 1) % darts.len()]);
+            }
+        }
+        order
+    }
+
+    pub fn have_lone_junction(&self) -> bool {
+        self.junctions.iter().any(|junction| junction.darts.is_empty())
+    }
+
+    /// The junction of each dart.
+    fn by_dart(&self) -> Vec<&Junction> {
+        let mut darts: Vec<_> =
+            self.junctions.iter().flat_map(|junction| junction.darts.iter().map(move |&dart| (dart, junction))).collect();
+        darts.sort_by_key(|&(dart, _)| dart);
+        darts.into_iter().map(|(_, junction)| junction).collect()
+    }
+
+    /// A refusal of the plan with these names: the line that it is about, if any, and its words.
+    pub fn in_words(&self, plan: &Plan, refusal: Refusal) -> (Option<usize>, String) {
+        let found = match refusal.number() {
+            Refusal::COUNT => self.too_many_or_none().map(|line| (line, in_words(refusal))),
+            Refusal::NOT_CONNECTED => self.in_pieces(plan).map(|(line, what)| (line, with_number(&what, refusal))),
+            Refusal::LOOP => self.loops().map(|(line, what)| (line, with_number(&what, refusal))),
+            Refusal::DEGREE_ONE => self.dead_end().map(|(line, what)| (line, with_number(&what, refusal))),
+            _ => None,
+        };
+        found.map_or_else(|| (None, in_words(refusal)), |(line, words)| (Some(line), words))
+    }
+
+    fn too_many_or_none(&self) -> Option<usize> {
+        let first_too_many = self.trails.get(usize::from(jurnadel::MOST_TRAILS));
+        first_too_many.or(self.junctions.first().map(|junction| &junction.name)).map(|name| name.line)
+    }
+
+    fn in_pieces(&self, plan: &Plan) -> Option<Wrong> {
+        let start = usize::from(plan.start);
+        let by_dart = self.by_dart();
+        let reached = walk(&plan.order, start).arrivals;
+        let reached: HashSet<usize> = reached.into_iter().map(|dart| by_dart[dart].name.line).collect();
+        let far = &self.junctions.iter().find(|junction| !reached.contains(&junction.name.line))?.name;
+        let near = by_dart[start].name.shown();
+        Some((far.line, format!("the plan is in pieces: junction {} cannot be reached from junction {near}", far.shown())))
+    }
+
+    fn loops(&self) -> Option<Wrong> {
+        let by_dart = self.by_dart();
+        let trail = by_dart.chunks(2).position(|ends| std::ptr::eq(ends[0], ends[1]))?;
+        let (name, junction) = (&self.trails[trail], by_dart[2 * trail].name.shown());
+        let words =
+            format!("trail {} leads back to junction {junction}, where it begins; no kind takes such a loop", name.shown());
+        Some((name.line, words))
+    }
+
+    fn dead_end(&self) -> Option<Wrong> {
+        let name = &self.junctions.iter().find(|junction| junction.darts.len() == 1)?.name;
+        Some((name.line, format!("junction {} is a dead end, which kind 1 doesn't take; kind 2 does", name.shown())))
+    }
+}
+
+/// The text of a plan file by junctions, with a comment on its first line, of a plan that is connected.
+///
+/// Junctions come as the contour walk meets them, and each line begins at the dart by which it does; so the start is the
+/// first mention of its trail. Names are those that the plan has; else A, B, .. and a, b, .. as the walk goes.
+pub fn text(comment: &str, plan: &Plan) -> String {
+    let walk = walk(&plan.order, plan.start.into());
+    let (junctions, trails) = plan.names().map_or_else(|| new_names(&walk), |names| names.along(&walk));
+    let mut text = format!("# {}\n", comment.replace(char::is_control, " "));
+    text += &format!("start: {} {}\n", junctions[0], trails[usize::from(plan.start) / 2]);
+    for (junction, &first) in junctions.iter().zip(&walk.arrivals) {
+        let around: Vec<&str> = round(&plan.order, first).map(|dart| &trails[dart / 2][..]).collect();
+        text += &format!("{junction}: {}\n", around.join(" "));
+    }
+    text
+}
+
+impl Names {
+    /// The names of the junctions along a walk, and of the trails by number.
+    fn along(&self, walk: &Walk) -> (Vec<String>, Vec<String>) {
+        let by_dart = self.by_dart();
+        let junctions = walk.arrivals.iter().map(|&dart| by_dart[dart].name.text.clone()).collect();
+        (junctions, self.trails.iter().map(|name| name.text.clone()).collect())
+    }
+}
+
+/// New names for the junctions along a walk, and for the trails by number.
+fn new_names(walk: &Walk) -> (Vec<String>, Vec<String>) {
+    let mut trails = vec![String::new(); walk.trails.len()];
+    for (place, &trail) in walk.trails.iter().enumerate() {
+        trails[trail] = letters(b'a', place);
+    }
+    ((0..walk.arrivals.len()).map(|place| letters(b'A', place)).collect(), trails)
+}
+
+/// The name at this place of a, b, .., z, aa, ab, ..; `first` is the a.
+fn letters(first: u8, place: usize) -> String {
+    let last = char::from(first + (place % 26) as u8);
+    match place / 26 {
+        0 => last.to_string(),
+        more => letters(first, more - 1) + &last.to_string(),
+    }
+}
+
+#[cfg(test)]
+mod tests {
+    use super::*;
+
+    fn wrong(text: &str) -> (usize, String) {
+        Plan::parse(text).unwrap_err()
+    }
+
+    #[test]
+    fn a_plan_file() {
+        let plan = Plan::parse("B: y x # here\n\nstart : A y\n  A : x\ty\n").unwrap();
+        assert_eq!((plan.order, plan.start), (vec![2, 3, 0, 1], 1));
+        let order = |text| Plan::parse(text).map(|plan| (plan.order, plan.start));
+        assert_eq!(order("1: 2\n3: 2\nstart: 3 2\n"), Ok((vec![0, 1], 1)));
+        assert_eq!(order("A: a a\nstart: A a\n"), Ok((vec![1, 0], 0)));
+        assert_eq!(order("A: b a c a\nB: b\nC: c\nstart: A a\n"), Ok((vec![2, 1, 4, 0, 3, 5], 2)));
+    }
+
+    #[test]
+    fn each_trail_is_named_twice() {
+        let once = |name| format!("trail {name} is named once; a trail is named at both its ends");
+        assert_eq!(wrong("start: A a\nA: a b\n\nB: a\n"), (2, once("b")));
+        assert_eq!(wrong("start: A a\nA: a\nB: a c\nC: d d\n"), (3, once("c")));
+        let thrice = (4, String::from("trail b is named a third time; a trail is named at both its ends"));
+        assert_eq!(wrong("A: a b\nB: b a\nstart: A a\nC: b\n"), thrice);
+        assert_eq!(wrong("A: a b b b\nstart: A a\n").0, 1);
+    }
+
+    #[test]
+    fn the_start() {
+        let start = |words| wrong(&format!("A: a b\nB: b a\nC: c c\n{words}\n# end\n"));
+        assert_eq!(start("start: D a"), (4, String::from("there is no junction D to start at")));
+        assert_eq!(start("start: B c"), (4, String::from("junction B has no trail c to start with")));
+        for words in ["start: 3", "start: A", "start:", "start: A a b"] {
+            let wanted = "a plan by junctions has 'start: JUNCTION TRAIL', a junction and one of its trails";
+            assert_eq!(start(words), (4, String::from(wanted)));
+        }
+        assert_eq!(start(""), (5, String::from("no line 'start: JUNCTION TRAIL'")));
+        assert_eq!(start("start: A a\nstart: A b"), (5, String::from("a second line of start")));
+    }
+
+    #[test]
+    fn lines() {
+        let wrong = |lines| wrong(&format!("start: A a\nA: a b\n{lines}\nB: b a\n"));
+        let begins = |lines, beginning: &str| {
+            let (line, what) = wrong(lines);
+            assert!(line == 3 && what.starts_with(beginning), "{line}: {what}");
+        };
+        begins("A: c c", "a second line for junction A; the first is line 2");
+        begins(": c c", "no name before the colon; ");
+        begins("c c", "no colon; a junction's line is its name, a colon and its trails");
+        begins("C: c D: c", "a second colon; ");
+        begins("Blue lake: c c", "'Blue lake': a name is one word; ");
+        begins("T\u{FFFD}r: c c", "what is not UTF-8 in the name 'T\u{FFFD}r'");
+        begins("C: \u{FFFD} c", "what is not UTF-8 in the name '\u{FFFD}'");
+        begins("C: \u{1b}[7m c", "a control character in the name '\\x1B[7m'");
+        assert_eq!(super::tests::wrong("\nstart: A a\n"), (2, String::from("no junction; each has a line, as in 'A: a b c'")));
+    }
+
+    /// The refusal of a text in a kind, as it is told.
+    fn refusal(kind: Option<u16>, text: &str) -> String {
+        let plan = Plan::parse(text).unwrap();
+        match plan.problem("x", plan.record(kind).unwrap_err()) {
+            crate::report::Problem::Refused(text) => text,
+            other => panic!("{other:?}"),
+        }
+    }
+
+    #[test]
+    fn refusals() {
+        let pieces = |place, far| {
+            format!("x:{place}: the plan is in pieces: junction {far} cannot be reached from junction A (refusal 9)")
+        };
+        assert_eq!(refusal(None, "A: a b\nstart: A b\nB: b a\nD: c\nE: c\n"), pieces(4, "D"));
+        assert_eq!(refusal(None, "C:\nA: a b\nstart: A b\nB: b a\n"), pieces(1, "C"));
+        assert_eq!(refusal(None, "A: a b c\nB: a b c\nstart: A b\n").split_once(": ").unwrap().0, "x");
+        let back = "x:2: trail d leads back to junction B, where it begins; no kind takes such a loop (refusal 11)";
+        assert_eq!(refusal(None, "A: a b\nB: b d d a\nstart: A b\n"), back);
+        let dead = "x:3: junction C is a dead end, which kind 1 doesn't take; kind 2 does (refusal 12)";
+        assert_eq!(refusal(Some(1), "A: a b\nB: b a c\nC: c\nstart: A b\n"), dead);
+        assert_eq!(
+            refusal(Some(3), "A: a\nB: a\nstart: A a\n"),
+            "x: there is no such kind of record; the kinds are 1 and 2 (refusal 2)"
+        );
+    }
+
+    #[test]
+    fn too_few_trails_and_too_many() {
+        let count = |line| format!("x:{line}: a plan has 1 to 4,096 trails with two ends each (refusal 3)");
+        assert_eq!(refusal(None, "#\nC:\nstart: C\n"), count(2));
+        assert_eq!(refusal(None, "start: C c\nC:\nD:\n"), count(2));
+        let ring = |trails| {
+            (0..trails)
+                .fold(String::from("start: 7 7\n"), |text, trail| text + &format!("{trail}: {trail} {}\n", (trail + 1) % trails))
+        };
+        assert_eq!(Plan::parse(&ring(4096)).unwrap().record(None).unwrap().len(), 1542);
+        assert_eq!(refusal(None, &ring(4097)), count(4097));
+        assert_eq!(refusal(None, &(ring(40_000) + "C:\n")), count(4097));
+    }
+
+    #[test]
+    fn new_and_old_names() {
+        let plan = Plan::parse("start: 0\n4 2 1 0 3 5\n").unwrap();
+        assert_eq!(text("x\ny", &plan), "# x y\nstart: A a\nA: a c b\nB: a b\nC: c\n");
+        let plan = Plan::parse("Hut: lake ridge\nTop: ridge lake\nstart: Top lake\n").unwrap();
+        assert_eq!(text("", &plan), "# \nstart: Top lake\nTop: lake ridge\nHut: lake ridge\n");
+        let names = |places: [usize; 6]| places.map(|place| letters(b'A', place)).join(" ");
+        assert_eq!(names([0, 25, 26, 51, 701, 702]), "A Z AA AZ ZZ AAA");
+    }
+}
