@@ -1,9 +1,10 @@
-//! Plan files: a plan as text, by numbers (`numbers`) or by junctions (`junctions`).
+//! Plan files: a plan as text, by numbers (`numbers`) or by junctions (`junctions`, `names`).
 //!
 //! One line `start: ..`; beside it one line of entries or, by junctions, a line `NAME: TRAIL ..` for each. `#` begins a
 //! comment, blank lines are skipped. Comments may be in any encoding that has ASCII's bytes.
 
 mod junctions;
+mod names;
 mod numbers;
 #[cfg(test)]
 mod tests;
@@ -14,8 +15,8 @@ pub use numbers::text;
 use crate::files::{bytes_of, text_of};
 use crate::options::Word;
 use crate::report::{in_words, Problem};
-use junctions::Names;
 use jurnadel::Refusal;
+use names::Names;
 use std::fmt::Display;
 
 /// A line, and what is wrong there.

@@ -20,7 +20,9 @@ pub fn plan(lines: &Lines) -> Result<Plan, Wrong> {
 fn start(words: &str) -> Result<u16, String> {
     match words.split_whitespace().count() {
         0 | 1 => entry(words),
-        _ => Err(String::from("a plan by numbers has 'start: DART'; 'start: JUNCTION TRAIL' is for a plan by junctions")),
+        _ => Err(String::from(
+            "'start: JUNCTION TRAIL' is for a plan by junctions, with lines as 'A: a b c'; a plan by numbers has 'start: DART'",
+        )),
     }
 }
 
@@ -76,7 +78,7 @@ mod tests {
         assert_eq!(wrong(""), (1, String::from("no line 'start: DART'")));
         assert_eq!(wrong("start: \u{1b}[7m\n").1, "not a number: '\\x1B[7m'");
         assert_eq!(wrong(&"x".repeat(1000)).1, format!("not a number: '{}..'", "x".repeat(20)));
-        assert!(wrong("0 1\nstart: A a\n").1.starts_with("a plan by numbers has 'start: DART'"));
+        assert!(wrong("0 1\nstart: A a\n").1.starts_with("'start: JUNCTION TRAIL' is for a plan by junctions"));
     }
 
     #[test]
