@@ -17,8 +17,9 @@ Writes the record of each plan file, a line of hexadecimal bytes each.
   -o FILE       to this file, which must not be there; not written if any plan is refused
   --force       replace the file if it is there
 
-PLAN is a plan file, - for standard input: a line 'start: DART', a line of entries (the next dart counterclockwise,
-for each dart), and comments after #.
+PLAN is a plan file, - for standard input, with comments after #. By junctions it has a line 'JUNCTION: TRAIL TRAIL ..' for
+each, its trails counterclockwise, and a line 'start: JUNCTION TRAIL'; by numbers a line 'start: DART' and a line of
+entries (the next dart counterclockwise, for each dart).
 ";
 
 fn run(words: &[Word], report: &mut Report) -> Done {

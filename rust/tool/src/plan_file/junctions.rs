@@ -93,12 +93,11 @@ impl<'a> Reader<'a> {
 
 /// A name that can be told from others and that a terminal can take.
 fn plain(name: &str) -> Result<String, String> {
-    let wrong = |what| Err(format!("{what} in the name '{}'", beginning(name)));
     if name.contains(char::REPLACEMENT_CHARACTER) {
-        return wrong("what is not UTF-8");
+        return Err(format!("the name '{}' is not in UTF-8", beginning(name)));
     }
     if name.contains(acts) {
-        return wrong("a control character");
+        return Err(format!("the name '{}' has a control character", beginning(name)));
     }
     Ok(name.to_string())
 }
@@ -213,9 +212,9 @@ mod tests {
         begins("c c", "no colon; a junction's line is its name, a colon and its trails");
         begins("C: c D: c", "a second colon; ");
         begins("Blue lake: c c", "'Blue lake': a name is one word; ");
-        begins("T\u{FFFD}r: c c", "what is not UTF-8 in the name 'T\u{FFFD}r'");
-        begins("C: \u{FFFD} c", "what is not UTF-8 in the name '\u{FFFD}'");
-        begins("C: \u{1b}[7m c", "a control character in the name '\\x1B[7m'");
+        begins("T\u{FFFD}r: c c", "the name 'T\u{FFFD}r' is not in UTF-8");
+        begins("C: \u{FFFD} c", "the name '\u{FFFD}' is not in UTF-8");
+        begins("C: \u{1b}[7m c", "the name '\\x1B[7m' has a control character");
         assert_eq!(super::tests::wrong("\nstart: A a\n"), (2, String::from("no junction; each has a line, as in 'A: a b c'")));
     }
 
