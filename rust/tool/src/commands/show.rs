@@ -9,9 +9,7 @@ pub const COMMAND: Command =
     Command { name: "show", summary: "print a plan by junctions or by numbers, with its counts", help: HELP, run };
 
 const HELP: &str = "\
-usage: jurnadel show [--junctions | --numbers] [-o FILE [--force]] PLAN
-       jurnadel show [--junctions | --numbers] [-o FILE [--force]] RECORD
-       jurnadel show [--junctions | --numbers] [-o FILE [--force]] SHELF NUMBER
+usage: jurnadel show [--junctions | --numbers] [-o FILE [--force]] PLAN | RECORD | SHELF NUMBER
 
 Prints a plan as a plan file, with its numbers of junctions, trails and areas as a comment. It may stand in a plan file
 of either form, in a record (in hexadecimal or as bytes) or on a shelf; - is standard input.

@@ -129,13 +129,11 @@ impl Lines<'_> {
         for (number, line) in (1..).zip(text.lines()) {
             lines.last = number;
             let line = line.split('#').next().unwrap_or("").trim();
-            match line.split_once(':') {
-                Some((word, _)) if word.trim_end() == "start" && lines.start.is_some() => {
-                    return Err((number, String::from("a second line of start")));
-                }
-                Some((word, words)) if word.trim_end() == "start" => lines.start = Some((number, words.trim())),
+            match line.split_once(':').filter(|(word, _)| word.trim_end() == "start") {
+                Some(_) if lines.start.is_some() => return Err((number, String::from("a second line of start"))),
+                Some((_, words)) => lines.start = Some((number, words.trim())),
                 None if line.is_empty() => {}
-                _ => lines.others.push((number, line)),
+                None => lines.others.push((number, line)),
             }
         }
         Ok(lines)
