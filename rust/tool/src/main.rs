@@ -5,7 +5,8 @@
 //! * `commands`: what each command does, with its help; `help`: the overview;
 //! * `options`: the words of the command line; `names`: names as a terminal can take them;
 //! * `files`: files read whole, and files that appear whole or not at all;
-//! * `plan_file`, `record_file`: two kinds of file;
+//! * `plan_file`, `record_file`: two kinds of file; `source`: a plan in whatever file;
+//! * `shape`: junctions, areas and the contour walk of a turning order;
 //! * `shelf`: a shelf in memory, with its `index`; `shelf_file`: its file, `lock` and `sums`; `survey`: what stands on a shelf
 //!   that may be damaged;
 //! * `planar_code`: the interchange format that `import` reads;
@@ -23,8 +24,10 @@ mod plan_file;
 mod planar_code;
 mod record_file;
 mod report;
+mod shape;
 mod shelf;
 mod shelf_file;
+mod source;
 mod stdout;
 mod sums;
 mod survey;

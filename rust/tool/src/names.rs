@@ -27,7 +27,7 @@ pub fn beginning(word: &str) -> String {
 }
 
 /// Whether a terminal might act on a character: controls, and marks that change the direction of writing.
-fn acts(character: char) -> bool {
+pub fn acts(character: char) -> bool {
     character.is_control() || matches!(character, '\u{200E}' | '\u{200F}' | '\u{2028}'..='\u{202E}' | '\u{2066}'..='\u{2069}')
 }
 

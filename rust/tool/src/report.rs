@@ -55,6 +55,11 @@ pub fn in_words(refusal: Refusal) -> String {
         Refusal::SHELF_FULL => "the shelf is full: the record is not on it and doesn't fit",
         _ => refusal.meaning(),
     };
+    with_number(words, refusal)
+}
+
+/// Words for a refusal, with its number behind them.
+pub fn with_number(words: &str, refusal: Refusal) -> String {
     match refusal.characteristic() {
         Some(characteristic) => format!("{words} (refusal 10, characteristic {characteristic})"),
         None => format!("{words} (refusal {})", refusal.number()),

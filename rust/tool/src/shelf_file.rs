@@ -53,6 +53,13 @@ pub fn records<'a>(path: &Word, bytes: &'a [u8]) -> Result<Walk<'a>, Problem> {
     Ok(jurnadel::walk_from(bytes, bytes.len(), 0))
 }
 
+/// The record of this number on a shelf file.
+pub fn record(path: &Word, number: usize) -> Result<Vec<u8>, Problem> {
+    let shelf = load(path)?;
+    let record = jurnadel::fetch(&shelf, shelf.len(), number).map_err(|refusal| refused(path, refusal))?;
+    Ok(record.to_vec())
+}
+
 /// A refusal of the shelf's calls; of 14 also what to do about it.
 pub fn refused(path: &Word, refusal: Refusal) -> Problem {
     match refusal.number() {

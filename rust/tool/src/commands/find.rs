@@ -1,6 +1,6 @@
 //! `jurnadel find`.
 
-use super::{plan_problem, Command, Done};
+use super::{Command, Done};
 use crate::inputs::{self, FILES_FROM};
 use crate::options::{Options, Word};
 use crate::plan_file::Plan;
@@ -47,7 +47,7 @@ fn numbers(shelf: &Shelf, path: &Word, kinds: &[u16]) -> Result<Vec<usize>, Prob
     let records = kinds.iter().map(|&kind| plan.record(Some(kind)));
     let (records, refused): (Vec<_>, Vec<_>) = records.partition(Result::is_ok);
     match refused.into_iter().next_back() {
-        Some(Err(refusal)) if records.is_empty() => Err(plan_problem(path, &plan, refusal)),
+        Some(Err(refusal)) if records.is_empty() => Err(plan.problem(path, refusal)),
         _ => Ok(records.iter().flatten().filter_map(|record| shelf.find(record)).collect()),
     }
 }

@@ -9,6 +9,7 @@ mod merge;
 mod read;
 mod salvage;
 mod shelve;
+mod show;
 mod stats;
 mod verify;
 mod write;
@@ -17,7 +18,7 @@ use crate::files;
 use crate::options::{Options, Word};
 use crate::plan_file::{self, Plan};
 use crate::report::{Problem, Report};
-use jurnadel::Refusal;
+use crate::shape;
 
 pub type Done = Result<(), Problem>;
 
@@ -33,8 +34,9 @@ pub struct Command {
 }
 
 /// The commands, as the overview lists them.
-pub const COMMANDS: [Command; 12] = [
+pub const COMMANDS: [Command; 13] = [
     check::COMMAND,
+    show::COMMAND,
     write::COMMAND,
     read::COMMAND,
     shelve::COMMAND,
@@ -51,18 +53,22 @@ pub const COMMANDS: [Command; 12] = [
 /// The record of a plan file.
 pub fn record_of(path: &Word, kind: Option<u16>) -> Result<Vec<u8>, Problem> {
     let plan = Plan::load(path)?;
-    plan.record(kind).map_err(|refusal| plan_problem(path, &plan, refusal))
+    plan.record(kind).map_err(|refusal| plan.problem(path, refusal))
 }
 
-/// A refusal of a plan, with file and line.
-pub fn plan_problem(path: &Word, plan: &Plan, refusal: Refusal) -> Problem {
-    Problem::refused(format!("{path}:{}", plan.line_of(refusal)), refusal)
+/// The plan file of a sound plan, by junctions or by numbers, with its counts as a comment.
+pub fn plan_text(plan: &Plan, by_junctions: bool) -> String {
+    let comment = counts(&plan.order);
+    match by_junctions {
+        true => plan_file::junctions_text(&comment, plan),
+        false => plan_file::text(&comment, &plan.order, plan.start),
+    }
 }
 
-/// The plan file of a record.
-pub fn plan_text(record: &[u8]) -> Result<String, Refusal> {
-    let order = jurnadel::plan_of(record)?;
-    Ok(plan_file::text(&counted(order.len() / 2, "trail"), &order, 0))
+/// How many junctions, trails and areas a sound plan has.
+pub fn counts(order: &[u16]) -> String {
+    let (junctions, areas) = (shape::junctions(order).count, shape::areas(order).count);
+    [counted(junctions, "junction"), counted(order.len() / 2, "trail"), counted(areas, "area")].join(", ")
 }
 
 /// To the file of `-o`, which is none of the files that were read, or to standard output.

@@ -2,28 +2,31 @@
 
 use super::{plan_text, put_out, Command, Done};
 use crate::options::{Options, Word};
+use crate::plan_file::Plan;
 use crate::record_file;
 use crate::report::{Problem, Report};
 
 pub const COMMAND: Command = Command { name: "read", summary: "read a record back as a plan file", help: HELP, run };
 
 const HELP: &str = "\
-usage: jurnadel read [--raw] [-o FILE [--force]] [RECORD]
+usage: jurnadel read [--raw] [--junctions] [-o FILE [--force]] [RECORD]
 
 Reads a record, from standard input if RECORD is left out or -, and prints its plan as a plan file, in standard
 numbering with start 0.
 
   --raw         the record is bytes, not hexadecimal
+  --junctions   the plan file by junctions, as jurnadel show prints it
   -o FILE       to this file, which must not be there
   --force       replace the file if it is there
 ";
 
 fn run(words: &[Word], report: &mut Report) -> Done {
-    let options = Options::parse(words, &["--raw", "--force"], &["-o"])?;
+    let options = Options::parse(words, &["--raw", "--junctions", "--force"], &["-o"])?;
     let input = Word::from("-");
     let path = if options.words.is_empty() { &input } else { options.only("RECORD")? };
     let (record, line) = record_file::load(path, options.has("--raw"))?;
     let place = line.map_or(path.to_string(), |line| format!("{path}:{line}"));
-    let text = plan_text(&record).map_err(|refusal| Problem::refused(place, refusal))?;
+    let plan = Plan::of_record(&record).map_err(|refusal| Problem::refused(place, refusal))?;
+    let text = plan_text(&plan, options.has("--junctions"));
     put_out(&options, std::slice::from_ref(path), text.as_bytes(), report)
 }

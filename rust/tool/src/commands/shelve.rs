@@ -1,6 +1,6 @@
 //! `jurnadel shelve`.
 
-use super::{counted, plan_problem, Command, Done};
+use super::{counted, Command, Done};
 use crate::files::bytes_of;
 use crate::inputs::{self, FILES_FROM};
 use crate::options::{Options, Word};
@@ -76,7 +76,7 @@ fn shelve_record(shelf: &mut ShelfFile, file: &Word) -> Shelved {
 
 fn shelve_plan(shelf: &mut ShelfFile, file: &Word, kind: Option<u16>) -> Shelved {
     let plan = Plan::load(file)?;
-    let record = plan.record(kind).map_err(|refusal| plan_problem(file, &plan, refusal))?;
+    let record = plan.record(kind).map_err(|refusal| plan.problem(file, refusal))?;
     let (number, new) = shelf.shelf.shelve(&record).map_err(|refusal| Problem::refused(file, refusal))?;
     if !new {
         return Ok((number, "already there"));

@@ -19,8 +19,9 @@ Writes the record of each plan file, a line of hexadecimal bytes each.
   --force             replace the file if it is there
   --files-from LIST   also the files that LIST names, a line each or NUL-separated; - is standard input
 
-PLAN is a plan file, - for standard input, or a folder: the .plan files in it. A plan file has a line 'start: DART', a line of entries (the next dart counterclockwise,
-for each dart), and comments after #.
+PLAN is a plan file, - for standard input, or a folder: the .plan files in it. # begins a comment. By junctions a plan file has
+a line 'JUNCTION: TRAIL TRAIL ..' for each, its trails counterclockwise, and a line 'start: JUNCTION TRAIL'; by numbers a
+line 'start: DART' and a line of entries (the next dart counterclockwise, for each dart).
 ";
 
 fn run(words: &[Word], report: &mut Report) -> Done {

@@ -1,0 +1,33 @@
+//! `jurnadel show`.
+
+use super::{plan_text, put_out, Command, Done};
+use crate::options::{Options, Word};
+use crate::report::Report;
+use crate::source;
+
+pub const COMMAND: Command =
+    Command { name: "show", summary: "print a plan by junctions or by numbers, with its counts", help: HELP, run };
+
+const HELP: &str = "\
+usage: jurnadel show [--junctions | --numbers] [-o FILE [--force]] PLAN | RECORD | SHELF NUMBER
+
+Prints a plan as a plan file, with its numbers of junctions, trails and areas as a comment. It may stand in a plan file
+of either form, in a record (in hexadecimal or as bytes) or on a shelf; - is standard input.
+
+  --junctions   by junctions (this is taken if nothing is said); without names of its own the plan gets A, B, .. for its
+                junctions and a, b, .. for its trails, in the order of the contour walk
+  --numbers     by numbers
+  -o FILE       to this file, which must not be there
+  --force       replace the file if it is there
+
+A loop is no obstacle here.
+";
+
+fn run(words: &[Word], report: &mut Report) -> Done {
+    let options = Options::parse(words, &["--junctions", "--numbers", "--force"], &["-o"])?;
+    options.not_both("--junctions", "--numbers")?;
+    let (plan, name) = source::load(&options.words)?;
+    plan.sound().map_err(|refusal| plan.problem(name, refusal))?;
+    let text = plan_text(&plan, !options.has("--numbers"));
+    put_out(&options, &options.words[..1], text.as_bytes(), report)
+}

@@ -1,0 +1,140 @@
+//! What both forms have in common.
+
+use super::*;
+use crate::shape::junctions;
+
+/// A small source of random numbers (splitmix64).
+struct Random(u64);
+
+impl Random {
+    fn below(&mut self, bound: usize) -> usize {
+        self.0 = self.0.wrapping_add(0x9E37_79B9_7F4A_7C15);
+        let z = (self.0 ^ (self.0 >> 30)).wrapping_mul(0xBF58_476D_1CE4_E5B9);
+        let z = (z ^ (z >> 27)).wrapping_mul(0x94D0_49BB_1331_11EB);
+        ((z ^ (z >> 31)) % bound as u64) as usize
+    }
+
+    /// A planar plan with this many trails, grown trail by trail: one to a new junction, or one between two corners of an
+    /// area. The corner after a dart is named by it.
+    fn plan(&mut self, trails: usize) -> Plan {
+        let mut order: Vec<u16> = if self.below(2) == 0 { vec![0, 1] } else { vec![1, 0] };
+        while order.len() < 2 * trails {
+            let (new, corner) = (order.len(), self.below(order.len()));
+            let other = (0..self.below(6)).fold(corner, |corner, _| usize::from(order[corner]) ^ 1);
+            order.extend([new as u16, new as u16 + 1]);
+            order.swap(corner, new);
+            if self.below(3) > 0 {
+                order.swap(other, new + 1);
+            }
+        }
+        let start = self.below(order.len()) as u16;
+        Plan { order, start, written: Written::Record }
+    }
+
+    /// Damages some bytes.
+    fn damage(&mut self, text: &str) -> Vec<u8> {
+        let mut bytes = text.as_bytes().to_vec();
+        for _ in 0..=self.below(4) {
+            let place = self.below(bytes.len() + 1);
+            let byte = b":#\n\r \0a9A\xFC\x1B"[self.below(11)];
+            match (self.below(4), bytes.get_mut(place)) {
+                (0, Some(_)) => drop(bytes.remove(place)),
+                (1, Some(there)) => *there = self.below(256) as u8,
+                (2, Some(there)) => *there = byte,
+                _ => bytes.insert(place, byte),
+            }
+        }
+        bytes
+    }
+}
+
+/// The order with its darts numbered as they are met from the start by entries and opposites.
+fn renumbered(plan: &Plan) -> Vec<usize> {
+    let mut number = vec![usize::MAX; plan.order.len()];
+    let mut met = vec![usize::from(plan.start)];
+    number[met[0]] = 0;
+    for at in 0..plan.order.len() {
+        for dart in [usize::from(plan.order[met[at]]), met[at] ^ 1] {
+            if number[dart] == usize::MAX {
+                number[dart] = met.len();
+                met.push(dart);
+            }
+        }
+    }
+    met.iter().flat_map(|&dart| [number[usize::from(plan.order[dart])], number[dart ^ 1]]).collect()
+}
+
+#[test]
+fn one_form_and_the_other() {
+    let mut random = Random(1);
+    for turn in 0..2000 {
+        let trails = if turn == 0 { 4096 } else { 1 + random.below(40) };
+        let plan = random.plan(trails);
+        assert_eq!(plan.sound(), Ok(()));
+        let named = Plan::parse(&junctions_text("", &plan)).unwrap();
+        let again = Plan::parse(&text("", &named.order, named.start)).unwrap();
+        let kept = Plan::parse(&junctions_text("", &named)).unwrap();
+        for other in [&named, &again, &kept] {
+            assert_eq!(renumbered(other), renumbered(&plan));
+            assert_eq!(other.record(None), plan.record(None));
+        }
+        assert_eq!(junctions_text("", &kept), junctions_text("", &plan));
+    }
+}
+
+#[test]
+fn some_random_plans_have_loops_and_some_have_none() {
+    let mut random = Random(2);
+    let count = (0..100).filter(|_| random.plan(4).record(None).is_ok()).count();
+    assert!((10..90).contains(&count), "{count}");
+    assert!((0..100).any(|_| junctions(&random.plan(9).order).count == 4));
+}
+
+#[test]
+fn damaged_plan_files() {
+    let texts = [
+        "start: 0\n4 2 1 0 3 5\n",
+        "# T\u{FC}r\nstart: A a\nA: a b c\nB: b a d\nC: c d # here\n",
+        "start : Hut ridge\r\nHut: ridge lake \r\nTop: lake ridge x\r\nFar: x\r\n",
+    ];
+    let mut random = Random(3);
+    let mut outcomes = [0; 3];
+    for turn in 0..10_000 {
+        let bytes = random.damage(texts[turn % texts.len()]);
+        let Some(text) = text_of(&bytes) else { continue };
+        let outcome = match Plan::parse(&text).map(|plan| plan.record(None).map_err(|refusal| plan.problem("file", refusal))) {
+            Ok(Ok(_)) => 0,
+            Ok(Err(problem)) => 1 + usize::from(!matches!(problem, Problem::Refused(_))),
+            Err((line, what)) => {
+                assert!((1..=text.lines().count().max(1)).contains(&line) && !what.contains(char::is_control), "{line}: {what}");
+                2
+            }
+        };
+        outcomes[outcome] += 1;
+    }
+    assert!(outcomes.iter().all(|&count| count > 200), "{outcomes:?}");
+}
+
+#[test]
+fn texts() {
+    let plan = |bytes: &[u8]| Plan::parse(&text_of(bytes).unwrap()).map(|plan| (plan.start, plan.order));
+    let pair = Ok((0, vec![3, 2, 1, 0]));
+    assert_eq!(plan(b"start: 0\r\n3 2 1 0\r\n"), pair);
+    assert_eq!(plan(b"\xEF\xBB\xBFstart: 0\n3 2 1 0"), pair);
+    assert_eq!(plan(b"# S\xFCd, S\xC3\xBCd\nstart: 0\n3 2 1 0 # \xFF\n"), pair);
+    assert_eq!(plan(b"start: 0\n3 2 1 \xFC\n").unwrap_err().0, 2);
+    assert_eq!(plan(b"\xEF\xBB\xBFA: a b # S\xFCd\r\nstart: A a\r\nB: b a\r\n"), Ok((0, vec![2, 3, 0, 1])));
+    assert_eq!(plan(b"start: A a\nA: a S\xFCd\nB: S\xFBd a\n").unwrap_err().0, 2);
+    assert_eq!(text_of(b"\xFF\xFEs\0t\0"), None);
+}
+
+#[test]
+fn kinds() {
+    let kind = |text: &str| Plan::parse(text).unwrap().record(None).map(|record| record[2]);
+    assert_eq!(kind("start: 0\n3 2 1 0\n"), Ok(1));
+    assert_eq!(kind("start: 0\n0 1\n"), Ok(2));
+    assert_eq!(kind("start: 0\n1 0\n").unwrap_err().number(), 11);
+    assert_eq!(kind("start: A a\nA: a b\nB: b a\n"), Ok(1));
+    assert_eq!(kind("start: A a\nA: a\nB: a\n"), Ok(2));
+    assert_eq!(kind("start: A a\nA: a a\n").unwrap_err().number(), 11);
+}
