@@ -19,6 +19,7 @@ override JURNADEL_LIB_DIR := $(abspath $(JURNADEL_LIB_DIR))
 LIBRARY := $(JURNADEL_LIB_DIR)/libjurnadel.a
 CARGO_FLAGS := --release --offline --quiet --manifest-path rust/Cargo.toml --target-dir build/rust
 TOOL := build/rust/release/jurnadel
+MAN_PAGE := build/jurnadel.1
 SHELF := build/samples.shelf
 
 # Documents and definitions that are installed; the documents name the definitions by the folder they are installed in.
@@ -28,7 +29,7 @@ SPECS := crates/model/specs
 below_prefix = $(patsubst $(PREFIX)/%,$${prefix}/%,$(1))
 full_paths = $(foreach folder,$(FOLDERS),$(if $(filter /%,$($(folder))),,$(error $(folder)=$($(folder)) is not a full path)))
 
-.PHONY: all library tool lines bench second_coder vectors rust-tests test install install-lib uninstall clean help
+.PHONY: all library tool man lines bench second_coder vectors rust-tests test install install-lib uninstall clean help
 
 all: tool ## proves and builds library and tool, and shelves the sample plans (the default)
 	@rm -f $(SHELF)
@@ -43,6 +44,9 @@ library: $(LIBRARY) ## proves and builds the library
 
 tool: $(LIBRARY) ## builds the tool, build/rust/release/jurnadel
 	cargo build $(CARGO_FLAGS) -p jurnadel-tool
+
+man: tool ## makes the man page, build/jurnadel.1, with the help of each command
+	man/commands $(TOOL) | sed -e 's/@VERSION@/$(VERSION)/' -e '/@COMMANDS@/{r /dev/stdin' -e 'd}' man/jurnadel.1.in > $(MAN_PAGE)
 
 lines: $(LIBRARY) ## builds the library's side of the line protocol, for tests/compare
 	cargo build $(CARGO_FLAGS) -p proved_coder
@@ -66,10 +70,10 @@ test: vectors rust-tests ## the gate: all tests, then every proof from nothing
 	tests/tool/run
 	rt ci
 
-install: tool install-lib ## installs the tool, its man page and all of install-lib
+install: tool man install-lib ## installs the tool, its man page and all of install-lib
 	install -d "$(DESTDIR)$(BINDIR)" "$(DESTDIR)$(MANDIR)/man1"
 	install -m 755 $(TOOL) "$(DESTDIR)$(BINDIR)/jurnadel"
-	install -m 644 man/jurnadel.1 "$(DESTDIR)$(MANDIR)/man1/jurnadel.1"
+	install -m 644 $(MAN_PAGE) "$(DESTDIR)$(MANDIR)/man1/jurnadel.1"
 
 install-lib: $(LIBRARY) ## installs library, header, pkg-config file and documents; needs no cargo
 	@$(full_paths)
