@@ -56,9 +56,9 @@ fn put(path: &Path, old: Option<&Metadata>, bytes: &[u8]) -> io::Result<()> {
     let mut staged = Staged::begin(path)?;
     staged.write(bytes)?;
     match old {
-        Some(old) => staged.like(old).and_then(|()| staged.replace()).map(drop)?,
+        Some(old) => staged.like(old).and_then(|()| staged.replace())?,
         None => staged.create()?,
-    }
+    };
     sync_folder_of(path)
 }
 
@@ -112,20 +112,25 @@ impl Staged {
         self.file.set_permissions(other.permissions())
     }
 
-    /// Puts it where no file is; if one is there, this is an error.
-    pub fn create(self) -> io::Result<()> {
+    /// Puts it where no file is; if one is there, this is an error. Hands it over, not locked any more.
+    pub fn create(self) -> io::Result<File> {
         self.still_ours()?;
         match fs::hard_link(&self.new, &self.path) {
             // Where the file system has no links.
-            Err(error) if error.kind() != ErrorKind::AlreadyExists && !self.path.exists() => fs::rename(&self.new, &self.path),
-            done => done,
+            Err(error) if error.kind() != ErrorKind::AlreadyExists && !self.path.exists() => fs::rename(&self.new, &self.path)?,
+            linked => linked?,
         }
+        self.handed_over()
     }
 
-    /// Puts it in the place of the file that is there, if any, and hands it over, not locked any more.
+    /// Puts it in the place of the file that is there, if any. Hands it over, not locked any more.
     pub fn replace(self) -> io::Result<File> {
         self.still_ours()?;
         fs::rename(&self.new, &self.path)?;
+        self.handed_over()
+    }
+
+    fn handed_over(&self) -> io::Result<File> {
         self.file.unlock()?;
         self.file.try_clone()
     }

@@ -3,8 +3,8 @@
 //! A shelf file is replaced whole (`files`), its checksums (`sums`) just before it. A run that shelves holds a lock on `SHELF.lock`
 //! from before it reads the file until it ends. Before each replacement it makes sure that the lock file is still its own, and
 //! the shelf still the file that it read or wrote last, with those bytes; from this look until it is replaced the shelf file is
-//! locked too. So runs lose nothing to each other even where somebody removes the lock file, and a shelf that somebody put
-//! back from a copy stays. Runs that only read need no lock: they find the old file or the new one.
+//! locked too. A new shelf is put only where none is. So runs lose nothing to each other even where somebody removes the lock
+//! file, and a shelf that somebody put back from a copy stays. Runs that only read need no lock: they find the old file or the new one.
 
 use crate::files::{beside, leads_to, led_to, sync_folder_of, text_of, Staged};
 use crate::lock::Lock;
@@ -139,55 +139,58 @@ impl ShelfFile {
         }
     }
 
-    /// Replaces the file. If that fails there is no file where there was none.
+    /// Replaces the file, or makes it.
     pub fn write(&mut self) -> Result<(), Problem> {
         self.shelf.judged().map_err(|refusal| damaged(&self.name, refusal))?;
-        let made = self.file.is_none();
-        let replaced = self.replace();
-        if let (Err(_), true, Some(file)) = (&replaced, made, &self.file) {
-            if leads_to(&self.path, file) {
-                let _ = fs::remove_file(&self.path);
-            }
+        let written = self.put_in_place().and_then(|file| {
+            self.file = Some(file);
+            (self.saved, self.summed) = (self.shelf.bytes().len(), self.shelf.sums().len());
+            sync_folder_of(&self.path)
+        });
+        written.map_err(|error| Problem::file(&self.name, format!("{error}; what was not printed is not stored")))
+    }
+
+    /// Puts the checksums and the shelf in their places. The old shelf is locked from the last look at it on.
+    fn put_in_place(&self) -> io::Result<File> {
+        let sums_path = sums::path_of(&self.path);
+        let (mut sums, mut shelf) = (Staged::begin(&sums_path)?, Staged::begin(&self.path)?);
+        if let Some(old) = &self.file {
+            let old = old.metadata()?;
+            sums.like(&old)?;
+            shelf.like(&old)?;
         }
-        replaced.map_err(|error| Problem::file(&self.name, format!("{error}; what was not printed is not stored")))
-    }
-
-    /// Replaces the file. One that isn't there is first made, empty, so that it can be locked.
-    fn replace(&mut self) -> io::Result<()> {
-        let old = match self.file.take() {
-            Some(file) => file,
-            None => File::create_new(&self.path)?,
-        };
-        let replaced = self.put_in_place_of(&old);
-        self.file = Some(old);
-        self.file = Some(replaced?);
-        (self.saved, self.summed) = (self.shelf.bytes().len(), self.shelf.sums().len());
-        sync_folder_of(&self.path)
-    }
-
-    /// Puts the checksums and the shelf in their places, while the old shelf is locked.
-    fn put_in_place_of(&self, old: &File) -> io::Result<File> {
-        let (mut sums, mut shelf) = (Staged::begin(&sums::path_of(&self.path))?, Staged::begin(&self.path)?);
-        let metadata = old.metadata()?;
-        sums.like(&metadata)?;
-        shelf.like(&metadata)?;
         sums.write(sums::text(self.shelf.sums()).as_bytes())?;
         shelf.write(self.shelf.bytes())?;
-        old.lock()?;
-        self.still_ours(old)?;
-        sums.replace()?;
-        shelf.replace()
+        self.file.as_ref().map_or(Ok(()), File::lock)?;
+        self.still_ours()?;
+        let sums = sums.replace()?;
+        match self.file {
+            Some(_) => shelf.replace(),
+            // If somebody else has just made a shelf there, these are not its checksums.
+            None => shelf.create().inspect_err(|_| remove(&sums_path, &sums)),
+        }
     }
 
     /// Whether the lock and the shelf are still those that this run took, read or wrote last.
-    fn still_ours(&self, old: &File) -> io::Result<()> {
+    fn still_ours(&self) -> io::Result<()> {
+        let same = match &self.file {
+            Some(old) => leads_to(&self.path, old) && fs::read(&self.path)? == self.shelf.bytes()[..self.saved],
+            None => !fs::exists(&self.path)?,
+        };
         if !self.lock.is_held() {
             Err(io::Error::other(format!("{} was removed during the run", shown(beside(&self.path, ".lock")))))
-        } else if !leads_to(&self.path, old) || fs::read(&self.path)? != self.shelf.bytes()[..self.saved] {
+        } else if !same {
             Err(io::Error::other("somebody else has changed or replaced the shelf during the run"))
         } else {
             Ok(())
         }
+    }
+}
+
+/// Removes a file if the path still leads to it.
+fn remove(path: &Path, file: &File) {
+    if leads_to(path, file) {
+        let _ = fs::remove_file(path);
     }
 }
 
