@@ -6,15 +6,18 @@
 //! * `options`: the words of the command line; `names`: names as a terminal can take them;
 //! * `files`: files read whole, and files that appear whole or not at all;
 //! * `plan_file`, `record_file`, `shelf_file`: the three kinds of file;
-//! * `planar_code`: the interchange format that `import` reads;
+//! * `plan_folder`: folders of plan files;
+//! * `planar_code`: the interchange format of `import` and `export`; `joining`: which of its trail ends belong together;
 //! * `report`: messages and the exit status.
 
 mod commands;
 mod files;
 mod help;
+mod joining;
 mod names;
 mod options;
 mod plan_file;
+mod plan_folder;
 mod planar_code;
 mod record_file;
 mod report;
