@@ -1,6 +1,7 @@
 //! The commands: a file each, and what they share.
 
 mod check;
+mod export;
 mod fetch;
 mod import;
 mod list;
@@ -29,7 +30,7 @@ pub struct Command {
 }
 
 /// The commands, as the overview lists them.
-pub const COMMANDS: [Command; 8] = [
+pub const COMMANDS: [Command; 9] = [
     write::COMMAND,
     read::COMMAND,
     check::COMMAND,
@@ -38,6 +39,7 @@ pub const COMMANDS: [Command; 8] = [
     list::COMMAND,
     verify::COMMAND,
     import::COMMAND,
+    export::COMMAND,
 ];
 
 /// The record of a plan file.
