@@ -48,18 +48,24 @@ pub fn put_out(target: &Word, force: bool, inputs: &[Word], bytes: &[u8]) -> Res
             return wrong("this file is there already; --force replaces it");
         }
     }
-    put(&path, old.as_ref(), bytes).map_err(|error| Problem::file(target, error))
+    let put = place(&path, old.as_ref(), bytes).and_then(|()| sync_folder_of(&path));
+    put.map_err(|error| Problem::file(target, error))
 }
 
-/// Puts a file in its place: a new one, or one that replaces the old.
-fn put(path: &Path, old: Option<&Metadata>, bytes: &[u8]) -> io::Result<()> {
+/// Puts a file in its place: a new one, or one that replaces the old. The change of names in its folder isn't synced.
+pub fn place(path: &Path, old: Option<&Metadata>, bytes: &[u8]) -> io::Result<()> {
     let mut staged = Staged::begin(path)?;
     staged.write(bytes)?;
     match old {
-        Some(old) => staged.like(old).and_then(|()| staged.replace())?,
-        None => staged.create()?,
-    };
-    sync_folder_of(path)
+        Some(old) => staged.like(old).and_then(|()| staged.replace()),
+        None => staged.create(),
+    }
+    .map(drop)
+}
+
+/// Removes what a run that was killed has left beside a file.
+pub fn clear_beside(path: &Path) -> io::Result<()> {
+    clear(&beside(path, ".new"))
 }
 
 fn metadata_of(input: &Word) -> Option<Metadata> {
@@ -151,19 +157,27 @@ impl Drop for Staged {
     }
 }
 
-/// Waits until nobody writes a file, and removes it.
+/// Waits until nobody writes a file, and removes it, unless it is gone.
 fn clear(new: &Path) -> io::Result<()> {
-    let regular = fs::symlink_metadata(new).is_ok_and(|found| found.is_file());
-    if let (true, Ok(left)) = (regular, File::options().read(true).custom_flags(O_NONBLOCK).open(new)) {
-        left.lock()?;
-        if !leads_to(new, &left) {
-            return Ok(());
+    match clear_found(new) {
+        Err(error) if error.kind() == ErrorKind::NotFound => Ok(()),
+        done => done,
+    }
+}
+
+/// As [`clear`], of a file that is there. Once it is gone another run may have begun the next one, which must stay.
+fn clear_found(new: &Path) -> io::Result<()> {
+    if fs::symlink_metadata(new)?.is_file() {
+        match File::options().read(true).custom_flags(O_NONBLOCK).open(new) {
+            Ok(left) => {
+                left.lock()?;
+                return if leads_to(new, &left) { fs::remove_file(new) } else { Ok(()) };
+            }
+            Err(error) if error.kind() == ErrorKind::NotFound => return Ok(()),
+            Err(_) => {}
         }
     }
-    match fs::remove_file(new) {
-        Err(error) if error.kind() != ErrorKind::NotFound => Err(error),
-        _ => Ok(()),
-    }
+    fs::remove_file(new)
 }
 
 /// Whether a path still leads to an open file.

@@ -5,11 +5,11 @@
 //! * `commands`: what each command does, with its help; `help`: the overview;
 //! * `options`: the words of the command line; `names`: names as a terminal can take them;
 //! * `files`: files read whole, and files that appear whole or not at all;
-//! * `plan_file`, `record_file`: two kinds of file; `source`: a plan in whatever file;
+//! * `plan_file`, `record_file`: two kinds of file; `plan_folder`: folders of plan files; `source`: a plan in whatever file;
 //! * `shape`: junctions, areas and the contour walk of a turning order;
 //! * `shelf`: a shelf in memory, with its `index`; `shelf_file`: its file, `lock` and `sums`; `survey`: what stands on a shelf
 //!   that may be damaged;
-//! * `planar_code`: the interchange format that `import` reads;
+//! * `planar_code`: the interchange format of `import` and `export`; `joining`: which of its trail ends belong together;
 //! * `report`: messages and the exit status; `stdout`: whether standard output was closed.
 
 mod commands;
@@ -17,10 +17,12 @@ mod files;
 mod help;
 mod index;
 mod inputs;
+mod joining;
 mod lock;
 mod names;
 mod options;
 mod plan_file;
+mod plan_folder;
 mod planar_code;
 mod record_file;
 mod report;

@@ -28,23 +28,32 @@ pub fn load(path: &Word) -> Result<Vec<u8>, Problem> {
     }
 }
 
-/// As [`load`], of a shelf whose records have the checksums that are kept for them.
-pub fn load_checked(path: &Word) -> Result<Vec<u8>, Problem> {
-    let bytes = load(path)?;
-    let sums: Vec<u32> = records(path, &bytes)?.map(sums::crc).collect();
-    check_sums(path, &led_to(path.as_ref()), &sums).map(|_| bytes)
+/// The checksums that are kept for a shelf file.
+pub fn load_sums(path: &Word) -> Result<Vec<u32>, Problem> {
+    sums::load(&led_to(path.as_ref()))
 }
 
-/// How many checksums are kept for a shelf; a record with another one is found wrong.
-fn check_sums(name: &Word, path: &Path, sums: &[u32]) -> Result<usize, Problem> {
-    let kept = sums::load(path)?;
-    match sums::first_changed(sums, &kept) {
-        None => Ok(kept.len()),
-        Some(number) => {
-            let what = format!("its checksum is not the one that {} has", shown(sums::path_of(path)));
-            Err(Problem::Refused(format!("{name}: record {number} was changed since it was shelved: {what}")))
+/// Whether a record has the checksum that is kept for its number, if one is.
+pub fn unchanged(path: &Word, number: usize, sum: u32, kept: &[u32]) -> Result<(), Problem> {
+    match kept.get(number) {
+        Some(&kept) if kept != sum => {
+            let what = format!("its checksum is not the one that {} has", shown(sums::path_of(&led_to(path.as_ref()))));
+            Err(Problem::Refused(format!("{path}: record {number} was changed since it was shelved: {what}")))
         }
+        _ => Ok(()),
     }
+}
+
+/// As [`unchanged`], of all records of a shelf, by their checksums.
+fn all_unchanged(path: &Word, sums: &[u32], kept: &[u32]) -> Result<(), Problem> {
+    (0..).zip(sums).try_for_each(|(number, &sum)| unchanged(path, number, sum, kept))
+}
+
+/// As [`load`], of a shelf of which no record was changed.
+pub fn load_unchanged(path: &Word) -> Result<Vec<u8>, Problem> {
+    let (bytes, kept) = (load(path)?, load_sums(path)?);
+    let sums: Vec<u32> = records(path, &bytes)?.map(sums::crc).collect();
+    all_unchanged(path, &sums, &kept).map(|()| bytes)
 }
 
 /// The records of a shelf's bytes.
@@ -53,10 +62,11 @@ pub fn records<'a>(path: &Word, bytes: &'a [u8]) -> Result<Walk<'a>, Problem> {
     Ok(jurnadel::walk_from(bytes, bytes.len(), 0))
 }
 
-/// The record of this number on a shelf file.
+/// The record of this number on a shelf file, unless it was changed.
 pub fn record(path: &Word, number: usize) -> Result<Vec<u8>, Problem> {
     let shelf = load(path)?;
     let record = jurnadel::fetch(&shelf, shelf.len(), number).map_err(|refusal| refused(path, refusal))?;
+    unchanged(path, number, sums::crc(record), &load_sums(path)?)?;
     Ok(record.to_vec())
 }
 
@@ -117,8 +127,9 @@ impl ShelfFile {
             }
             _ => damaged(name, refusal),
         })?;
-        let summed = check_sums(name, &path, shelf.sums())?;
-        Ok(ShelfFile { name: name.clone(), path, lock, file, saved, summed, shelf })
+        let kept = sums::load(&path)?;
+        all_unchanged(name, shelf.sums(), &kept)?;
+        Ok(ShelfFile { name: name.clone(), path, lock, file, saved, summed: kept.len(), shelf })
     }
 
     /// As [`ShelfFile::open`], of a file that must not be there.

@@ -46,11 +46,6 @@ pub fn text(sums: &[u32]) -> String {
     })
 }
 
-/// The first record whose checksum is another than the one that is kept for it.
-pub fn first_changed(sums: &[u32], kept: &[u32]) -> Option<usize> {
-    sums.iter().zip(kept).position(|(sum, kept)| sum != kept)
-}
-
 /// CRC-32C (Castagnoli), as in RFC 3720.
 pub fn crc(bytes: &[u8]) -> u32 {
     !bytes.iter().fold(!0, |crc, &byte| (crc >> 8) ^ TABLE[usize::from(crc as u8 ^ byte)])

@@ -1,30 +1,35 @@
 //! `jurnadel import`.
 
 use super::{counted, Command, Done};
-use crate::files::bytes_of;
+use crate::joining::{turning_order, Untaken};
 use crate::names::shown;
 use crate::options::{Options, Word};
-use crate::plan_file;
-use crate::planar_code::{self, Graph, Untaken};
+use crate::plan_folder::PlanFolder;
+use crate::planar_code::{Graph, Graphs};
 use crate::report::{Problem, Report};
 use std::collections::HashSet;
-use std::io::Write as _;
-use std::path::Path;
+use std::fs::File;
+use std::io::{self, BufRead, BufReader};
+use std::path::{Path, PathBuf};
 
 pub const COMMAND: Command = Command { name: "import", summary: "make plan files of planar_code", help: HELP, run };
 
 const HELP: &str = "\
 usage: jurnadel import [--no-header] [--force] [-d FOLDER] FILE..
 
-Reads planar_code, as plantri and planarg write it, and makes a plan file NAME-1.plan, NAME-2.plan, .. of each graph.
-Prints the name of each. The start is the first neighbour of the first vertex. FILE - is standard input, its NAME plan.
+Reads planar_code, as plantri and planarg write it, and makes a plan file NAME-1.plan, NAME-2.plan, .. of each graph,
+as the graphs arrive. Prints the name of each. The start is the first entry of the first junction. FILE - is standard
+input, its NAME plan.
 
-  -d FOLDER     put the plan files in this folder, which is there; else in the current one
-  --force       replace plan files that are there
+  -d FOLDER     put the plan files in this folder, which is made if it isn't there; else in the current one
+  --force       replace plan files that hold something else
   --no-header   the files begin with the first graph
 
-A graph that no kind takes is reported and left out, and so is one where the code leaves open how parallel trails are
-joined.
+Each plan file appears whole or not at all. One that is there and holds the same plan is passed over, so a run that was
+broken off can be made again.
+
+A graph that no kind takes is reported by its number and left out, and so is one of which planar_code leaves open how
+parallel trails are joined, where that makes a difference. A file that is damaged is imported up to the damage.
 ";
 
 fn run(words: &[Word], report: &mut Report) -> Done {
@@ -32,66 +37,71 @@ fn run(words: &[Word], report: &mut Report) -> Done {
     if options.words.is_empty() {
         return Err(Problem::Usage(String::from("FILE is missing")));
     }
-    let folder = options.value("-d").map_or(Path::new("."), Word::as_ref);
-    if !folder.is_dir() {
-        return Err(Problem::file(shown(folder), "not a folder"));
-    }
+    let folder = PlanFolder::open(options.value("-d").map_or(Path::new("."), Word::as_ref), options.has("--force"))?;
     let mut names = HashSet::new();
     for path in &options.words {
-        let graphs = bytes_of(path)
-            .and_then(|bytes| planar_code::graphs(&bytes, !options.has("--no-header")).map_err(|what| Problem::file(path, what)));
-        let graphs = match graphs {
-            Ok(graphs) => graphs,
-            Err(problem) => {
-                report.problem(&problem);
-                continue;
-            }
+        let source = Source { path, name: name_of(path), header: !options.has("--no-header") };
+        let done = match names.insert(source.name.clone()) {
+            true => source.import(&folder, report),
+            false => Err(Problem::file(path, format!("another file has given the names {}-1.plan ..", shown(&source.name)))),
         };
-        let named = if path.is_input() { Path::new("plan") } else { path.as_ref() };
-        let name = named.file_stem().unwrap_or_default().to_string_lossy();
-        if !names.insert(name.clone().into_owned()) {
-            report.problem(&Problem::file(path, format!("another file has given the names {name}-1.plan ..")));
-            continue;
+        if let Err(problem) = done {
+            report.problem(&problem);
         }
-        for (number, graph) in (1..).zip(&graphs) {
-            let plan = folder.join(format!("{name}-{number}.plan"));
-            let source = format!("graph {number} of {name}");
-            match import_one(graph, &format!("{path}: graph {number}"), &source, &plan, options.has("--force")) {
-                Ok(()) => report.line(shown(&plan)),
+    }
+    folder.sync()
+}
+
+/// What the plans of a file are named after.
+fn name_of(path: &Word) -> String {
+    let named = if path.is_input() { Path::new("plan") } else { path.as_ref() };
+    named.file_stem().unwrap_or_default().to_string_lossy().into_owned()
+}
+
+/// A file of planar_code.
+struct Source<'a> {
+    path: &'a Word,
+    name: String,
+    header: bool,
+}
+
+impl Source<'_> {
+    /// Makes the plan files of its graphs.
+    fn import(&self, folder: &PlanFolder, report: &mut Report) -> Done {
+        let mut graphs = Graphs::begin(opened(self.path)?, self.header).map_err(|what| Problem::file(self.path, what))?;
+        for number in 1.. {
+            let place = format!("{}: graph {number}", self.path);
+            let Some(graph) = graphs.next().map_err(|what| Problem::file(&place, what))? else {
+                break;
+            };
+            match self.import_one(number, &graph, &place, folder) {
+                Ok(plan) => {
+                    report.line(shown(plan));
+                    report.flush();
+                }
                 Err(problem) => report.problem(&problem),
             }
         }
+        Ok(())
     }
-    Ok(())
+
+    fn import_one(&self, number: usize, graph: &Graph, place: &str, folder: &PlanFolder) -> Result<PathBuf, Problem> {
+        let order = turning_order(graph).map_err(|untaken| match untaken {
+            Untaken::OneSided(..) | Untaken::Ambiguous(..) => Problem::file(place, untaken),
+            _ => Problem::Refused(format!("{place}: {untaken}")),
+        })?;
+        let (junctions, trails) = (counted(graph.len(), "junction"), counted(order.len() / 2, "trail"));
+        let comment = format!("graph {number} of {}: {junctions}, {trails}", shown(&self.name));
+        folder.put(&format!("{}-{number}.plan", self.name), &comment, &order)
+    }
 }
 
-/// Makes the plan file of a graph that was found at this place, with its name as a comment.
-fn import_one(graph: &Graph, place: &str, name: &str, plan: &Path, force: bool) -> Done {
-    // Too many trails are refused before the parallel ones are joined, which would take long.
-    let darts: usize = graph.iter().map(Vec::len).sum();
-    if darts > 2 * usize::from(jurnadel::MAX_TRAILS) {
-        jurnadel::record_of(&vec![0; darts], 0, 2).map_err(|refusal| Problem::refused(place, refusal))?;
+fn opened(path: &Word) -> Result<Box<dyn BufRead>, Problem> {
+    match path.is_input() {
+        true => Ok(Box::new(io::stdin().lock())),
+        false => match File::open(path) {
+            Ok(file) => Ok(Box::new(BufReader::new(file))),
+            Err(error) => Err(Problem::file(path, error)),
+        },
     }
-    let order = planar_code::turning_order(graph).map_err(|untaken| match untaken {
-        Untaken::Loop(u) => Problem::Refused(format!("{place}: a loop at junction {}, which no kind takes (refusal 11)", u + 1)),
-        Untaken::OneSided(u, v) => {
-            Problem::file(place, format!("junctions {} and {} don't list each other equally often", u + 1, v + 1))
-        }
-        Untaken::Ambiguous(u, v) => Problem::file(
-            place,
-            format!("planar_code leaves open how the parallel trails of junctions {} and {} are joined", u + 1, v + 1),
-        ),
-    })?;
-    let order: Vec<u16> = order.iter().map(|&dart| u16::try_from(dart).unwrap_or(u16::MAX)).collect();
-    jurnadel::record_of(&order, 0, 2).map_err(|refusal| Problem::refused(place, refusal))?;
-    let comment = format!("{name}: {}, {}", counted(graph.len(), "junction"), counted(order.len() / 2, "trail"));
-    let text = plan_file::text(&comment, &order, 0);
-    let mut open = std::fs::File::options();
-    let open = if force { open.create(true).truncate(true) } else { open.create_new(true) };
-    let mut file = open.write(true).open(plan).map_err(|error| Problem::file(shown(plan), error))?;
-    file.write_all(text.as_bytes()).map_err(|error| {
-        // Half a plan file would stand in the way of the next run.
-        let _ = std::fs::remove_file(plan);
-        Problem::file(shown(plan), error)
-    })
 }

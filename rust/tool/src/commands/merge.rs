@@ -21,7 +21,7 @@ fn run(words: &[Word], report: &mut Report) -> Done {
     let mut merged = ShelfFile::create(new)?;
     let mut lines = Vec::new();
     for path in shelves {
-        let bytes = shelf_file::load_checked(path)?;
+        let bytes = shelf_file::load_unchanged(path)?;
         let (mut count, before) = (0, merged.shelf.sums().len());
         for record in shelf_file::records(path, &bytes)? {
             merged.shelf.shelve(record).map_err(|refusal| Problem::refused(new, refusal))?;

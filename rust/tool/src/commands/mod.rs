@@ -1,6 +1,7 @@
 //! The commands: a file each, and what they share.
 
 mod check;
+mod export;
 mod fetch;
 mod find;
 mod import;
@@ -34,7 +35,7 @@ pub struct Command {
 }
 
 /// The commands, as the overview lists them.
-pub const COMMANDS: [Command; 13] = [
+pub const COMMANDS: [Command; 14] = [
     check::COMMAND,
     show::COMMAND,
     write::COMMAND,
@@ -48,6 +49,7 @@ pub const COMMANDS: [Command; 13] = [
     salvage::COMMAND,
     merge::COMMAND,
     import::COMMAND,
+    export::COMMAND,
 ];
 
 /// The record of a plan file.

@@ -2,11 +2,9 @@
 
 use super::verify::report_fault;
 use super::{counted, Command, Done};
-use crate::files::led_to;
 use crate::options::{Options, Word};
 use crate::report::{Problem, Report};
 use crate::shelf_file::{self, ShelfFile};
-use crate::sums;
 use crate::survey::{self, Part};
 
 pub const COMMAND: Command =
@@ -28,7 +26,7 @@ fn run(words: &[Word], report: &mut Report) -> Done {
         return Err(Problem::Usage(String::from("OLD and NEW are needed")));
     };
     let bytes = shelf_file::load(old)?;
-    let kept = sums::load(&led_to(old.as_ref()))?;
+    let kept = shelf_file::load_sums(old)?;
     let parts = survey::parts(&bytes, &kept);
     let mut shelf = ShelfFile::create(new)?;
     let mut runs = Vec::new();

@@ -1,11 +1,10 @@
 //! `jurnadel verify`.
 
 use super::{counted, Command, Done};
-use crate::files::led_to;
 use crate::options::{Options, Word};
 use crate::report::{in_words, Problem, Report};
 use crate::survey::{self, Found, Part};
-use crate::{shelf, shelf_file, sums};
+use crate::{shelf, shelf_file};
 use std::collections::HashMap;
 
 pub const COMMAND: Command = Command { name: "verify", summary: "check a shelf file and every record on it", help: HELP, run };
@@ -23,7 +22,7 @@ fn run(words: &[Word], report: &mut Report) -> Done {
     let options = Options::parse(words, &[], &[])?;
     let path = options.only("SHELF")?;
     let bytes = shelf_file::load(path)?;
-    let kept = sums::load(&led_to(path.as_ref()))?;
+    let kept = shelf_file::load_sums(path)?;
     let parts = survey::parts(&bytes, &kept);
     parts.iter().for_each(|part| report_fault(path, part, report));
     let records: Vec<&Found> = records(&parts).collect();

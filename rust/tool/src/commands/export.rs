@@ -1,0 +1,98 @@
+//! `jurnadel export`.
+
+use super::{counted, put_out, Command, Done};
+use crate::joining::turning_order;
+use crate::names::shown;
+use crate::options::{Options, Word};
+use crate::plan_folder::PlanFolder;
+use crate::planar_code::{self, Graph};
+use crate::report::{Problem, Report};
+use crate::{shelf, shelf_file, sums};
+use std::path::Path;
+
+pub const COMMAND: Command = Command { name: "export", summary: "make plan files, or planar_code, of a shelf", help: HELP, run };
+
+const HELP: &str = "\
+usage: jurnadel export [--force] SHELF FOLDER
+       jurnadel export --planar-code [-o FILE [--force]] SHELF
+
+Makes a plan file 0.plan, 1.plan, .. of each record of a shelf, in FOLDER, which is made if it isn't there, and prints
+the name of each. Each plan file appears whole or not at all; one that is there and holds the same plan is passed over.
+
+  --planar-code  planar_code in place of plan files, a graph for each record: the start is the first entry of the first
+                 junction
+  -o FILE        planar_code to this file, which must not be there; else to standard output
+  --force        replace what is there and holds something else
+
+A record that cannot be read is reported by its number and left out, and so is one of which planar_code would leave open
+how parallel trails are joined; the status is then 1. What is exported can be imported as the same plan.
+";
+
+fn run(words: &[Word], report: &mut Report) -> Done {
+    let options = Options::parse(words, &["--planar-code", "--force"], &["-o"])?;
+    if options.has("--planar-code") {
+        return export_code(&options, report);
+    } else if options.value("-o").is_some() {
+        return Err(Problem::Usage(String::from("-o goes with --planar-code")));
+    }
+    let (shelf, rest) = options.first_and_more("SHELF", "FOLDER")?;
+    match rest {
+        [folder] => export_plans(shelf, folder, options.has("--force"), report),
+        _ => Err(Problem::Usage(format!("one word too many: {}", rest[1]))),
+    }
+}
+
+fn export_plans(path: &Word, folder: &Word, force: bool, report: &mut Report) -> Done {
+    let shelf = shelf_file::load(path)?;
+    let folder = PlanFolder::open(folder.as_ref(), force)?;
+    let name = shown(AsRef::<Path>::as_ref(path).file_name().unwrap_or_default());
+    let done = each_record(path, &shelf, report, |number, order, report| {
+        let comment = format!("record {number} of {name}: {}", counted(order.len() / 2, "trail"));
+        let plan = folder.put(&format!("{number}.plan"), &comment, order)?;
+        report.line(shown(plan));
+        report.flush();
+        Ok(())
+    });
+    folder.sync().and(done)
+}
+
+fn export_code(options: &Options, report: &mut Report) -> Done {
+    let path = options.only("SHELF")?;
+    let shelf = shelf_file::load(path)?;
+    let mut graphs = Vec::new();
+    let done = each_record(path, &shelf, report, |number, order, _| {
+        graphs.push(coded(order).map_err(|what| Problem::Refused(format!("{path}: record {number}: {what}")))?);
+        Ok(())
+    });
+    put_out(options, std::slice::from_ref(path), &planar_code::code(&graphs), report).and(done)
+}
+
+/// The graph of a plan, if planar_code has it and no other.
+fn coded(order: &[u16]) -> Result<Graph, String> {
+    let graph = planar_code::graph_of(order);
+    let back = turning_order(&graph).map_err(|untaken| untaken.to_string())?;
+    match jurnadel::record_of(&back, 0, 2) == jurnadel::record_of(order, 0, 2) {
+        true => Ok(graph),
+        false => Err(String::from("planar_code doesn't hold this plan")),
+    }
+}
+
+/// Does something with the number and the turning order of each record that stands on a shelf. Reports what goes wrong, and
+/// goes on to the next.
+fn each_record(
+    path: &Word,
+    shelf: &[u8],
+    report: &mut Report,
+    mut action: impl FnMut(usize, &[u16], &mut Report) -> Done,
+) -> Done {
+    let kept = shelf_file::load_sums(path)?;
+    for (number, record) in jurnadel::walk_from(shelf, shelf.len(), 0).enumerate() {
+        let order = shelf_file::unchanged(path, number, sums::crc(record), &kept).and_then(|()| {
+            jurnadel::plan_of(record).map_err(|refusal| Problem::refused(format!("{path}: record {number}"), refusal))
+        });
+        if let Err(problem) = order.and_then(|order| action(number, &order, report)) {
+            report.problem(&problem);
+        }
+    }
+    shelf::sound(shelf, shelf.len()).map_err(|refusal| shelf_file::refused(path, refusal))
+}
