@@ -3,8 +3,8 @@
 use crate::commands::COMMANDS;
 
 const STATUS: &str = "\
-Exit status: 0 all done; 1 something was refused or found wrong; 2 the command line is wrong; 3 an I/O error, or a file that
-is not of its format.
+Exit status: 0 all done; 1 something was refused or found wrong; 2 the command
+line is wrong; 3 an I/O error, or a file that is not of its format.
 ";
 
 /// The help of the whole tool.

@@ -12,11 +12,12 @@ pub const COMMAND: Command =
 const HELP: &str = "\
 usage: jurnadel check [--kind KIND] [--files-from LIST] PLAN..
 
-Says of each plan file how many junctions, trails and areas it has, and the kind and length of its record: kind 1, or 2
-for a plan with a dead end.
+Says of each plan file how many junctions, trails and areas it has, and the kind
+and length of its record: kind 1, or 2 for a plan with a dead end.
 
   --kind KIND         the record in this kind
-  --files-from LIST   also the files that LIST names, a line each or NUL-separated; - is standard input
+  --files-from LIST   also the files that LIST names, a line each or
+                      NUL-separated; - is standard input
 
 PLAN is a plan file, or a folder: the .plan files in it.
 

@@ -16,16 +16,19 @@ const HELP: &str = "\
 usage: jurnadel export [--force] SHELF FOLDER
        jurnadel export --planar-code [-o FILE [--force]] SHELF
 
-Makes a plan file 0.plan, 1.plan, .. of each record of a shelf, in FOLDER, which is made if it isn't there, and prints
-the name of each. Each plan file appears whole or not at all; one that is there and holds the same plan is passed over.
+Makes a plan file 0.plan, 1.plan, .. of each record of a shelf, in FOLDER, which
+is made if it isn't there, and prints the name of each. Each plan file appears
+whole or not at all; one that is there and holds the same plan is passed over.
 
-  --planar-code  planar_code in place of plan files, a graph for each record: the start is the first entry of the first
-                 junction
-  -o FILE        planar_code to this file, which must not be there; else to standard output
-  --force        replace what is there and holds something else
+  --planar-code   planar_code in place of plan files, a graph for each record:
+                  the start is the first entry of the first junction
+  -o FILE         planar_code to this file, which must not be there; else to
+                  standard output
+  --force         replace what is there and holds something else
 
-A record that cannot be read is reported by its number and left out, and so is one of which planar_code would leave open
-how parallel trails are joined; the status is then 1. What is exported can be imported as the same plan.
+A record that cannot be read is reported by its number and left out, and so is
+one of which planar_code would leave open how parallel trails are joined; the
+status is then 1. What is exported can be imported as the same plan.
 ";
 
 fn run(words: &[Word], report: &mut Report) -> Done {

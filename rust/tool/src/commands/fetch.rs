@@ -8,7 +8,8 @@ use crate::{record_file, shelf_file, source};
 pub const COMMAND: Command = Command { name: "fetch", summary: "fetch a plan from a shelf by its number", help: HELP, run };
 
 const HELP: &str = "\
-usage: jurnadel fetch [--record | --raw | --junctions] [-o FILE [--force]] SHELF NUMBER
+usage: jurnadel fetch [--record | --raw | --junctions] [-o FILE [--force]] SHELF
+                      NUMBER
 
 Fetches a record, counting from 0, and prints its plan as a plan file.
 

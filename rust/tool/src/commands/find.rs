@@ -13,13 +13,15 @@ pub const COMMAND: Command = Command { name: "find", summary: "say under which n
 const HELP: &str = "\
 usage: jurnadel find [--kind KIND] [--files-from LIST] SHELF PLAN..
 
-Says of each plan file under which number it is on the shelf, in whatever kind: 'NUMBER there NAME', or '- not there NAME'.
-Nothing is shelved.
+Says of each plan file under which number it is on the shelf, in whatever kind:
+'NUMBER there NAME', or '- not there NAME'. Nothing is shelved.
 
   --kind KIND         look for records of this kind only
-  --files-from LIST   also the files that LIST names, a line each or NUL-separated; - is standard input
+  --files-from LIST   also the files that LIST names, a line each or
+                      NUL-separated; - is standard input
 
-PLAN is a plan file, or a folder: the .plan files in it. Exit status 1 if some plan is not there.
+PLAN is a plan file, or a folder: the .plan files in it. Exit status 1 if some
+plan is not there.
 ";
 
 fn run(words: &[Word], report: &mut Report) -> Done {

@@ -17,19 +17,22 @@ pub const COMMAND: Command = Command { name: "import", summary: "make plan files
 const HELP: &str = "\
 usage: jurnadel import [--no-header] [--force] [-d FOLDER] FILE..
 
-Reads planar_code, as plantri and planarg write it, and makes a plan file NAME-1.plan, NAME-2.plan, .. of each graph,
-as the graphs arrive. Prints the name of each. The start is the first entry of the first junction. FILE - is standard
-input, its NAME plan.
+Reads planar_code, as plantri and planarg write it, and makes a plan file
+NAME-1.plan, NAME-2.plan, .. of each graph, as the graphs arrive. Prints the
+name of each. The start is the first entry of the first junction. FILE - is
+standard input, its NAME plan.
 
-  -d FOLDER     put the plan files in this folder, which is made if it isn't there; else in the current one
+  -d FOLDER     put the plan files in this folder, which is made if it isn't
+                there; else in the current one
   --force       replace plan files that hold something else
   --no-header   the files begin with the first graph
 
-Each plan file appears whole or not at all. One that is there and holds the same plan is passed over, so a run that was
-broken off can be made again.
+Each plan file appears whole or not at all. One that is there and holds the same
+plan is passed over, so a run that was broken off can be made again.
 
-A graph that no kind takes is reported by its number and left out, and so is one of which planar_code leaves open how
-parallel trails are joined, where that makes a difference. A file that is damaged is imported up to the damage.
+A graph that no kind takes is reported by its number and left out, and so is one
+of which planar_code leaves open how parallel trails are joined, where that
+makes a difference. A file that is damaged is imported up to the damage.
 ";
 
 fn run(words: &[Word], report: &mut Report) -> Done {

@@ -10,9 +10,10 @@ pub const COMMAND: Command = Command { name: "list", summary: "list the records 
 const HELP: &str = "\
 usage: jurnadel list [--from NUMBER] SHELF
 
-Lists the records of a shelf, a line each: number, place (in bytes), length, kind, trails.
+Lists the records of a shelf, a line each: number, place (in bytes), length,
+kind, trails.
 
-  --from NUMBER  begin at this record
+  --from NUMBER   begin at this record
 ";
 
 fn run(words: &[Word], report: &mut Report) -> Done {

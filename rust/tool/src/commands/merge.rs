@@ -11,8 +11,9 @@ pub const COMMAND: Command =
 const HELP: &str = "\
 usage: jurnadel merge NEW SHELF..
 
-Puts the records of the shelves, one after another, on a new shelf NEW; a record that is there already is left out. Prints how
-many records of each shelf are new. NEW must not be there; it appears when all is done.
+Puts the records of the shelves, one after another, on a new shelf NEW; a record
+that is there already is left out. Prints how many records of each shelf are
+new. NEW must not be there; it appears when all is done.
 ";
 
 fn run(words: &[Word], report: &mut Report) -> Done {

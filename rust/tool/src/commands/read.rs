@@ -11,8 +11,8 @@ pub const COMMAND: Command = Command { name: "read", summary: "read a record bac
 const HELP: &str = "\
 usage: jurnadel read [--raw] [--junctions] [-o FILE [--force]] [RECORD]
 
-Reads a record, from standard input if RECORD is left out or -, and prints its plan as a plan file, in standard
-numbering with start 0.
+Reads a record, from standard input if RECORD is left out or -, and prints its
+plan as a plan file, in standard numbering with start 0.
 
   --raw         the record is bytes, not hexadecimal
   --junctions   the plan file by junctions, as jurnadel show prints it

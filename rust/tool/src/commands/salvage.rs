@@ -13,9 +13,11 @@ pub const COMMAND: Command =
 const HELP: &str = "\
 usage: jurnadel salvage OLD NEW
 
-Puts every record of shelf OLD that stands whole on a new shelf NEW, also past damage, and reports what it could not keep.
-A record is whole if it has the checksum that is kept for it (OLD.sums) or, where none is, if a plan has it. Prints which
-numbers the records had and have now; OLD is not changed, and NEW must not be there.
+Puts every record of shelf OLD that stands whole on a new shelf NEW, also past
+damage, and reports what it could not keep. A record is whole if it has the
+checksum that is kept for it (OLD.sums) or, where none is, if a plan has it.
+Prints which numbers the records had and have now; OLD is not changed, and NEW
+must not be there.
 
 Exit status 1 if something was not kept.
 ";

@@ -14,21 +14,31 @@ pub const COMMAND: Command =
     Command { name: "shelve", summary: "put plans on a shelf, and print their numbers", help: HELP, run };
 
 const HELP: &str = "\
-usage: jurnadel shelve [--kind KIND | --raw] [--size BYTES] [--progress] [--files-from LIST] SHELF PLAN..
+usage: jurnadel shelve [--kind KIND | --raw] [--size BYTES] [--progress]
+                       [--files-from LIST] SHELF PLAN..
 
-Shelves each plan file and prints its number, 'new' or 'already there', and its name. A plan that is refused is reported, and
-the others are shelved. A SHELF that isn't there is made. PLAN is a plan file, or a folder: the .plan files in it.
+Shelves each plan file and prints its number, 'new' or 'already there', and its
+name. A plan that is refused is reported, and the others are shelved. A SHELF
+that isn't there is made. PLAN is a plan file, or a folder: the .plan files in
+it.
 
   --kind KIND         1 or 2; else 1, or 2 for a plan with a dead end
-  --size BYTES        the shelf's whole length; a record that exceeds it is refused (16). Else the shelf grows
-  --raw               the files are records, as bytes; of a folder, the .record files in it
-  --files-from LIST   also the files that LIST names, a line each or NUL-separated; - is standard input
-  --progress          say how far the run is, also where standard error is no terminal
+  --size BYTES        the shelf's whole length; a record that exceeds it is
+                      refused (16). Else the shelf grows
+  --raw               the files are records, as bytes; of a folder, the .record
+                      files in it
+  --files-from LIST   also the files that LIST names, a line each or
+                      NUL-separated; - is standard input
+  --progress          say how far the run is, also where standard error is no
+                      terminal
 
-A plan that is new in its kind but on the shelf in the other one is reported too.
+A plan that is new in its kind but on the shelf in the other one is reported
+too.
 
-What is printed is in the file: the shelf file is replaced, in one step, before its numbers are printed. Runs on one shelf wait
-for each other (SHELF.lock). Checksums of the records are kept in SHELF.sums; a shelf with a wrong one is left as it is.
+What is printed is in the file: the shelf file is replaced, in one step, before
+its numbers are printed. Runs on one shelf wait for each other (SHELF.lock).
+Checksums of the records are kept in SHELF.sums; a shelf with a wrong one is
+left as it is.
 ";
 
 /// On a long run the shelf file is replaced, and the numbers printed, about this often.

@@ -9,13 +9,16 @@ pub const COMMAND: Command =
     Command { name: "show", summary: "print a plan by junctions or by numbers, with its counts", help: HELP, run };
 
 const HELP: &str = "\
-usage: jurnadel show [--junctions | --numbers] [-o FILE [--force]] PLAN | RECORD | SHELF NUMBER
+usage: jurnadel show [--junctions | --numbers] [-o FILE [--force]] PLAN | RECORD
+                     | SHELF NUMBER
 
-Prints a plan as a plan file, with its numbers of junctions, trails and areas as a comment. It may stand in a plan file
-of either form, in a record (in hexadecimal or as bytes) or on a shelf; - is standard input.
+Prints a plan as a plan file, with its numbers of junctions, trails and areas as
+a comment. It may stand in a plan file of either form, in a record (in
+hexadecimal or as bytes) or on a shelf; - is standard input.
 
-  --junctions   by junctions (this is taken if nothing is said); without names of its own the plan gets A, B, .. for its
-                junctions and a, b, .. for its trails, in the order of the contour walk
+  --junctions   by junctions (this is taken if nothing is said); without names
+                of its own the plan gets A, B, .. for its junctions and a, b, ..
+                for its trails, in the order of the contour walk
   --numbers     by numbers
   -o FILE       to this file, which must not be there
   --force       replace the file if it is there

@@ -11,8 +11,8 @@ pub const COMMAND: Command = Command { name: "stats", summary: "count the record
 const HELP: &str = "\
 usage: jurnadel stats SHELF
 
-Says how many records and bytes a shelf has and which record is the largest, then a line for each kind and number of trails:
-kind, trails, records, bytes.
+Says how many records and bytes a shelf has and which record is the largest,
+then a line for each kind and number of trails: kind, trails, records, bytes.
 ";
 
 fn run(words: &[Word], report: &mut Report) -> Done {

@@ -12,10 +12,12 @@ pub const COMMAND: Command = Command { name: "verify", summary: "check a shelf f
 const HELP: &str = "\
 usage: jurnadel verify SHELF
 
-Checks that a shelf file is records end to end, that each record is a plan's and that it has the checksum that is kept for it
-(SHELF.sums). Says which are not, where bytes are no record, and which records stand there twice.
+Checks that a shelf file is records end to end, that each record is a plan's and
+that it has the checksum that is kept for it (SHELF.sums). Says which are not,
+where bytes are no record, and which records stand there twice.
 
-Exit status 1 if something is wrong; a record that stands there twice, or one without a checksum, is not.
+Exit status 1 if something is wrong; a record that stands there twice, or one
+without a checksum, is not.
 ";
 
 fn run(words: &[Word], report: &mut Report) -> Done {
