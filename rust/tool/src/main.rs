@@ -6,12 +6,14 @@
 //! * `options`: the words of the command line; `names`: names as a terminal can take them;
 //! * `files`: files read whole, and files that appear whole or not at all;
 //! * `plan_file`, `record_file`, `shelf_file`: the three kinds of file;
+//! * `lines`: a plan or a record in one line, and its answer; `stream`: a stream of them, on several threads;
 //! * `planar_code`: the interchange format that `import` reads;
 //! * `report`: messages and the exit status.
 
 mod commands;
 mod files;
 mod help;
+mod lines;
 mod names;
 mod options;
 mod plan_file;
@@ -19,6 +21,7 @@ mod planar_code;
 mod record_file;
 mod report;
 mod shelf_file;
+mod stream;
 
 use commands::{Command, COMMANDS};
 use options::Word;

@@ -57,13 +57,9 @@ impl Plan {
         Ok(Plan { order, start, order_line, start_line })
     }
 
-    /// The record in this kind; with none given in kind 1, or in kind 2 where a dead end keeps it from kind 1.
+    /// The record in this kind; with none given see [`in_kind`].
     pub fn record(&self, kind: Option<u16>) -> Result<Vec<u8>, Refusal> {
-        let in_kind = |kind| jurnadel::record_of(&self.order, self.start, kind);
-        match kind {
-            Some(kind) => in_kind(kind),
-            None => in_kind(1).or_else(|refusal| if refusal.number() == Refusal::DEGREE_ONE { in_kind(2) } else { Err(refusal) }),
-        }
+        in_kind(kind, |kind| jurnadel::record_of(&self.order, self.start, kind))
     }
 
     /// The line that a refusal is about.
@@ -72,6 +68,14 @@ impl Plan {
             Refusal::START => self.start_line,
             _ => self.order_line,
         }
+    }
+}
+
+/// Writes a plan in this kind; with none given in kind 1, or in kind 2 where a dead end keeps it from kind 1.
+pub fn in_kind<T>(kind: Option<u16>, mut write: impl FnMut(u16) -> Result<T, Refusal>) -> Result<T, Refusal> {
+    match kind {
+        Some(kind) => write(kind),
+        None => write(1).or_else(|refusal| if refusal.number() == Refusal::DEGREE_ONE { write(2) } else { Err(refusal) }),
     }
 }
 

@@ -101,9 +101,19 @@ impl Report {
         self.status = self.status.max(status);
     }
 
+    /// Notes a refusal that stands in the output itself.
+    pub fn refused(&mut self) {
+        self.status = self.status.max(REFUSED);
+    }
+
     /// Whether there was a problem.
     pub fn failed(&self) -> bool {
         self.status != 0
+    }
+
+    /// Whether nobody takes the output any more.
+    pub fn closed(&self) -> bool {
+        self.closed
     }
 
     pub fn flush(&mut self) {

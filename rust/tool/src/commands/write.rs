@@ -1,6 +1,7 @@
 //! `jurnadel write`.
 
-use super::{put_out, record_of, Command, Done};
+use super::{answer_lines, put_out, record_of, Command, Done};
+use crate::lines::Way;
 use crate::options::{Options, Word};
 use crate::record_file;
 use crate::report::{Problem, Report};
@@ -9,6 +10,7 @@ pub const COMMAND: Command = Command { name: "write", summary: "write the record
 
 const HELP: &str = "\
 usage: jurnadel write [--kind KIND] [--raw] [-o FILE [--force]] PLAN..
+       jurnadel write --lines [--kind KIND] [--jobs N] [FILE]
 
 Writes the record of each plan file, a line of hexadecimal bytes each.
 
@@ -19,11 +21,21 @@ Writes the record of each plan file, a line of hexadecimal bytes each.
 
 PLAN is a plan file, - for standard input: a line 'start: DART', a line of entries (the next dart counterclockwise,
 for each dart), and comments after #.
+
+  --lines       a plan a line, from FILE or standard input: the start, then the entries, '0 3 2 1 0'. Each line is
+                answered by one line, in the same order and at once: the record in hexadecimal without spaces, which
+                is a key; 'refused NUMBER' ('refused 10 CHARACTERISTIC'); or 'malformed' for a line that is no plan
+                or has more than 1,048,576 bytes. Exit status 1 if any line was refused or malformed
+  --jobs N      with --lines: on so many threads, 256 at most; else, and with 0, one for each core
 ";
 
 fn run(words: &[Word], report: &mut Report) -> Done {
-    let options = Options::parse(words, &["--raw", "--force"], &["--kind", "-o"])?;
+    let options = Options::parse(words, &["--raw", "--force", "--lines"], &["--kind", "-o", "--jobs"])?;
+    options.only_with("--jobs", "--lines")?;
     let kind = options.number("--kind")?;
+    if options.has("--lines") {
+        return answer_lines(&options, Way::Write(kind), report);
+    }
     if options.words.is_empty() {
         return Err(Problem::Usage(String::from("PLAN is missing")));
     }
