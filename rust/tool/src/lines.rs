@@ -129,10 +129,15 @@ fn push_plan(start: u16, order: &[u16], line: &mut Vec<u8>) {
 }
 
 fn push_decimal(number: u16, line: &mut Vec<u8>) {
-    if number >= 10 {
-        push_decimal(number / 10, line);
+    let digit = |value: u16| b'0' + (value % 10) as u8;
+    match number {
+        0..10 => line.push(digit(number)),
+        10..100 => line.extend([digit(number / 10), digit(number)]),
+        _ => {
+            push_decimal(number / 100, line);
+            line.extend([digit(number / 10), digit(number)]);
+        }
     }
-    line.push(b'0' + (number % 10) as u8);
 }
 
 fn push_refusal(refusal: Refusal, line: &mut Vec<u8>) {
