@@ -48,6 +48,7 @@ test: vectors rust-tests
 	tests/part
 	tests/compare
 	tests/tool/run
+	tests/scale
 	rt ci
 
 install: tool
