@@ -108,29 +108,41 @@ fn read_some(source: &mut Source, room: &mut [u8]) -> io::Result<usize> {
     }
 }
 
+/// Answered blocks in the order of their lines.
+struct InOrder {
+    answered: Receiver<Block>,
+    /// Those that came before their turn.
+    early: BTreeMap<u64, Block>,
+    next: u64,
+}
+
+impl Iterator for InOrder {
+    type Item = Block;
+
+    fn next(&mut self) -> Option<Block> {
+        while !self.early.contains_key(&self.next) {
+            let block = self.answered.recv().ok()?;
+            self.early.insert(block.number, block);
+        }
+        self.next += 1;
+        self.early.remove(&(self.next - 1))
+    }
+}
+
 /// Answers every line of a source, `jobs` blocks at a time. Ends early, without an error, if nobody takes the answers.
 pub fn answer_all(source: Source, way: Way, jobs: usize, report: &mut Report) -> io::Result<()> {
     let (give_back, empty) = channel();
-    for _ in 0..BLOCKS_EACH * jobs {
-        let _ = give_back.send(Block::default());
-    }
-    let input = Arc::new(Mutex::new(Input::new(source, empty)));
-    let answered = workers(&input, way, jobs)?;
-    let mut waiting = BTreeMap::new();
-    let mut next = 0;
-    for block in answered {
-        waiting.insert(block.number, block);
-        while let Some(mut block) = waiting.remove(&next) {
-            next += 1;
-            print(&block, report);
-            if let Some(error) = block.error.take() {
-                return Err(error);
-            } else if report.closed() {
-                return Ok(());
-            }
-            // At the end nobody wants it.
-            let _ = give_back.send(block);
+    (0..BLOCKS_EACH * jobs).try_for_each(|_| give_back.send(Block::default())).map_err(io::Error::other)?;
+    let answered = workers(Input::new(source, empty), way, jobs)?;
+    for mut block in (InOrder { answered, early: BTreeMap::new(), next: 0 }) {
+        print(&block, report);
+        if let Some(error) = block.error.take() {
+            return Err(error);
+        } else if report.closed() {
+            return Ok(());
         }
+        // After the last one nobody wants it.
+        let _ = give_back.send(block);
     }
     Ok(())
 }
@@ -144,15 +156,21 @@ fn print(block: &Block, report: &mut Report) {
 }
 
 /// Begins the workers; the blocks that they have answered, in any order. They end with the input or with the program: one
-/// that waits for input doesn't keep the program from ending.
-fn workers(input: &Arc<Mutex<Input>>, way: Way, jobs: usize) -> io::Result<Receiver<Block>> {
+/// that waits for input doesn't keep the program from ending. Where the system has no more threads, fewer must do.
+fn workers(input: Input, way: Way, jobs: usize) -> io::Result<Receiver<Block>> {
+    let input = Arc::new(Mutex::new(input));
     let (done, answered) = channel();
-    for _ in 0..jobs {
-        let (input, done) = (Arc::clone(input), done.clone());
-        thread::Builder::new().spawn(move || {
+    for job in 0..jobs {
+        let (input, done) = (Arc::clone(&input), done.clone());
+        let begun = thread::Builder::new().spawn(move || {
             // The others would wait for the lost block.
             catch_unwind(AssertUnwindSafe(|| work(&input, way, &done))).unwrap_or_else(|_| std::process::exit(PANICKED));
-        })?;
+        });
+        match begun {
+            Err(error) if job == 0 => return Err(error),
+            Err(_) => break,
+            Ok(_) => {}
+        }
     }
     Ok(answered)
 }
@@ -184,6 +202,15 @@ mod tests {
             room[..part.len()].copy_from_slice(part);
             Ok(part.len())
         }
+    }
+
+    #[test]
+    fn blocks_come_in_order() {
+        let (done, answered) = channel();
+        [2, 0, 3, 1].into_iter().for_each(|number| done.send(Block { number, ..Block::default() }).unwrap());
+        drop(done);
+        let in_order = InOrder { answered, early: BTreeMap::new(), next: 0 };
+        assert!(in_order.map(|block| block.number).eq(0..4));
     }
 
     /// The blocks that are made of a source.
