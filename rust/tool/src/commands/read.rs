@@ -23,7 +23,7 @@ numbering with start 0.
                 same order and at once: the plan as 'write --lines' takes it, its start 0 and then its entries;
                 'refused NUMBER'; or 'malformed' for a line that is no hexadecimal or has more than 1,048,576 bytes.
                 Exit status 1 if any line was refused or malformed
-  --jobs N      with --lines: on so many threads, 256 at most; else, and with 0, one for each core
+  --jobs N      with --lines: use N threads, 256 at most; without it, or with 0, one for each core
 ";
 
 fn run(words: &[Word], report: &mut Report) -> Done {

@@ -26,7 +26,7 @@ for each dart), and comments after #.
                 answered by one line, in the same order and at once: the record in hexadecimal without spaces, which
                 is a key; 'refused NUMBER' ('refused 10 CHARACTERISTIC'); or 'malformed' for a line that is no plan
                 or has more than 1,048,576 bytes. Exit status 1 if any line was refused or malformed
-  --jobs N      with --lines: on so many threads, 256 at most; else, and with 0, one for each core
+  --jobs N      with --lines: use N threads, 256 at most; without it, or with 0, one for each core
 ";
 
 fn run(words: &[Word], report: &mut Report) -> Done {
