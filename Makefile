@@ -68,6 +68,7 @@ test: vectors rust-tests ## the gate: all tests, then every proof from nothing
 	tests/package
 	tests/compare
 	tests/tool/run
+	tests/scale
 	rt ci
 
 install: tool man install-lib ## installs the tool, its man page and all of install-lib

@@ -7,6 +7,7 @@
 use crate::names::shown;
 use crate::options::Word;
 use crate::report::Problem;
+use crate::stream::Source;
 use std::borrow::Cow;
 use std::fs::{self, File, Metadata};
 use std::io::{self, ErrorKind, Read as _, Write as _};
@@ -24,6 +25,14 @@ pub fn bytes_of(path: &Word) -> Result<Vec<u8>, Problem> {
         return read.map(|_| bytes).map_err(|error| Problem::file("standard input", error));
     }
     fs::read(path).map_err(|error| Problem::file(path, error))
+}
+
+/// A file to be read bit by bit, `-` for standard input.
+pub fn source_of(path: &Word) -> Result<Source, Problem> {
+    match path.is_input() {
+        true => Ok(Box::new(io::stdin())),
+        false => File::open(path).map(|file| Box::new(file) as Source).map_err(|error| Problem::file(path, error)),
+    }
 }
 
 /// The text of a file's bytes, without a byte order mark, or nothing if they are none. What isn't UTF-8 becomes

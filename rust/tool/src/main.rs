@@ -6,6 +6,7 @@
 //! * `options`: the words of the command line; `names`: names as a terminal can take them;
 //! * `files`: files read whole, and files that appear whole or not at all;
 //! * `plan_file`, `record_file`: two kinds of file; `plan_folder`: folders of plan files; `source`: a plan in whatever file;
+//! * `lines`: a plan or a record in one line, and its answer; `stream`: a stream of them, on several threads;
 //! * `shape`: junctions, areas and the contour walk of a turning order;
 //! * `shelf`: a shelf in memory, with its `index`; `shelf_file`: its file, `lock` and `sums`; `survey`: what stands on a shelf
 //!   that may be damaged;
@@ -18,6 +19,7 @@ mod help;
 mod index;
 mod inputs;
 mod joining;
+mod lines;
 mod lock;
 mod names;
 mod options;
@@ -31,6 +33,7 @@ mod shelf;
 mod shelf_file;
 mod source;
 mod stdout;
+mod stream;
 mod sums;
 mod survey;
 

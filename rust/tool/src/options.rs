@@ -95,11 +95,23 @@ impl Options {
         self.switches.iter().any(|given| given == switch)
     }
 
-    /// Two options, switches or not, of which one at most may be given.
+    /// Whether an option is given, a switch or not.
+    fn given(&self, name: &str) -> bool {
+        self.has(name) || self.value(name).is_some()
+    }
+
+    /// Two options of which one at most may be given.
     pub fn not_both(&self, one: &str, other: &str) -> Result<(), Problem> {
-        let given = |name| self.has(name) || self.value(name).is_some();
-        match given(one) && given(other) {
+        match self.given(one) && self.given(other) {
             true => Err(Problem::Usage(format!("{one} and {other} don't go together"))),
+            false => Ok(()),
+        }
+    }
+
+    /// An option that may only be given with another one.
+    pub fn only_with(&self, one: &str, other: &str) -> Result<(), Problem> {
+        match self.given(one) && !self.given(other) {
+            true => Err(Problem::Usage(format!("{one} goes with {other} only"))),
             false => Ok(()),
         }
     }

@@ -28,16 +28,36 @@ pub fn parse(text: &str) -> Result<(Vec<u8>, usize), (usize, String)> {
         if record.is_some() {
             return Err((number, String::from("a second record")));
         }
-        let bytes = from_hex(&digits).ok_or((number, String::from("not pairs of hexadecimal digits; --raw takes bytes")))?;
+        let mut bytes = Vec::new();
+        let pairs = from_hex(digits.as_bytes(), &mut bytes);
+        pairs.ok_or((number, String::from("not pairs of hexadecimal digits; --raw takes bytes")))?;
         record = Some((bytes, number));
     }
     record.ok_or((1, String::from("no record")))
 }
 
-fn from_hex(digits: &str) -> Option<Vec<u8>> {
-    let digit = |byte: u8| char::from(byte).to_digit(16);
-    let pairs = digits.as_bytes().chunks(2);
-    pairs.map(|pair| Some((16 * digit(pair[0])? + digit(*pair.get(1)?)?) as u8)).collect()
+/// Adds the bytes of hexadecimal digits, blanks passed over, to a record; nothing if they are no pairs.
+pub fn from_hex(digits: &[u8], record: &mut Vec<u8>) -> Option<()> {
+    let mut high = None;
+    for &byte in digits {
+        if byte == b' ' || byte == b'\t' {
+            continue;
+        }
+        let digit = char::from(byte).to_digit(16)? as u8;
+        match high.take() {
+            Some(high) => record.push(16 * high + digit),
+            None => high = Some(digit),
+        }
+    }
+    high.is_none().then_some(())
+}
+
+/// Adds the hexadecimal digits of a record to a text.
+pub fn push_hex(record: &[u8], text: &mut Vec<u8>) {
+    const DIGITS: &[u8; 16] = b"0123456789ABCDEF";
+    for &byte in record {
+        text.extend([DIGITS[usize::from(byte >> 4)], DIGITS[usize::from(byte & 15)]]);
+    }
 }
 
 /// A record as text: byte pairs with spaces between.

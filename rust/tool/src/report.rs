@@ -120,6 +120,11 @@ impl Report {
         self.status != 0
     }
 
+    /// Whether nobody takes the output any more.
+    pub fn closed(&self) -> bool {
+        self.closed
+    }
+
     pub fn flush(&mut self) {
         if !self.closed {
             let done = self.output.flush();

@@ -16,10 +16,14 @@ mod verify;
 mod write;
 
 use crate::files;
+use crate::lines::Way;
 use crate::options::{Options, Word};
 use crate::plan_file::{self, Plan};
 use crate::report::{Problem, Report};
-use crate::shape;
+use crate::{shape, stream};
+
+/// The most threads that `--jobs` may ask for.
+const MAX_JOBS: usize = 256;
 
 pub type Done = Result<(), Problem>;
 
@@ -81,6 +85,28 @@ pub fn put_out(options: &Options, inputs: &[Word], bytes: &[u8], report: &mut Re
             report.bytes(bytes);
             Ok(())
         }
+    }
+}
+
+/// What `--lines` asks for: an answer to each line of FILE, or of standard input.
+pub fn answer_lines(options: &Options, way: Way, report: &mut Report) -> Done {
+    for other in ["--raw", "-o", "--force"] {
+        options.not_both("--lines", other)?;
+    }
+    let input = Word::from("-");
+    let path = if options.words.is_empty() { &input } else { options.only("FILE")? };
+    let jobs = jobs(options)?;
+    let source = files::source_of(path)?;
+    let name = if path.is_input() { String::from("standard input") } else { path.to_string() };
+    stream::answer_all(source, way, jobs, report).map_err(|error| Problem::file(name, error))
+}
+
+/// How many threads `--jobs` asks for; one for each core where it is left out or 0.
+fn jobs(options: &Options) -> Result<usize, Problem> {
+    match options.number("--jobs")?.unwrap_or(0) {
+        0 => Ok(std::thread::available_parallelism().map_or(1, usize::from).min(MAX_JOBS)),
+        jobs if jobs <= MAX_JOBS => Ok(jobs),
+        jobs => Err(Problem::Usage(format!("--jobs: {jobs} is more than {MAX_JOBS}"))),
     }
 }
 

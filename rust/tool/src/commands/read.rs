@@ -1,6 +1,7 @@
 //! `jurnadel read`.
 
-use super::{plan_text, put_out, Command, Done};
+use super::{answer_lines, plan_text, put_out, Command, Done};
+use crate::lines::Way;
 use crate::options::{Options, Word};
 use crate::plan_file::Plan;
 use crate::record_file;
@@ -10,6 +11,7 @@ pub const COMMAND: Command = Command { name: "read", summary: "read a record bac
 
 const HELP: &str = "\
 usage: jurnadel read [--raw] [--junctions] [-o FILE [--force]] [RECORD]
+       jurnadel read --lines [--jobs N] [FILE]
 
 Reads a record, from standard input if RECORD is left out or -, and prints its
 plan as a plan file, in standard numbering with start 0.
@@ -18,10 +20,23 @@ plan as a plan file, in standard numbering with start 0.
   --junctions   the plan file by junctions, as jurnadel show prints it
   -o FILE       to this file, which must not be there
   --force       replace the file if it is there
+
+  --lines    a record a line, in hexadecimal, from FILE or standard input. Each
+             line is answered by one line, in the same order and at once: the
+             plan as 'write --lines' takes it, its start 0 and then its entries;
+             'refused NUMBER'; or 'malformed' for a line that is no hexadecimal
+             or has more than 1,048,576 bytes. Exit status 1 if any line was
+             refused or malformed
+  --jobs N   with --lines: use N threads, 256 at most; without it, or with 0,
+             one for each core
 ";
 
 fn run(words: &[Word], report: &mut Report) -> Done {
-    let options = Options::parse(words, &["--raw", "--junctions", "--force"], &["-o"])?;
+    let options = Options::parse(words, &["--raw", "--junctions", "--force", "--lines"], &["-o", "--jobs"])?;
+    options.only_with("--jobs", "--lines")?;
+    if options.has("--lines") {
+        return answer_lines(&options, Way::Read, report);
+    }
     let input = Word::from("-");
     let path = if options.words.is_empty() { &input } else { options.only("RECORD")? };
     let (record, line) = record_file::load(path, options.has("--raw"))?;

@@ -1,7 +1,8 @@
 //! `jurnadel write`.
 
-use super::{put_out, record_of, Command, Done};
+use super::{answer_lines, put_out, record_of, Command, Done};
 use crate::inputs::{self, FILES_FROM};
+use crate::lines::Way;
 use crate::options::{Options, Word};
 use crate::record_file;
 use crate::report::Report;
@@ -11,6 +12,7 @@ pub const COMMAND: Command = Command { name: "write", summary: "write the record
 const HELP: &str = "\
 usage: jurnadel write [--kind KIND] [--raw] [-o FILE [--force]]
                       [--files-from LIST] PLAN..
+       jurnadel write --lines [--kind KIND] [--jobs N] [FILE]
 
 Writes the record of each plan file, a line of hexadecimal bytes each.
 
@@ -28,11 +30,24 @@ begins a comment. By junctions a plan file has a line 'JUNCTION: TRAIL TRAIL ..'
 for each, its trails counterclockwise, and a line 'start: JUNCTION TRAIL'; by
 numbers a line 'start: DART' and a line of entries (the next dart
 counterclockwise, for each dart).
+
+  --lines    a plan a line, from FILE or standard input: the start, then the
+             entries, '0 3 2 1 0'. Each line is answered by one line, in the
+             same order and at once: the record in hexadecimal without spaces,
+             which is a key; 'refused NUMBER' ('refused 10 CHARACTERISTIC'); or
+             'malformed' for a line that is no plan or has more than 1,048,576
+             bytes. Exit status 1 if any line was refused or malformed
+  --jobs N   with --lines: use N threads, 256 at most; without it, or with 0,
+             one for each core
 ";
 
 fn run(words: &[Word], report: &mut Report) -> Done {
-    let options = Options::parse(words, &["--raw", "--force"], &["--kind", "-o", FILES_FROM])?;
+    let options = Options::parse(words, &["--raw", "--force", "--lines"], &["--kind", "-o", "--jobs", FILES_FROM])?;
+    options.only_with("--jobs", "--lines")?;
     let kind = options.number("--kind")?;
+    if options.has("--lines") {
+        return answer_lines(&options, Way::Write(kind), report);
+    }
     let files = inputs::files(&options, &options.words, "PLAN", "plan")?;
     let mut output = Vec::new();
     for path in &files {

@@ -69,17 +69,11 @@ impl Plan {
         Ok(Plan { order: jurnadel::plan_of(record)?, start: 0, written: Written::Record })
     }
 
-    /// The record in this kind; with none given in kind 1, or in kind 2 where a dead end keeps it from kind 1.
+    /// The record in this kind; with none given see [`in_kind`].
     pub fn record(&self, kind: Option<u16>) -> Result<Vec<u8>, Refusal> {
         // The library knows trail ends, so of a junction without one it is told by a plan that is in pieces as well.
         let (order, start) = if self.has_lone_junction() { (&[0, 1, 2, 3][..], 0) } else { (&self.order[..], self.start) };
-        let in_kind = |kind| jurnadel::record_of(order, start, kind);
-        match kind {
-            Some(kind) => in_kind(kind),
-            None => {
-                in_kind(1).or_else(|refusal| if refusal.number() == Refusal::HAS_DEGREE_ONE { in_kind(2) } else { Err(refusal) })
-            }
-        }
+        in_kind(kind, |kind| jurnadel::record_of(order, start, kind))
     }
 
     /// Whether it is a plan at all, connected and planar: a loop is no obstacle here, though no kind takes it.
@@ -115,6 +109,17 @@ impl Plan {
     fn has_lone_junction(&self) -> bool {
         let count_is_right = (1..=usize::from(jurnadel::MAX_TRAILS)).contains(&(self.order.len() / 2));
         count_is_right && self.names().is_some_and(Names::have_lone_junction)
+    }
+}
+
+/// Writes a plan in this kind; with none given in kind 1, or in kind 2 where a dead end keeps it from kind 1.
+pub fn in_kind<T>(kind: Option<u16>, mut write: impl FnMut(u16) -> Result<T, Refusal>) -> Result<T, Refusal> {
+    match kind {
+        Some(kind) => write(kind),
+        None => write(1).or_else(|refusal| match refusal.number() {
+            Refusal::HAS_DEGREE_ONE => write(2),
+            _ => Err(refusal),
+        }),
     }
 }
 
