@@ -22,13 +22,13 @@ pub fn plan(lines: &Lines) -> Result<Plan, Wrong> {
         (true, _) => return Err((line, String::from("no junction; each has a line, as in 'A: a b c'"))),
         // The library refuses such a plan before it asks for the start.
         (false, true) => 0,
-        (false, false) => names.start(words).map_err(|what| (line, what))?,
+        (false, false) => names.dart(words).map_err(|what| (line, format!("start: {what}")))?,
     };
     Ok(Plan { order: names.order(), start: number(start), written: Written::Junctions(names) })
 }
 
 /// A dart's number. With one that doesn't fit, the plan has too many trails and is refused for that.
-fn number(dart: usize) -> u16 {
+pub fn number(dart: usize) -> u16 {
     u16::try_from(dart).unwrap_or(u16::MAX)
 }
 
@@ -103,15 +103,15 @@ fn plain(name: &str) -> Result<String, String> {
 }
 
 impl Names {
-    /// The dart that the words after `start:` name.
-    fn start(&self, words: &str) -> Result<usize, String> {
+    /// The dart that the words `JUNCTION TRAIL` name, of a loop the first.
+    pub fn dart(&self, words: &str) -> Result<usize, String> {
         let [junction, trail] = words.split_whitespace().collect::<Vec<_>>()[..] else {
-            return Err(String::from("a plan by junctions has 'start: JUNCTION TRAIL', a junction and one of its trails"));
+            return Err(String::from("a plan by junctions names a dart by 'JUNCTION TRAIL', a junction and one of its trails"));
         };
         let found = self.junctions.iter().find(|known| known.name.text == junction);
-        let darts = &found.ok_or_else(|| format!("there is no junction {} to start at", beginning(junction)))?.darts;
+        let darts = &found.ok_or_else(|| format!("there is no junction {}", beginning(junction)))?.darts;
         let dart = darts.iter().find(|&dart| self.trails[dart / 2].text == trail);
-        dart.copied().ok_or_else(|| format!("junction {} has no trail {} to start with", beginning(junction), beginning(trail)))
+        dart.copied().ok_or_else(|| format!("junction {} has no trail {}", beginning(junction), beginning(trail)))
     }
 
     fn order(&self) -> Vec<u16> {
@@ -190,10 +190,10 @@ mod tests {
     #[test]
     fn the_start() {
         let start = |words| wrong(&format!("A: a b\nB: b a\nC: c c\n{words}\n# end\n"));
-        assert_eq!(start("start: D a"), (4, String::from("there is no junction D to start at")));
-        assert_eq!(start("start: B c"), (4, String::from("junction B has no trail c to start with")));
+        assert_eq!(start("start: D a"), (4, String::from("start: there is no junction D")));
+        assert_eq!(start("start: B c"), (4, String::from("start: junction B has no trail c")));
         for words in ["start: 3", "start: A", "start:", "start: A a b"] {
-            let wanted = "a plan by junctions has 'start: JUNCTION TRAIL', a junction and one of its trails";
+            let wanted = "start: a plan by junctions names a dart by 'JUNCTION TRAIL', a junction and one of its trails";
             assert_eq!(start(words), (4, String::from(wanted)));
         }
         assert_eq!(start(""), (5, String::from("no line 'start: JUNCTION TRAIL'")));

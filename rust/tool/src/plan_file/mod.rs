@@ -13,10 +13,12 @@ pub use junctions::text as junctions_text;
 pub use numbers::text;
 
 use crate::files::{bytes_of, text_of};
+use crate::names::beginning;
 use crate::options::Word;
 use crate::report::{in_words, Problem};
 use jurnadel::Refusal;
 use names::Names;
+use std::collections::BTreeMap;
 use std::fmt::Display;
 
 /// A line, and what is wrong there.
@@ -96,6 +98,28 @@ impl Plan {
         };
         let line = line.map_or(String::new(), |line| format!(":{line}"));
         Problem::Refused(format!("{file}{line}: {words}"))
+    }
+
+    /// The dart that words name: a number or, in a plan by junctions, a junction and one of its trails.
+    pub fn dart(&self, words: &str) -> Result<u16, String> {
+        let number = words.parse().ok().filter(|&dart: &u16| usize::from(dart) < self.order.len());
+        match (number, self.names()) {
+            (Some(dart), _) => Ok(dart),
+            (None, Some(names)) => names.dart(words).map(junctions::number),
+            (None, None) => Err(format!("the plan has darts 0 to {}, not {}", self.order.len() - 1, beginning(words))),
+        }
+    }
+
+    /// The names of the trails by their numbers, if they have names.
+    pub fn trail_names(&self) -> BTreeMap<u16, String> {
+        let names = self.names().into_iter().flat_map(|names| &names.trails);
+        (0..).zip(names.map(|name| name.text.clone())).collect()
+    }
+
+    /// The names of the junctions by their least darts, if they have names.
+    pub fn junction_names(&self) -> BTreeMap<u16, String> {
+        let junctions = self.names().into_iter().flat_map(|names| &names.junctions);
+        junctions.filter_map(|junction| Some((junctions::number(*junction.darts.iter().min()?), junction.name.text.clone()))).collect()
     }
 
     fn names(&self) -> Option<&Names> {

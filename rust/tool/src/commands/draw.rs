@@ -1,0 +1,50 @@
+//! `jurnadel draw`.
+
+use super::{put_out, Command, Done};
+use crate::draw::{svg, Picture};
+use crate::options::{Options, Word};
+use crate::plan_file::Plan;
+use crate::report::{Problem, Report};
+use crate::source;
+
+pub const COMMAND: Command = Command { name: "draw", summary: "draw a plan, as an SVG picture", help: HELP, run };
+
+const HELP: &str = "\
+usage: jurnadel draw [--outside DART] [-o FILE [--force]]
+                     PLAN | RECORD | SHELF NUMBER
+
+Draws a plan as an SVG picture, which any browser shows: no two trails cross,
+and around each junction its trails come in their turning order. The start is
+marked. Trails have their names or, in a plan without names, their numbers:
+trail 3 has darts 6 and 7. Loops, parallel trails and dead ends are drawn too.
+
+  --outside DART   put the area of this dart outside, all around the picture;
+                   in a plan by junctions 'JUNCTION TRAIL' names a dart, as in
+                   its line of start. Without it, the area of the start dart
+  -o FILE          to this file, which must not be there; else to standard
+                   output
+  --force          replace the file if it is there
+
+The area of a dart is the one on its right, as one leaves its junction.
+";
+
+fn run(words: &[Word], report: &mut Report) -> Done {
+    let options = Options::parse(words, &["--force"], &["--outside", "-o"])?;
+    let (plan, name) = source::load(&options.words)?;
+    plan.sound().map_err(|refusal| plan.problem(name, refusal))?;
+    let outside = options.value("--outside").map_or(Ok(plan.start), |word| dart(&plan, word))?;
+    let picture = Picture {
+        order: &plan.order,
+        start: plan.start,
+        outside,
+        trails: &plan.trail_names(),
+        junctions: &plan.junction_names(),
+    };
+    put_out(&options, &options.words[..1], svg(&picture).as_bytes(), report)
+}
+
+/// The dart that a word names.
+fn dart(plan: &Plan, word: &Word) -> Result<u16, Problem> {
+    let found = plan.dart(word.text().unwrap_or_default());
+    found.map_err(|what| Problem::Usage(format!("--outside: {what}")))
+}
