@@ -9,6 +9,7 @@
 //! * `report`: messages and the exit status.
 
 mod commands;
+mod draw;
 mod help;
 mod options;
 mod plan_file;

@@ -1,0 +1,175 @@
+//! The net of a plan: the plan made into a triangulation of the sphere without loops and double links.
+//!
+//! Each trail is cut into `SIDES` sides. Each area gets a point in its middle, linked to all points around the area. Where the
+//! area meets a point more than once, and in the outside area, a ring of points stands between: one for each side.
+
+/// Sides of a trail; three at least, so that loops are no loops in the net.
+pub const SIDES: usize = 4;
+
+/// A plan's net. Its points are the junctions, then the points on the trails, then the points in the areas.
+pub struct Net {
+    /// The least dart of each junction.
+    pub junctions: Vec<u16>,
+    /// The points of each trail, from the junction of its even dart to that of its odd dart.
+    pub routes: Vec<[usize; SIDES + 1]>,
+    /// How many areas there are.
+    pub areas: usize,
+    /// The ring in the outside area, counterclockwise around the plan; the first is right before the start dart if that is outside.
+    pub ring: Vec<usize>,
+    /// The middle of the outside area: the ring is around all other points.
+    pub far: usize,
+    links: Links,
+}
+
+/// The neighbours of each point, counterclockwise.
+struct Links {
+    first: Vec<usize>,
+    ends: Vec<usize>,
+}
+
+impl Net {
+    pub fn new(order: &[u16], start: u16, outside: u16) -> Net {
+        let (junctions, junction) = cycles(order.len(), |dart| order[dart].into());
+        let (areas, area) = cycles(order.len(), |dart| order[dart ^ 1].into());
+        let routes: Vec<_> = (0..order.len() / 2).map(|trail| route(trail, junctions.len(), &junction)).collect();
+        let mut weave = Weave { points: junctions.len() + routes.len() * (SIDES - 1), triangles: Vec::new() };
+        let mut net = Net { junctions, routes, areas: areas.len(), ring: Vec::new(), far: 0, links: Links::new(0, &[]) };
+        let outer = area[usize::from(outside)];
+        for (number, &least) in areas.iter().enumerate() {
+            let first = if number == outer && area[usize::from(start)] == outer { start } else { least };
+            let around = net.around(order, first);
+            let inner = if number == outer || repeats(&around, weave.points) { weave.ring(&around) } else { around };
+            let middle = weave.middle(&inner);
+            if number == outer {
+                (net.ring, net.far) = (inner, middle);
+            }
+        }
+        net.links = Links::new(weave.points, &weave.triangles);
+        net
+    }
+
+    /// How many points there are.
+    pub fn points(&self) -> usize {
+        self.links.first.len() - 1
+    }
+
+    /// The neighbours of a point, counterclockwise.
+    pub fn link(&self, point: usize) -> &[usize] {
+        &self.links.ends[self.links.first[point]..self.links.first[point + 1]]
+    }
+
+    /// The triangles at a point, counterclockwise: the two other corners of each.
+    pub fn fan(&self, point: usize) -> impl Iterator<Item = (usize, usize)> + '_ {
+        let link = self.link(point);
+        link.iter().copied().zip(link.iter().copied().cycle().skip(1))
+    }
+
+    /// The two points that make triangles with the side from one point to another: on its left and on its right.
+    pub fn beside(&self, from: usize, to: usize) -> [usize; 2] {
+        let link = self.link(from);
+        let place = link.iter().position(|&end| end == to).unwrap_or(0);
+        [link[(place + 1) % link.len()], link[(place + link.len() - 1) % link.len()]]
+    }
+
+    /// The points around an area, which lies on the right, from a dart on.
+    fn around(&self, order: &[u16], first: u16) -> Vec<usize> {
+        let mut around = Vec::new();
+        let mut dart = first;
+        loop {
+            let route = &self.routes[usize::from(dart) / 2];
+            match dart % 2 {
+                0 => around.extend(&route[..SIDES]),
+                _ => around.extend(route[1..].iter().rev()),
+            }
+            dart = order[usize::from(dart ^ 1)];
+            if dart == first {
+                return around;
+            }
+        }
+    }
+}
+
+/// The cycles of a permutation of the darts: the least dart of each, and the number of each dart's cycle.
+fn cycles(darts: usize, next: impl Fn(usize) -> usize) -> (Vec<u16>, Vec<usize>) {
+    let mut least = Vec::new();
+    let mut cycle = vec![usize::MAX; darts];
+    for first in 0..darts {
+        let mut dart = first;
+        while cycle[dart] == usize::MAX {
+            cycle[dart] = least.len();
+            dart = next(dart);
+        }
+        if cycle[first] == least.len() {
+            least.push(first as u16);
+        }
+    }
+    (least, cycle)
+}
+
+fn route(trail: usize, junctions: usize, junction: &[usize]) -> [usize; SIDES + 1] {
+    std::array::from_fn(|place| match place {
+        0 => junction[2 * trail],
+        SIDES => junction[2 * trail + 1],
+        _ => junctions + trail * (SIDES - 1) + place - 1,
+    })
+}
+
+/// Whether a point stands there twice.
+fn repeats(around: &[usize], points: usize) -> bool {
+    let mut seen = vec![false; points];
+    around.iter().any(|&point| std::mem::replace(&mut seen[point], true))
+}
+
+/// Points and triangles in the making; triangles are counterclockwise.
+struct Weave {
+    points: usize,
+    triangles: Vec<[usize; 3]>,
+}
+
+impl Weave {
+    /// A ring within an area, one point for each side around it.
+    fn ring(&mut self, around: &[usize]) -> Vec<usize> {
+        let ring: Vec<usize> = (self.points..self.points + around.len()).collect();
+        self.points += around.len();
+        for (side, &here) in ring.iter().enumerate() {
+            let next = (side + 1) % ring.len();
+            self.triangles.push([around[next], around[side], here]);
+            self.triangles.push([around[next], here, ring[next]]);
+        }
+        ring
+    }
+
+    /// A point in the middle of what is around it.
+    fn middle(&mut self, around: &[usize]) -> usize {
+        let middle = self.points;
+        self.points += 1;
+        for (side, &here) in around.iter().enumerate() {
+            self.triangles.push([around[(side + 1) % around.len()], here, middle]);
+        }
+        middle
+    }
+}
+
+impl Links {
+    fn new(points: usize, triangles: &[[usize; 3]]) -> Links {
+        let corners = || triangles.iter().flat_map(|&[a, b, c]| [[a, b, c], [b, c, a], [c, a, b]]);
+        let mut first = vec![0; points + 1];
+        corners().for_each(|[corner, _, _]| first[corner + 1] += 1);
+        (0..points).for_each(|point| first[point + 1] += first[point]);
+        let mut pairs = vec![(0, 0); triangles.len() * 3];
+        let mut filled = first.clone();
+        for [corner, from, to] in corners() {
+            pairs[filled[corner]] = (from, to);
+            filled[corner] += 1;
+        }
+        let mut next = vec![0; points];
+        let ends = (0..points).flat_map(|point| chain(&pairs[first[point]..first[point + 1]], &mut next)).collect();
+        Links { first, ends }
+    }
+}
+
+/// The pairs' first points, in the order that leads from each to its second.
+fn chain(pairs: &[(usize, usize)], next: &mut [usize]) -> Vec<usize> {
+    pairs.iter().for_each(|&(from, to)| next[from] = to);
+    std::iter::successors(Some(pairs[0].0), |&point| Some(next[point])).take(pairs.len()).collect()
+}

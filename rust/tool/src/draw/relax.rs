@@ -1,0 +1,173 @@
+//! Evening out a placement: points move, one at a time, so that triangles become even in size and shape and trails straight,
+//! and no triangle ever turns over.
+//!
+//! A triangle costs s (1 / A + A / a²), s the sum of its sides' squares, a its area and A the area that all should have: least
+//! for an equal-sided triangle of area A, beyond all bounds as the area vanishes. A bend costs the square of what its middle
+//! point is off the mean of the two others.
+
+use super::net::{Net, SIDES};
+use super::place::Place;
+
+/// What a bend costs, in relation to a triangle.
+const STIFFNESS: f64 = 1.0;
+/// What triangles at the outside ring cost, in relation to others.
+const OUTSIDE: f64 = 0.3;
+/// Points moved in all, at most, and sweeps over all points.
+const MOVES: usize = 1_000_000;
+const SWEEPS: usize = 600;
+
+/// Three points of a trail in a row.
+type Bend = [usize; 3];
+
+pub struct Relaxer<'a> {
+    net: &'a Net,
+    fixed: Vec<bool>,
+    outside: Vec<bool>,
+    /// The bends that each point has part in.
+    bends: Vec<Vec<Bend>>,
+    area: f64,
+}
+
+/// What the places around a point say of its own: cost, its slope and curvature.
+struct Pull {
+    slope: Place,
+    curve: [f64; 3],
+}
+
+impl<'a> Relaxer<'a> {
+    /// With these points fixed, and this area for each triangle.
+    pub fn new(net: &'a Net, fixed: &[usize], area: f64) -> Relaxer<'a> {
+        let mark = |points: &[usize]| {
+            let mut marks = vec![false; net.points()];
+            points.iter().for_each(|&point| marks[point] = true);
+            marks
+        };
+        let mut bends = vec![Vec::new(); net.points()];
+        for route in &net.routes {
+            for place in 1..SIDES {
+                let bend = [route[place - 1], route[place], route[place + 1]];
+                bend.iter().for_each(|&point| bends[point].push(bend));
+            }
+        }
+        Relaxer { net, fixed: mark(fixed), outside: mark(&net.ring), bends, area }
+    }
+
+    pub fn run(&self, places: &mut [Place]) {
+        let sweeps = SWEEPS.min(MOVES / places.len() + 1);
+        for _ in 0..sweeps {
+            (0..places.len()).filter(|&point| !self.fixed[point]).for_each(|point| self.move_point(places, point));
+        }
+    }
+
+    fn move_point(&self, places: &mut [Place], point: usize) {
+        let here = places[point];
+        let Pull { slope, curve } = self.pull(places, point);
+        let step = newton(slope, curve);
+        let mut along = self.reach(places, point, step);
+        let cost = self.cost(places, point, here);
+        for _ in 0..8 {
+            let there = [here[0] + along * step[0], here[1] + along * step[1]];
+            if self.cost(places, point, there) < cost {
+                places[point] = there;
+                return;
+            }
+            along *= 0.4;
+        }
+    }
+
+    fn share(&self, point: usize, from: usize, to: usize) -> f64 {
+        if self.outside[point] || self.outside[from] || self.outside[to] { OUTSIDE } else { 1.0 }
+    }
+
+    /// What the triangles and bends at a point cost if it is at this place.
+    fn cost(&self, places: &[Place], point: usize, here: Place) -> f64 {
+        let mut cost = 0.0;
+        for (from, to) in self.net.fan(point) {
+            let (b, c) = (places[from], places[to]);
+            let area = cross(here, b, c) / 2.0;
+            if area <= 0.0 {
+                return f64::INFINITY;
+            }
+            cost += self.share(point, from, to) * squares(here, b, c) * (1.0 / self.area + self.area / (area * area));
+        }
+        for bend in &self.bends[point] {
+            let at = |end: usize| if end == point { here } else { places[end] };
+            let off = off_mean(bend.map(at));
+            cost += STIFFNESS / self.area * (off[0] * off[0] + off[1] * off[1]);
+        }
+        cost
+    }
+
+    fn pull(&self, places: &[Place], point: usize) -> Pull {
+        let a = places[point];
+        let mut pull = Pull { slope: [0.0; 2], curve: [0.0; 3] };
+        for (from, to) in self.net.fan(point) {
+            let (b, c) = (places[from], places[to]);
+            let share = self.share(point, from, to);
+            let (sum, area) = (squares(a, b, c), cross(a, b, c) / 2.0);
+            let factor = share * (1.0 / self.area + self.area / (area * area));
+            let first = share * -2.0 * self.area / (area * area * area);
+            let second = share * 6.0 * self.area / (area * area * area * area);
+            let s = [2.0 * (2.0 * a[0] - b[0] - c[0]), 2.0 * (2.0 * a[1] - b[1] - c[1])];
+            let g = [(b[1] - c[1]) / 2.0, (c[0] - b[0]) / 2.0];
+            pull.slope[0] += factor * s[0] + sum * first * g[0];
+            pull.slope[1] += factor * s[1] + sum * first * g[1];
+            pull.curve[0] += 4.0 * factor + 2.0 * first * s[0] * g[0] + sum * second * g[0] * g[0];
+            pull.curve[1] += first * (s[0] * g[1] + s[1] * g[0]) + sum * second * g[0] * g[1];
+            pull.curve[2] += 4.0 * factor + 2.0 * first * s[1] * g[1] + sum * second * g[1] * g[1];
+        }
+        for bend in &self.bends[point] {
+            let off = off_mean(bend.map(|end| places[end]));
+            let weight = if bend[1] == point { -2.0 } else { 1.0 } * 2.0 * STIFFNESS / self.area;
+            pull.slope[0] += weight * off[0];
+            pull.slope[1] += weight * off[1];
+            let own = weight.abs() * if bend[1] == point { 2.0 } else { 1.0 };
+            pull.curve[0] += own;
+            pull.curve[2] += own;
+        }
+        pull
+    }
+
+    /// How much of a step can be done, up to the whole, before a triangle vanishes.
+    fn reach(&self, places: &[Place], point: usize, step: Place) -> f64 {
+        let a = places[point];
+        let moved = [a[0] + step[0], a[1] + step[1]];
+        let mut reach: f64 = 1.0;
+        for (from, to) in self.net.fan(point) {
+            let (now, then) = (cross(a, places[from], places[to]), cross(moved, places[from], places[to]));
+            if then <= 0.1 * now {
+                reach = reach.min(0.9 * now / (now - then));
+            }
+        }
+        reach
+    }
+}
+
+/// Twice the area of a triangle, positive if it is counterclockwise.
+pub fn cross(a: Place, b: Place, c: Place) -> f64 {
+    (b[0] - a[0]) * (c[1] - a[1]) - (b[1] - a[1]) * (c[0] - a[0])
+}
+
+/// The sum of the sides' squares.
+fn squares(a: Place, b: Place, c: Place) -> f64 {
+    let square = |a: Place, b: Place| (a[0] - b[0]).powi(2) + (a[1] - b[1]).powi(2);
+    square(a, b) + square(b, c) + square(c, a)
+}
+
+fn off_mean([a, b, c]: [Place; 3]) -> Place {
+    [a[0] - 2.0 * b[0] + c[0], a[1] - 2.0 * b[1] + c[1]]
+}
+
+/// The step to the least cost, the curvature made positive where it isn't.
+fn newton(slope: Place, [xx, xy, yy]: [f64; 3]) -> Place {
+    let (mean, half) = ((xx + yy) / 2.0, (xx - yy) / 2.0);
+    let spread = half.hypot(xy);
+    let lift = (spread * 1.05 - mean).max(0.0) + mean.abs() * 1e-9;
+    let (xx, yy) = (xx + lift, yy + lift);
+    let area = xx * yy - xy * xy;
+    if area > 0.0 {
+        [(xy * slope[1] - yy * slope[0]) / area, (xy * slope[0] - xx * slope[1]) / area]
+    } else {
+        [0.0, 0.0]
+    }
+}
