@@ -2,7 +2,7 @@
 
 use super::curve::{turn, Spot};
 use super::net::Net;
-use super::place::{self, Place};
+use super::place::{Place, Placement};
 use super::relax::{cross, Relaxer};
 use super::grid;
 
@@ -15,6 +15,9 @@ const WIDTH: f64 = 420.0;
 /// Units of the picture in a pixel: tried one after the other, until the grid is fine enough.
 const FINER: [f64; 4] = [1.0, 10.0, 100.0, 1000.0];
 
+/// How often the weights of the mean placement are made anew.
+const ROUNDS: usize = 1;
+
 pub struct Layout {
     /// Each point's spot; y goes up.
     pub spots: Vec<Spot>,
@@ -24,18 +27,24 @@ pub struct Layout {
 
 impl Layout {
     /// The mean placement, evened out; where the numbers do not carry it, one that begins on a grid; at last the grid itself.
-    pub fn new(net: &Net) -> Layout {
-        let circle: Vec<usize> = net.ring.iter().copied().chain([net.far]).collect();
-        let base = [net.far, net.ring[0], net.ring[1]];
-        Layout::from_places(net, place::place(net), &[net.far], &circle).unwrap_or_else(|| {
+    pub fn new(net: &mut Net) -> Layout {
+        Layout::from_circle(net).unwrap_or_else(|| {
+            let base = [net.far, net.ring[0], net.ring[1]];
             let spots = grid::place(net);
             let places = spots.iter().map(|spot| spot.map(|value| value as f64)).collect();
             Layout::from_places(net, places, &base, &base).unwrap_or_else(|| Layout::from_grid(net, &spots))
         })
     }
 
+    fn from_circle(net: &mut Net) -> Option<Layout> {
+        let circle: Vec<usize> = net.ring.iter().copied().chain([net.far]).collect();
+        let places = Placement::new(net).places;
+        let far = net.far;
+        Layout::from_places(net, places, &[far], &circle)
+    }
+
     /// The triangles that have all points of the rim are beyond the picture.
-    fn from_places(net: &Net, mut places: Vec<Place>, rim: &[usize], fixed: &[usize]) -> Option<Layout> {
+    fn from_places(net: &mut Net, mut places: Vec<Place>, rim: &[usize], fixed: &[usize]) -> Option<Layout> {
         if !fits(net, rim, |a, b, c| sign(places[a], places[b], places[c])) {
             return None;
         }

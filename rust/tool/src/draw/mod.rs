@@ -38,6 +38,7 @@ pub struct Picture<'a> {
 
 /// The picture's SVG text.
 pub fn svg(picture: &Picture) -> String {
-    let net = net::Net::new(picture.order, picture.start, picture.outside);
-    text::write(picture, &net, &layout::Layout::new(&net))
+    let mut net = net::Net::new(picture.order, picture.start, picture.outside);
+    let layout = layout::Layout::new(&mut net);
+    text::write(picture, &net, &layout)
 }

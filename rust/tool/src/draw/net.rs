@@ -18,13 +18,8 @@ pub struct Net {
     pub ring: Vec<usize>,
     /// The middle of the outside area: the ring is around all other points.
     pub far: usize,
-    links: Links,
-}
-
-/// The neighbours of each point, counterclockwise.
-struct Links {
-    first: Vec<usize>,
-    ends: Vec<usize>,
+    /// The neighbours of each point, counterclockwise.
+    links: Vec<Vec<usize>>,
 }
 
 impl Net {
@@ -33,7 +28,7 @@ impl Net {
         let (areas, area) = cycles(order.len(), |dart| order[dart ^ 1].into());
         let routes: Vec<_> = (0..order.len() / 2).map(|trail| route(trail, junctions.len(), &junction)).collect();
         let mut weave = Weave { points: junctions.len() + routes.len() * (SIDES - 1), triangles: Vec::new() };
-        let mut net = Net { junctions, routes, areas: areas.len(), ring: Vec::new(), far: 0, links: Links::new(0, &[]) };
+        let mut net = Net { junctions, routes, areas: areas.len(), ring: Vec::new(), far: 0, links: Vec::new() };
         let outer = area[usize::from(outside)];
         for (number, &least) in areas.iter().enumerate() {
             let first = if number == outer && area[usize::from(start)] == outer { start } else { least };
@@ -44,18 +39,18 @@ impl Net {
                 (net.ring, net.far) = (inner, middle);
             }
         }
-        net.links = Links::new(weave.points, &weave.triangles);
+        net.links = weave.links();
         net
     }
 
     /// How many points there are.
     pub fn points(&self) -> usize {
-        self.links.first.len() - 1
+        self.links.len()
     }
 
     /// The neighbours of a point, counterclockwise.
     pub fn link(&self, point: usize) -> &[usize] {
-        &self.links.ends[self.links.first[point]..self.links.first[point + 1]]
+        &self.links[point]
     }
 
     /// The triangles at a point, counterclockwise: the two other corners of each.
@@ -69,6 +64,22 @@ impl Net {
         let link = self.link(from);
         let place = link.iter().position(|&end| end == to).unwrap_or(0);
         [link[(place + 1) % link.len()], link[(place + link.len() - 1) % link.len()]]
+    }
+
+    /// Whether a point is on a trail or at its end.
+    pub fn on_trail(&self, point: usize) -> bool {
+        point < self.junctions.len() + self.routes.len() * (SIDES - 1)
+    }
+
+    /// Puts the other diagonal of the two triangles at a link in the place of the link.
+    pub fn flip(&mut self, a: usize, b: usize) {
+        let [left, right] = self.beside(a, b);
+        self.links[a].retain(|&end| end != b);
+        self.links[b].retain(|&end| end != a);
+        for (here, there, before) in [(left, right, a), (right, left, b)] {
+            let place = self.links[here].iter().position(|&end| end == before).map_or(0, |place| place + 1);
+            self.links[here].insert(place, there);
+        }
     }
 
     /// The points around an area, which lies on the right, from a dart on.
@@ -148,23 +159,17 @@ impl Weave {
         }
         middle
     }
-}
 
-impl Links {
-    fn new(points: usize, triangles: &[[usize; 3]]) -> Links {
-        let corners = || triangles.iter().flat_map(|&[a, b, c]| [[a, b, c], [b, c, a], [c, a, b]]);
-        let mut first = vec![0; points + 1];
-        corners().for_each(|[corner, _, _]| first[corner + 1] += 1);
-        (0..points).for_each(|point| first[point + 1] += first[point]);
-        let mut pairs = vec![(0, 0); triangles.len() * 3];
-        let mut filled = first.clone();
-        for [corner, from, to] in corners() {
-            pairs[filled[corner]] = (from, to);
-            filled[corner] += 1;
+    /// The neighbours of each point, counterclockwise.
+    fn links(&self) -> Vec<Vec<usize>> {
+        let mut pairs = vec![Vec::new(); self.points];
+        for &[a, b, c] in &self.triangles {
+            pairs[a].push((b, c));
+            pairs[b].push((c, a));
+            pairs[c].push((a, b));
         }
-        let mut next = vec![0; points];
-        let ends = (0..points).flat_map(|point| chain(&pairs[first[point]..first[point + 1]], &mut next)).collect();
-        Links { first, ends }
+        let mut next = vec![0; self.points];
+        pairs.iter().map(|pairs| chain(pairs, &mut next)).collect()
     }
 }
 

@@ -1,4 +1,4 @@
-//! The mean placement: the outside ring on a circle, every other point at the mean of its neighbours (Tutte).
+//! The mean placement: the outside ring on a circle, every other point at the weighted mean of its neighbours (Tutte).
 
 use super::net::Net;
 
@@ -8,55 +8,85 @@ pub type Place = [f64; 2];
 const STEPS: usize = 1500;
 /// The solution is good when what is left is this small, in relation to the beginning.
 const REST: f64 = 1e-14;
+/// Links that are shorter count as this long; the circle's radius is 1.
+const SHORTEST: f64 = 1e-7;
 
-/// Each point's place; that of the middle of the outside area is of no meaning.
-pub fn place(net: &Net) -> Vec<Place> {
-    let mut places = vec![[0.0; 2]; net.points()];
-    let mut free = vec![true; net.points()];
-    free[net.far] = false;
-    for (number, &point) in net.ring.iter().enumerate() {
-        let angle = std::f64::consts::TAU * (number as f64 / net.ring.len() as f64 - 0.25);
-        places[point] = [angle.cos(), angle.sin()];
-        free[point] = false;
-    }
-    for axis in 0..2 {
-        let mut values: Vec<f64> = places.iter().map(|place| place[axis]).collect();
-        settle(net, &free, &mut values);
-        places.iter_mut().zip(values).for_each(|(place, value)| place[axis] = value);
-    }
-    places
+/// A placement in the making. That of the middle of the outside area is the middle of the circle.
+pub struct Placement<'a> {
+    net: &'a Net,
+    free: Vec<bool>,
+    /// How much each link of each point pulls, in the order of the links.
+    weights: Vec<Vec<f64>>,
+    pub places: Vec<Place>,
 }
 
-/// Brings the free values to the means of their neighbours: conjugate gradients, each value scaled by its number of neighbours.
-fn settle(net: &Net, free: &[bool], values: &mut [f64]) {
-    let degree = |point: usize| net.link(point).len() as f64;
-    let mut rest = vec![0.0; values.len()];
-    pull(net, free, values, &mut rest);
-    rest.iter_mut().for_each(|value| *value = -*value);
-    let scaled = |rest: &[f64]| rest.iter().enumerate().map(|(point, value)| value / degree(point)).collect::<Vec<f64>>();
-    let mut step = scaled(&rest);
-    let mut size = dot(&rest, &step);
-    let enough = size * REST * REST;
-    let mut pulled = vec![0.0; values.len()];
-    for _ in 0..STEPS {
-        if size <= enough {
-            return;
+impl<'a> Placement<'a> {
+    /// With all weights equal.
+    pub fn new(net: &'a Net) -> Placement<'a> {
+        let mut places = vec![[0.0; 2]; net.points()];
+        let mut free = vec![true; net.points()];
+        free[net.far] = false;
+        for (number, &point) in net.ring.iter().enumerate() {
+            let angle = std::f64::consts::TAU * (number as f64 / net.ring.len() as f64 - 0.25);
+            places[point] = [angle.cos(), angle.sin()];
+            free[point] = false;
         }
-        pull(net, free, &step, &mut pulled);
-        let along = size / dot(&step, &pulled);
-        add(values, along, &step);
-        add(&mut rest, -along, &pulled);
-        let next = scaled(&rest);
-        let last = std::mem::replace(&mut size, dot(&rest, &next));
-        step.iter_mut().zip(next).for_each(|(step, next)| *step = next + *step * size / last);
+        let weights = (0..net.points()).map(|point| vec![1.0; net.link(point).len()]).collect();
+        let mut placement = Placement { net, free, weights, places };
+        placement.settle();
+        placement
     }
-}
 
-/// For each free point: its value times its number of neighbours, less their values.
-fn pull(net: &Net, free: &[bool], values: &[f64], pulled: &mut [f64]) {
-    for (point, value) in pulled.iter_mut().enumerate().filter(|&(point, _)| free[point]) {
-        let link = net.link(point);
-        *value = link.len() as f64 * values[point] - link.iter().map(|&end| values[end]).sum::<f64>();
+    /// Lets long links pull more and short ones less, so that what is crowded gets more room.
+    pub fn even_out(&mut self) {
+        for (point, weights) in self.weights.iter_mut().enumerate() {
+            for (weight, &end) in weights.iter_mut().zip(self.net.link(point)) {
+                let (a, b) = (self.places[point], self.places[end]);
+                *weight *= (a[0] - b[0]).hypot(a[1] - b[1]).max(SHORTEST);
+            }
+        }
+        self.settle();
+    }
+
+    fn settle(&mut self) {
+        for axis in 0..2 {
+            let mut values: Vec<f64> = self.places.iter().map(|place| place[axis]).collect();
+            self.solve(&mut values);
+            self.places.iter_mut().zip(values).for_each(|(place, value)| place[axis] = value);
+        }
+    }
+
+    /// Brings the free values to the means of their neighbours: conjugate gradients, each value scaled by its weight.
+    fn solve(&self, values: &mut [f64]) {
+        let sums: Vec<f64> = self.weights.iter().map(|weights| weights.iter().sum()).collect();
+        let scaled = |rest: &[f64]| rest.iter().zip(&sums).map(|(value, sum)| value / sum).collect::<Vec<f64>>();
+        let mut rest = vec![0.0; values.len()];
+        self.pull(&sums, values, &mut rest);
+        rest.iter_mut().for_each(|value| *value = -*value);
+        let mut step = scaled(&rest);
+        let mut size = dot(&rest, &step);
+        let enough = size * REST * REST;
+        let mut pulled = vec![0.0; values.len()];
+        for _ in 0..STEPS {
+            if size <= enough {
+                return;
+            }
+            self.pull(&sums, &step, &mut pulled);
+            let along = size / dot(&step, &pulled);
+            add(values, along, &step);
+            add(&mut rest, -along, &pulled);
+            let next = scaled(&rest);
+            let last = std::mem::replace(&mut size, dot(&rest, &next));
+            step.iter_mut().zip(next).for_each(|(step, next)| *step = next + *step * size / last);
+        }
+    }
+
+    /// For each free point: its value times its weight, less its neighbours' values times the weights of the links.
+    fn pull(&self, sums: &[f64], values: &[f64], pulled: &mut [f64]) {
+        for (point, value) in pulled.iter_mut().enumerate().filter(|&(point, _)| self.free[point]) {
+            let around = self.net.link(point).iter().zip(&self.weights[point]).map(|(&end, weight)| weight * values[end]);
+            *value = sums[point] * values[point] - around.sum::<f64>();
+        }
     }
 }
 

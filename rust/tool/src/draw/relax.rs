@@ -9,7 +9,7 @@ use super::net::{Net, SIDES};
 use super::place::Place;
 
 /// What a bend costs, in relation to a triangle.
-const STIFFNESS: f64 = 1.0;
+const STIFFNESS: f64 = 10.0;
 /// What triangles at the outside ring cost, in relation to others.
 const OUTSIDE: f64 = 0.3;
 /// Points moved in all, at most, and sweeps over all points.
@@ -20,7 +20,7 @@ const SWEEPS: usize = 600;
 type Bend = [usize; 3];
 
 pub struct Relaxer<'a> {
-    net: &'a Net,
+    net: &'a mut Net,
     fixed: Vec<bool>,
     outside: Vec<bool>,
     /// The bends that each point has part in.
@@ -36,7 +36,7 @@ struct Pull {
 
 impl<'a> Relaxer<'a> {
     /// With these points fixed, and this area for each triangle.
-    pub fn new(net: &'a Net, fixed: &[usize], area: f64) -> Relaxer<'a> {
+    pub fn new(net: &'a mut Net, fixed: &[usize], area: f64) -> Relaxer<'a> {
         let mark = |points: &[usize]| {
             let mut marks = vec![false; net.points()];
             points.iter().for_each(|&point| marks[point] = true);
@@ -49,14 +49,42 @@ impl<'a> Relaxer<'a> {
                 bend.iter().for_each(|&point| bends[point].push(bend));
             }
         }
-        Relaxer { net, fixed: mark(fixed), outside: mark(&net.ring), bends, area }
+        let (fixed, outside) = (mark(fixed), mark(&net.ring));
+        Relaxer { net, fixed, outside, bends, area }
     }
 
-    pub fn run(&self, places: &mut [Place]) {
+    pub fn run(mut self, places: &mut [Place]) {
         let sweeps = SWEEPS.min(MOVES / places.len() + 1);
-        for _ in 0..sweeps {
+        for sweep in 0..sweeps {
             (0..places.len()).filter(|&point| !self.fixed[point]).for_each(|point| self.move_point(places, point));
+            if sweep % 2 == 0 {
+                (0..places.len()).for_each(|point| self.flip_links(places, point));
+            }
         }
+    }
+
+    /// Flips the links from a point to later ones where that costs less. No link is to join two points on trails.
+    fn flip_links(&mut self, places: &[Place], a: usize) {
+        let mut place = 0;
+        while place < self.net.link(a).len() {
+            let b = self.net.link(a)[place];
+            place += 1;
+            if b < a || self.fixed[a] && self.fixed[b] || self.net.on_trail(a) && self.net.on_trail(b) {
+                continue;
+            }
+            let [c, d] = self.net.beside(a, b);
+            if self.net.on_trail(c) && self.net.on_trail(d) {
+                continue;
+            }
+            let now = self.triangle(places, a, b, c) + self.triangle(places, b, a, d);
+            if self.triangle(places, a, d, c) + self.triangle(places, d, b, c) < 0.999 * now {
+                self.net.flip(a, b);
+            }
+        }
+    }
+
+    fn triangle(&self, places: &[Place], a: usize, b: usize, c: usize) -> f64 {
+        self.share(a, b, c) * triangle_cost(places[a], places[b], places[c], self.area)
     }
 
     fn move_point(&self, places: &mut [Place], point: usize) {
@@ -83,12 +111,7 @@ impl<'a> Relaxer<'a> {
     fn cost(&self, places: &[Place], point: usize, here: Place) -> f64 {
         let mut cost = 0.0;
         for (from, to) in self.net.fan(point) {
-            let (b, c) = (places[from], places[to]);
-            let area = cross(here, b, c) / 2.0;
-            if area <= 0.0 {
-                return f64::INFINITY;
-            }
-            cost += self.share(point, from, to) * squares(here, b, c) * (1.0 / self.area + self.area / (area * area));
+            cost += self.share(point, from, to) * triangle_cost(here, places[from], places[to], self.area);
         }
         for bend in &self.bends[point] {
             let at = |end: usize| if end == point { here } else { places[end] };
@@ -141,6 +164,12 @@ impl<'a> Relaxer<'a> {
         }
         reach
     }
+}
+
+/// What a triangle costs that should have this area.
+fn triangle_cost(a: Place, b: Place, c: Place, wanted: f64) -> f64 {
+    let area = cross(a, b, c) / 2.0;
+    if area > 0.0 { squares(a, b, c) * (1.0 / wanted + wanted / (area * area)) } else { f64::INFINITY }
 }
 
 /// Twice the area of a triangle, positive if it is counterclockwise.
