@@ -7,10 +7,10 @@ use super::net::Net;
 
 const NONE: usize = usize::MAX;
 
-/// The points on the grid; the base is the first side of the outside ring, the middle of the outside area is on top.
+/// The points on the grid; the three far points are the corners.
 pub fn place(net: &Net) -> Vec<[i64; 2]> {
-    let (left, right) = (net.ring[0], net.ring[1]);
-    let mut steps = Shelling::new(net, left, right).run();
+    let [left, right, _] = net.far;
+    let mut steps = Shelling::new(net).run();
     steps.reverse();
     Rise::new(net.points(), left, right).run(&steps)
 }
@@ -36,7 +36,8 @@ struct Shelling<'a> {
 }
 
 impl<'a> Shelling<'a> {
-    fn new(net: &'a Net, left: usize, right: usize) -> Shelling<'a> {
+    fn new(net: &'a Net) -> Shelling<'a> {
+        let [left, right, top] = net.far;
         let points = net.points();
         let mut shelling = Shelling {
             net,
@@ -45,10 +46,10 @@ impl<'a> Shelling<'a> {
             before: vec![NONE; points],
             on_contour: vec![false; points],
             chords: vec![0; points],
-            ready: vec![net.far],
+            ready: vec![top],
         };
-        [left, net.far, right].windows(2).for_each(|pair| shelling.join(pair[0], pair[1]));
-        [left, net.far, right].iter().for_each(|&point| shelling.on_contour[point] = true);
+        [left, top, right].windows(2).for_each(|pair| shelling.join(pair[0], pair[1]));
+        [left, top, right].iter().for_each(|&point| shelling.on_contour[point] = true);
         shelling
     }
 

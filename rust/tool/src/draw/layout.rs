@@ -15,9 +15,6 @@ const WIDTH: f64 = 420.0;
 /// Units of the picture in a pixel: tried one after the other, until the grid is fine enough.
 const FINER: [f64; 4] = [1.0, 10.0, 100.0, 1000.0];
 
-/// How often the weights of the mean placement are made anew.
-const ROUNDS: usize = 1;
-
 pub struct Layout {
     /// Each point's spot; y goes up.
     pub spots: Vec<Spot>,
@@ -29,27 +26,31 @@ impl Layout {
     /// The mean placement, evened out; where the numbers do not carry it, one that begins on a grid; at last the grid itself.
     pub fn new(net: &mut Net) -> Layout {
         Layout::from_circle(net).unwrap_or_else(|| {
-            let base = [net.far, net.ring[0], net.ring[1]];
             let spots = grid::place(net);
-            let places = spots.iter().map(|spot| spot.map(|value| value as f64)).collect();
-            Layout::from_places(net, places, &base, &base).unwrap_or_else(|| Layout::from_grid(net, &spots))
+            Layout::from_triangle(net, &spots).unwrap_or_else(|| Layout::from_grid(net, &spots))
         })
     }
 
     fn from_circle(net: &mut Net) -> Option<Layout> {
-        let circle: Vec<usize> = net.ring.iter().copied().chain([net.far]).collect();
+        let fixed: Vec<usize> = net.ring.iter().chain(&net.far).copied().collect();
         let places = Placement::new(net).places;
-        let far = net.far;
-        Layout::from_places(net, places, &[far], &circle)
+        let area = std::f64::consts::PI / (2 * net.points()) as f64;
+        Layout::from_places(net, places, Rim::Circle, &fixed, area)
     }
 
-    /// The triangles that have all points of the rim are beyond the picture.
-    fn from_places(net: &mut Net, mut places: Vec<Place>, rim: &[usize], fixed: &[usize]) -> Option<Layout> {
+    fn from_triangle(net: &mut Net, spots: &[Spot]) -> Option<Layout> {
+        let points = net.points() as f64;
+        // The grid's corners are (0, 0), (2 points - 4, 0) and (points - 2, points - 2): made equal-sided.
+        let place = |spot: &Spot| [spot[0] as f64 / points - 1.0, spot[1] as f64 / points * 3f64.sqrt()];
+        let places = spots.iter().map(place).collect();
+        Layout::from_places(net, places, Rim::Triangle, &net.far.clone(), 3f64.sqrt() / (4.0 * points))
+    }
+
+    fn from_places(net: &mut Net, mut places: Vec<Place>, rim: Rim, fixed: &[usize], area: f64) -> Option<Layout> {
         if !fits(net, rim, |a, b, c| sign(places[a], places[b], places[c])) {
             return None;
         }
-        let total = net.ring.windows(2).map(|side| cross(places[net.far], places[side[0]], places[side[1]]).abs()).sum::<f64>();
-        Relaxer::new(net, fixed, total / 4.0 / net.points() as f64).run(&mut places);
+        Relaxer::new(net, fixed, area).run(&mut places);
         let scale = scale(net, &places);
         FINER.iter().find_map(|&unit| {
             let factor = scale * unit * STEPS as f64;
@@ -66,12 +67,25 @@ impl Layout {
     }
 }
 
-/// Whether each triangle is counterclockwise, by its sign, and those beyond the rim clockwise.
-fn fits(net: &Net, rim: &[usize], sign: impl Fn(usize, usize, usize) -> i128) -> bool {
+/// What is around all that is placed.
+#[derive(Clone, Copy, PartialEq)]
+enum Rim {
+    /// The ring, with the far points in its middle.
+    Circle,
+    /// The far points.
+    Triangle,
+}
+
+/// Whether each triangle is counterclockwise, by its sign. In the middle of the circle those with the ring are clockwise.
+fn fits(net: &Net, rim: Rim, sign: impl Fn(usize, usize, usize) -> i128) -> bool {
     (0..net.points()).all(|point| {
         net.fan(point).filter(|&(from, to)| point < from && point < to).all(|(from, to)| {
-            let beyond = rim.iter().all(|&corner| [point, from, to].contains(&corner));
-            sign(point, from, to) == if beyond { -1 } else { 1 }
+            let far = [point, from, to].iter().filter(|corner| net.far.contains(corner)).count();
+            match (rim, far) {
+                (_, 0) | (Rim::Triangle, 1 | 2) => sign(point, from, to) == 1,
+                (Rim::Circle, 1) => sign(point, from, to) == -1,
+                _ => true,
+            }
         })
     })
 }

@@ -16,8 +16,8 @@ pub struct Net {
     pub areas: usize,
     /// The ring in the outside area, counterclockwise around the plan; the first is right before the start dart if that is outside.
     pub ring: Vec<usize>,
-    /// The middle of the outside area: the ring is around all other points.
-    pub far: usize,
+    /// Three points in the outside area that the ring does not part from each other, counterclockwise around the plan.
+    pub far: [usize; 3],
     /// The neighbours of each point, counterclockwise.
     links: Vec<Vec<usize>>,
 }
@@ -28,15 +28,19 @@ impl Net {
         let (areas, area) = cycles(order.len(), |dart| order[dart ^ 1].into());
         let routes: Vec<_> = (0..order.len() / 2).map(|trail| route(trail, junctions.len(), &junction)).collect();
         let mut weave = Weave { points: junctions.len() + routes.len() * (SIDES - 1), triangles: Vec::new() };
-        let mut net = Net { junctions, routes, areas: areas.len(), ring: Vec::new(), far: 0, links: Vec::new() };
+        let mut net = Net { junctions, routes, areas: areas.len(), ring: Vec::new(), far: [0; 3], links: Vec::new() };
         let outer = area[usize::from(outside)];
         for (number, &least) in areas.iter().enumerate() {
             let first = if number == outer && area[usize::from(start)] == outer { start } else { least };
             let around = net.around(order, first);
-            let inner = if number == outer || repeats(&around, weave.points) { weave.ring(&around) } else { around };
-            let middle = weave.middle(&inner);
             if number == outer {
-                (net.ring, net.far) = (inner, middle);
+                net.ring = weave.ring(&around);
+                net.far = weave.far(&net.ring);
+            } else if repeats(&around, weave.points) {
+                let ring = weave.ring(&around);
+                weave.middle(&ring);
+            } else {
+                weave.middle(&around);
             }
         }
         net.links = weave.links();
@@ -151,13 +155,28 @@ impl Weave {
     }
 
     /// A point in the middle of what is around it.
-    fn middle(&mut self, around: &[usize]) -> usize {
+    fn middle(&mut self, around: &[usize]) {
         let middle = self.points;
         self.points += 1;
         for (side, &here) in around.iter().enumerate() {
             self.triangles.push([around[(side + 1) % around.len()], here, middle]);
         }
-        middle
+    }
+
+    /// Three points on the other side of a ring, each linked to a third of it.
+    fn far(&mut self, ring: &[usize]) -> [usize; 3] {
+        let far = [self.points, self.points + 1, self.points + 2];
+        self.points += 3;
+        let third = |side: usize| far[side * 3 / ring.len()];
+        for (side, &here) in ring.iter().enumerate() {
+            let next = (side + 1) % ring.len();
+            self.triangles.push([ring[next], here, third(side)]);
+            if third(side) != third(next) {
+                self.triangles.push([ring[next], third(side), third(next)]);
+            }
+        }
+        self.triangles.push([far[2], far[1], far[0]]);
+        far
     }
 
     /// The neighbours of each point, counterclockwise.

@@ -8,10 +8,8 @@ pub type Place = [f64; 2];
 const STEPS: usize = 1500;
 /// The solution is good when what is left is this small, in relation to the beginning.
 const REST: f64 = 1e-14;
-/// Links that are shorter count as this long; the circle's radius is 1.
-const SHORTEST: f64 = 1e-7;
 
-/// A placement in the making. That of the middle of the outside area is the middle of the circle.
+/// A placement in the making. The far points are in the middle of the circle.
 pub struct Placement<'a> {
     net: &'a Net,
     free: Vec<bool>,
@@ -25,27 +23,16 @@ impl<'a> Placement<'a> {
     pub fn new(net: &'a Net) -> Placement<'a> {
         let mut places = vec![[0.0; 2]; net.points()];
         let mut free = vec![true; net.points()];
-        free[net.far] = false;
+        net.far.iter().for_each(|&point| free[point] = false);
         for (number, &point) in net.ring.iter().enumerate() {
             let angle = std::f64::consts::TAU * (number as f64 / net.ring.len() as f64 - 0.25);
             places[point] = [angle.cos(), angle.sin()];
             free[point] = false;
         }
-        let weights = (0..net.points()).map(|point| vec![1.0; net.link(point).len()]).collect();
+        let weights = (0..net.points()).map(|point| net.link(point).iter().map(|&end| weight(net, point, end)).collect()).collect();
         let mut placement = Placement { net, free, weights, places };
         placement.settle();
         placement
-    }
-
-    /// Lets long links pull more and short ones less, so that what is crowded gets more room.
-    pub fn even_out(&mut self) {
-        for (point, weights) in self.weights.iter_mut().enumerate() {
-            for (weight, &end) in weights.iter_mut().zip(self.net.link(point)) {
-                let (a, b) = (self.places[point], self.places[end]);
-                *weight *= (a[0] - b[0]).hypot(a[1] - b[1]).max(SHORTEST);
-            }
-        }
-        self.settle();
     }
 
     fn settle(&mut self) {
@@ -88,6 +75,11 @@ impl<'a> Placement<'a> {
             *value = sums[point] * values[point] - around.sum::<f64>();
         }
     }
+}
+
+/// How much a link pulls: the less, the more links its ends have, for those that many points hang on draw all together.
+fn weight(net: &Net, a: usize, b: usize) -> f64 {
+    1.0 / (net.link(a).len() * net.link(b).len()) as f64
 }
 
 fn dot(a: &[f64], b: &[f64]) -> f64 {
