@@ -4,7 +4,7 @@
 //! a trail, and a point on a trail is on no other: so a curve that keeps to the triangles along its sides and at its corners
 //! meets no other trail. This is tested on the whole numbers that are printed; a corner that does not pass it stays sharp.
 
-use super::net::{Net, SIDES};
+use super::net::Net;
 
 /// A place on the grid of what is printed.
 pub type Spot = [i64; 2];
@@ -20,25 +20,25 @@ pub type Corner = [Spot; 3];
 /// A trail from junction to junction.
 pub struct Curve {
     pub begin: Spot,
-    pub corners: [Corner; SIDES - 1],
+    pub corners: Vec<Corner>,
     pub end: Spot,
 }
 
 impl Curve {
-    pub fn new(net: &Net, spots: &[Spot], route: &[usize; SIDES + 1]) -> Curve {
-        let sharp = Curve {
-            begin: spots[route[0]],
-            corners: std::array::from_fn(|place| [spots[route[place + 1]]; 3]),
-            end: spots[route[SIDES]],
-        };
-        let smooth = Curve { corners: std::array::from_fn(|place| rounded(net, spots, route, place + 1)), ..sharp };
-        if (0..SIDES).all(|side| smooth.keeps_to_side(net, spots, route, side)) { smooth } else { sharp }
+    pub fn new(net: &Net, spots: &[Spot], route: &[usize]) -> Curve {
+        let sides = route.len() - 1;
+        let with = |corners: Vec<Corner>| Curve { begin: spots[route[0]], corners, end: spots[route[sides]] };
+        let smooth = with((1..sides).map(|place| rounded(net, spots, route, place)).collect());
+        if (0..sides).all(|side| smooth.keeps_to_side(net, spots, route, side)) {
+            return smooth;
+        }
+        with((1..sides).map(|place| [spots[route[place]]; 3]).collect())
     }
 
     /// The two ends of what is straight of a side.
     fn straight(&self, side: usize) -> (Spot, Spot) {
         let from = if side == 0 { self.begin } else { self.corners[side - 1][2] };
-        let to = if side == SIDES - 1 { self.end } else { self.corners[side][0] };
+        let to = self.corners.get(side).map_or(self.end, |corner| corner[0]);
         (from, to)
     }
 
@@ -58,7 +58,7 @@ impl Curve {
 fn rounded(net: &Net, spots: &[Spot], route: &[usize], place: usize) -> Corner {
     let here = spots[route[place]];
     let toward = |other: usize, part: f64| {
-        let share = if other == 0 || other == SIDES { TO_JUNCTION } else { 0.5 };
+        let share = if other == 0 || other == route.len() - 1 { TO_JUNCTION } else { 0.5 };
         between(here, spots[route[other]], share * part)
     };
     let corners = TRIED.iter().map(|&part| [toward(place - 1, part), here, toward(place + 1, part)]);

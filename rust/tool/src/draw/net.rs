@@ -3,15 +3,15 @@
 //! Each trail is cut into `SIDES` sides. Each area gets a point in its middle, linked to all points around the area. Where the
 //! area meets a point more than once, and in the outside area, a ring of points stands between: one for each side.
 
-/// Sides of a trail; three at least, so that loops are no loops in the net.
-pub const SIDES: usize = 4;
+/// Sides of a trail to begin with; three at least, so that loops are no loops in the net.
+const SIDES: usize = 4;
 
 /// A plan's net. Its points are the junctions, then the points on the trails, then the points in the areas.
 pub struct Net {
     /// The least dart of each junction.
     pub junctions: Vec<u16>,
     /// The points of each trail, from the junction of its even dart to that of its odd dart.
-    pub routes: Vec<[usize; SIDES + 1]>,
+    pub routes: Vec<Vec<usize>>,
     /// How many areas there are.
     pub areas: usize,
     /// The ring in the outside area, counterclockwise around the plan; the first is right before the start dart if that is outside.
@@ -20,6 +20,8 @@ pub struct Net {
     pub far: [usize; 3],
     /// The neighbours of each point, counterclockwise.
     links: Vec<Vec<usize>>,
+    /// Whether each point is on a trail or at its end.
+    on_trail: Vec<bool>,
 }
 
 impl Net {
@@ -27,8 +29,9 @@ impl Net {
         let (junctions, junction) = cycles(order.len(), |dart| order[dart].into());
         let (areas, area) = cycles(order.len(), |dart| order[dart ^ 1].into());
         let routes: Vec<_> = (0..order.len() / 2).map(|trail| route(trail, junctions.len(), &junction)).collect();
-        let mut weave = Weave { points: junctions.len() + routes.len() * (SIDES - 1), triangles: Vec::new() };
-        let mut net = Net { junctions, routes, areas: areas.len(), ring: Vec::new(), far: [0; 3], links: Vec::new() };
+        let on_trails = junctions.len() + routes.len() * (SIDES - 1);
+        let mut weave = Weave { points: on_trails, triangles: Vec::new() };
+        let mut net = Net { junctions, routes, areas: areas.len(), ring: Vec::new(), far: [0; 3], links: Vec::new(), on_trail: Vec::new() };
         let outer = area[usize::from(outside)];
         for (number, &least) in areas.iter().enumerate() {
             let first = if number == outer && area[usize::from(start)] == outer { start } else { least };
@@ -44,6 +47,7 @@ impl Net {
             }
         }
         net.links = weave.links();
+        net.on_trail = (0..weave.points).map(|point| point < on_trails).collect();
         net
     }
 
@@ -72,7 +76,29 @@ impl Net {
 
     /// Whether a point is on a trail or at its end.
     pub fn on_trail(&self, point: usize) -> bool {
-        point < self.junctions.len() + self.routes.len() * (SIDES - 1)
+        self.on_trail[point]
+    }
+
+    /// Splits a side of a trail, and the two triangles along it; the new point is the last of all.
+    pub fn split(&mut self, trail: usize, side: usize) {
+        let [a, b] = [self.routes[trail][side], self.routes[trail][side + 1]];
+        let [left, right] = self.beside(a, b);
+        let point = self.links.len();
+        for (here, old) in [(a, b), (b, a)] {
+            self.links[here].iter_mut().filter(|end| **end == old).for_each(|end| *end = point);
+        }
+        for (here, before) in [(left, a), (right, b)] {
+            self.insert(here, before, point);
+        }
+        self.links.push(vec![b, left, a, right]);
+        self.on_trail.push(true);
+        self.routes[trail].insert(side + 1, point);
+    }
+
+    /// Links a point to another, next after one that it is linked to.
+    fn insert(&mut self, here: usize, before: usize, there: usize) {
+        let place = self.links[here].iter().position(|&end| end == before).map_or(0, |place| place + 1);
+        self.links[here].insert(place, there);
     }
 
     /// Puts the other diagonal of the two triangles at a link in the place of the link.
@@ -81,8 +107,7 @@ impl Net {
         self.links[a].retain(|&end| end != b);
         self.links[b].retain(|&end| end != a);
         for (here, there, before) in [(left, right, a), (right, left, b)] {
-            let place = self.links[here].iter().position(|&end| end == before).map_or(0, |place| place + 1);
-            self.links[here].insert(place, there);
+            self.insert(here, before, there);
         }
     }
 
@@ -121,12 +146,9 @@ fn cycles(darts: usize, next: impl Fn(usize) -> usize) -> (Vec<u16>, Vec<usize>)
     (least, cycle)
 }
 
-fn route(trail: usize, junctions: usize, junction: &[usize]) -> [usize; SIDES + 1] {
-    std::array::from_fn(|place| match place {
-        0 => junction[2 * trail],
-        SIDES => junction[2 * trail + 1],
-        _ => junctions + trail * (SIDES - 1) + place - 1,
-    })
+fn route(trail: usize, junctions: usize, junction: &[usize]) -> Vec<usize> {
+    let first = junctions + trail * (SIDES - 1);
+    [junction[2 * trail]].into_iter().chain(first..first + SIDES - 1).chain([junction[2 * trail + 1]]).collect()
 }
 
 /// Whether a point stands there twice.

@@ -5,7 +5,7 @@
 //! for an equal-sided triangle of area A, beyond all bounds as the area vanishes. A bend costs the square of what its middle
 //! point is off the mean of the two others.
 
-use super::net::{Net, SIDES};
+use super::net::Net;
 use super::place::Place;
 
 /// What a bend costs, in relation to a triangle.
@@ -15,6 +15,9 @@ const OUTSIDE: f64 = 0.3;
 /// Points moved in all, at most, and sweeps over all points.
 const MOVES: usize = 1_000_000;
 const SWEEPS: usize = 600;
+/// After each round long sides are split: those longer than this, in relation to the root of the area.
+const ROUNDS: usize = 4;
+const LONG: f64 = 2.5;
 
 /// Three points of a trail in a row.
 type Bend = [usize; 3];
@@ -42,23 +45,35 @@ impl<'a> Relaxer<'a> {
             points.iter().for_each(|&point| marks[point] = true);
             marks
         };
-        let mut bends = vec![Vec::new(); net.points()];
-        for route in &net.routes {
-            for place in 1..SIDES {
-                let bend = [route[place - 1], route[place], route[place + 1]];
-                bend.iter().for_each(|&point| bends[point].push(bend));
-            }
-        }
         let (fixed, outside) = (mark(fixed), mark(&net.ring));
-        Relaxer { net, fixed, outside, bends, area }
+        Relaxer { net, fixed, outside, bends: Vec::new(), area }
     }
 
-    pub fn run(mut self, places: &mut [Place]) {
-        let sweeps = SWEEPS.min(MOVES / places.len() + 1);
-        for sweep in 0..sweeps {
-            (0..places.len()).filter(|&point| !self.fixed[point]).for_each(|point| self.move_point(places, point));
-            if sweep % 2 == 0 {
-                (0..places.len()).for_each(|point| self.flip_links(places, point));
+    pub fn run(mut self, places: &mut Vec<Place>) {
+        for _ in 0..ROUNDS {
+            self.bends = bends(self.net);
+            for sweep in 0..SWEEPS.min(MOVES / places.len() + 1) / ROUNDS {
+                (0..places.len()).filter(|&point| !self.fixed[point]).for_each(|point| self.move_point(places, point));
+                if sweep % 2 == 0 {
+                    (0..places.len()).for_each(|point| self.flip_links(places, point));
+                }
+            }
+            self.split_sides(places);
+        }
+    }
+
+    /// Splits the sides that are long, so that trails can bend there.
+    fn split_sides(&mut self, places: &mut Vec<Place>) {
+        for trail in 0..self.net.routes.len() {
+            let route = self.net.routes[trail].clone();
+            for side in (0..route.len() - 1).rev() {
+                let (a, b) = (places[route[side]], places[route[side + 1]]);
+                if (a[0] - b[0]).powi(2) + (a[1] - b[1]).powi(2) > LONG * LONG * self.area {
+                    self.net.split(trail, side);
+                    places.push([(a[0] + b[0]) / 2.0, (a[1] + b[1]) / 2.0]);
+                    self.fixed.push(false);
+                    self.outside.push(false);
+                }
             }
         }
     }
@@ -164,6 +179,15 @@ impl<'a> Relaxer<'a> {
         }
         reach
     }
+}
+
+/// The bends that each point has part in.
+fn bends(net: &Net) -> Vec<Vec<Bend>> {
+    let mut bends = vec![Vec::new(); net.points()];
+    for bend in net.routes.iter().flat_map(|route| route.windows(3)) {
+        bend.iter().for_each(|&point| bends[point].push([bend[0], bend[1], bend[2]]));
+    }
+    bends
 }
 
 /// What a triangle costs that should have this area.

@@ -5,7 +5,7 @@
 
 use super::curve::{Curve, Spot};
 use super::layout::{Layout, STEPS};
-use super::net::{Net, SIDES};
+use super::net::Net;
 use super::Picture;
 use std::fmt::Write as _;
 
@@ -147,7 +147,7 @@ impl<'a> Page<'a> {
 
     /// The mark of the start: a ring at its junction and an arrow head along its dart.
     fn start(&self, text: &mut String, picture: &Picture) {
-        let mut route = self.net.routes[usize::from(picture.start / 2)];
+        let mut route = self.net.routes[usize::from(picture.start / 2)].clone();
         if picture.start % 2 == 1 {
             route.reverse();
         }
@@ -181,7 +181,7 @@ impl<'a> Page<'a> {
         for (trail, route) in self.net.routes.iter().enumerate() {
             let [x, y] = self.middle(trail);
             let colour = if trail == usize::from(picture.start / 2) { format!(" fill=\"{ACCENT}\"") } else { String::new() };
-            let size = (0.6 * self.room(route[SIDES / 2])).clamp(LEAST, LETTER);
+            let size = (0.6 * self.room(route[route.len() / 2])).clamp(LEAST, LETTER);
             self.label(text, [x, y + self.px(size * 0.35)], size, &colour, &trail_name(picture, trail));
         }
         for (point, least) in self.net.junctions.iter().enumerate() {
@@ -202,7 +202,7 @@ impl<'a> Page<'a> {
 
     /// The middle of a trail's curve, in units.
     fn middle(&self, trail: usize) -> [f64; 2] {
-        let [from, here, to] = self.curves[trail].corners[SIDES / 2 - 1].map(|spot| self.at(spot));
+        let [from, here, to] = self.curves[trail].corners[self.curves[trail].corners.len() / 2].map(|spot| self.at(spot));
         std::array::from_fn(|axis| (from[axis] + 2.0 * here[axis] + to[axis]) / 4.0)
     }
 
