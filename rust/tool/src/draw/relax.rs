@@ -9,15 +9,16 @@ use super::net::Net;
 use super::place::Place;
 
 /// What a bend costs, in relation to a triangle.
-const STIFFNESS: f64 = 10.0;
+const STIFFNESS: f64 = 30.0;
 /// What triangles at the outside ring cost, in relation to others.
 const OUTSIDE: f64 = 0.3;
 /// Points moved in all, at most, and sweeps over all points.
 const MOVES: usize = 1_000_000;
 const SWEEPS: usize = 600;
-/// After each round long sides are split: those longer than this, in relation to the root of the area.
+/// After each round sides are split: those whose square is above so many areas, at a bend above this angle.
 const ROUNDS: usize = 4;
-const LONG: f64 = 2.5;
+const LONG: f64 = 6.0;
+const BENT: f64 = 0.35;
 
 /// Three points of a trail in a row.
 type Bend = [usize; 3];
@@ -62,18 +63,22 @@ impl<'a> Relaxer<'a> {
         }
     }
 
-    /// Splits the sides that are long, so that trails can bend there.
+    /// Splits the sides that are long and bent, so that trails can bend there.
     fn split_sides(&mut self, places: &mut Vec<Place>) {
         for trail in 0..self.net.routes.len() {
             let route = self.net.routes[trail].clone();
-            for side in (0..route.len() - 1).rev() {
+            let at = |place: usize| places[route[place]];
+            let bent = |place: usize| {
+                place > 0 && place + 1 < route.len() && angle([at(place - 1), at(place), at(place + 1)]) > BENT
+            };
+            let long = |side: usize| squared(at(side), at(side + 1)) > LONG * self.area && (bent(side) || bent(side + 1));
+            let sides: Vec<usize> = (0..route.len() - 1).rev().filter(|&side| long(side)).collect();
+            for side in sides {
                 let (a, b) = (places[route[side]], places[route[side + 1]]);
-                if (a[0] - b[0]).powi(2) + (a[1] - b[1]).powi(2) > LONG * LONG * self.area {
-                    self.net.split(trail, side);
-                    places.push([(a[0] + b[0]) / 2.0, (a[1] + b[1]) / 2.0]);
-                    self.fixed.push(false);
-                    self.outside.push(false);
-                }
+                self.net.split(trail, side);
+                places.push([(a[0] + b[0]) / 2.0, (a[1] + b[1]) / 2.0]);
+                self.fixed.push(false);
+                self.outside.push(false);
             }
         }
     }
@@ -201,10 +206,20 @@ pub fn cross(a: Place, b: Place, c: Place) -> f64 {
     (b[0] - a[0]) * (c[1] - a[1]) - (b[1] - a[1]) * (c[0] - a[0])
 }
 
+/// The square of a length.
+fn squared(a: Place, b: Place) -> f64 {
+    (a[0] - b[0]).powi(2) + (a[1] - b[1]).powi(2)
+}
+
 /// The sum of the sides' squares.
 fn squares(a: Place, b: Place, c: Place) -> f64 {
-    let square = |a: Place, b: Place| (a[0] - b[0]).powi(2) + (a[1] - b[1]).powi(2);
-    square(a, b) + square(b, c) + square(c, a)
+    squared(a, b) + squared(b, c) + squared(c, a)
+}
+
+/// How much the way from a over b to c turns.
+fn angle([a, b, c]: [Place; 3]) -> f64 {
+    let along = (b[0] - a[0]) * (c[0] - b[0]) + (b[1] - a[1]) * (c[1] - b[1]);
+    cross(a, b, c).atan2(along).abs()
 }
 
 fn off_mean([a, b, c]: [Place; 3]) -> Place {
