@@ -1,10 +1,10 @@
 //! Where each point of a net stands in the picture, on the grid of what is printed.
 
 use super::curve::{turn, Spot};
-use super::net::Net;
-use super::place::{Place, Placement};
-use super::relax::{cross, Relaxer};
 use super::grid;
+use super::net::Net;
+use super::place::{self, Place};
+use super::relax::Relaxer;
 
 /// Steps of the grid in a unit of the picture: what is printed has two decimals.
 pub const STEPS: i64 = 100;
@@ -16,6 +16,8 @@ const WIDTH: f64 = 420.0;
 const FINER: [f64; 4] = [1.0, 10.0, 100.0, 1000.0];
 
 pub struct Layout {
+    /// The net, with the links and sides that it came to have.
+    pub net: Net,
     /// Each point's spot; y goes up.
     pub spots: Vec<Spot>,
     /// Units of the picture in a pixel.
@@ -24,69 +26,53 @@ pub struct Layout {
 
 impl Layout {
     /// The mean placement, evened out; where the numbers do not carry it, one that begins on a grid; at last the grid itself.
-    pub fn new(net: &mut Net) -> Layout {
-        Layout::from_circle(net).unwrap_or_else(|| {
-            let spots = grid::place(net);
-            Layout::from_triangle(net, &spots).unwrap_or_else(|| Layout::from_grid(net, &spots))
+    pub fn new(net: Net) -> Layout {
+        let places = place::place(&net);
+        Layout::from_places(net.clone(), places).unwrap_or_else(|| {
+            let spots = grid::place(&net);
+            let places = spots.iter().map(|&spot| on_triangle(spot, net.points())).collect();
+            Layout::from_places(net.clone(), places).unwrap_or_else(|| Layout::from_grid(net, &spots))
         })
     }
 
-    fn from_circle(net: &mut Net) -> Option<Layout> {
-        let fixed: Vec<usize> = net.ring.iter().chain(&net.far).copied().collect();
-        let places = Placement::new(net).places;
-        let area = std::f64::consts::PI / (2 * net.points()) as f64;
-        Layout::from_places(net, places, Rim::Circle, &fixed, area)
-    }
-
-    fn from_triangle(net: &mut Net, spots: &[Spot]) -> Option<Layout> {
-        let points = net.points() as f64;
-        // The grid's corners are (0, 0), (2 points - 4, 0) and (points - 2, points - 2): made equal-sided.
-        let place = |spot: &Spot| [spot[0] as f64 / points - 1.0, spot[1] as f64 / points * 3f64.sqrt()];
-        let places = spots.iter().map(place).collect();
-        Layout::from_places(net, places, Rim::Triangle, &net.far.clone(), 3f64.sqrt() / (4.0 * points))
-    }
-
-    fn from_places(net: &mut Net, mut places: Vec<Place>, rim: Rim, fixed: &[usize], area: f64) -> Option<Layout> {
-        if !fits(net, rim, |a, b, c| sign(places[a], places[b], places[c])) {
+    fn from_places(mut net: Net, mut places: Vec<Place>) -> Option<Layout> {
+        if !fits(&net, |a, b, c| sign(places[a], places[b], places[c])) {
             return None;
         }
-        Relaxer::new(net, fixed, area).run(&mut places);
-        let scale = scale(net, &places);
-        FINER.iter().find_map(|&unit| {
+        Relaxer::new(&mut net).run(&mut places);
+        let scale = scale(&net, &places);
+        for unit in FINER {
             let factor = scale * unit * STEPS as f64;
             let spots: Vec<Spot> = places.iter().map(|place| place.map(|value| (value * factor).round() as i64)).collect();
-            let right = fits(net, rim, |a, b, c| turn(spots[a], spots[b], spots[c]).signum());
-            right.then_some(Layout { spots, unit })
-        })
+            if fits(&net, |a, b, c| turn(spots[a], spots[b], spots[c]).signum()) {
+                return Some(Layout { net, spots, unit });
+            }
+        }
+        None
     }
 
-    fn from_grid(net: &Net, spots: &[Spot]) -> Layout {
+    fn from_grid(net: Net, spots: &[Spot]) -> Layout {
         let places: Vec<Place> = spots.iter().map(|spot| spot.map(|value| value as f64)).collect();
         let spots = spots.iter().map(|spot| spot.map(|value| value * STEPS)).collect();
-        Layout { spots, unit: 1.0 / scale(net, &places) }
+        let unit = 1.0 / scale(&net, &places);
+        Layout { net, spots, unit }
     }
 }
 
-/// What is around all that is placed.
-#[derive(Clone, Copy, PartialEq)]
-enum Rim {
-    /// The ring, with the far points in its middle.
-    Circle,
-    /// The far points.
-    Triangle,
+/// A spot of the grid as a place in the triangle of the far points.
+fn on_triangle([x, y]: Spot, points: usize) -> Place {
+    let [a, b, c] = place::corners();
+    let width = points as f64 - 2.0;
+    let (to_b, to_c) = ((x - y) as f64 / (2.0 * width), y as f64 / width);
+    std::array::from_fn(|axis| a[axis] + to_b * (b[axis] - a[axis]) + to_c * (c[axis] - a[axis]))
 }
 
-/// Whether each triangle is counterclockwise, by its sign. In the middle of the circle those with the ring are clockwise.
-fn fits(net: &Net, rim: Rim, sign: impl Fn(usize, usize, usize) -> i128) -> bool {
+/// Whether each triangle is counterclockwise, by its sign, but for that of the far points, which is around all others.
+fn fits(net: &Net, sign: impl Fn(usize, usize, usize) -> i128) -> bool {
     (0..net.points()).all(|point| {
-        net.fan(point).filter(|&(from, to)| point < from && point < to).all(|(from, to)| {
-            let far = [point, from, to].iter().filter(|corner| net.far.contains(corner)).count();
-            match (rim, far) {
-                (_, 0) | (Rim::Triangle, 1 | 2) => sign(point, from, to) == 1,
-                (Rim::Circle, 1) => sign(point, from, to) == -1,
-                _ => true,
-            }
-        })
+        let later = net.fan(point).filter(|&(from, to)| point < from && point < to);
+        let around = |from, to| [point, from, to].iter().all(|corner| net.far.contains(corner));
+        later.into_iter().all(|(from, to)| sign(point, from, to) == if around(from, to) { -1 } else { 1 })
     })
 }
 

@@ -38,7 +38,6 @@ pub struct Picture<'a> {
 
 /// The picture's SVG text.
 pub fn svg(picture: &Picture) -> String {
-    let mut net = net::Net::new(picture.order, picture.start, picture.outside);
-    let layout = layout::Layout::new(&mut net);
-    text::write(picture, &net, &layout)
+    let net = net::Net::new(picture.order, picture.start, picture.outside);
+    text::write(picture, &layout::Layout::new(net))
 }

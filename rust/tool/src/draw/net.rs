@@ -7,6 +7,7 @@
 const SIDES: usize = 4;
 
 /// A plan's net. Its points are the junctions, then the points on the trails, then the points in the areas.
+#[derive(Clone)]
 pub struct Net {
     /// The least dart of each junction.
     pub junctions: Vec<u16>,

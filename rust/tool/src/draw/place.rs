@@ -9,32 +9,52 @@ const STEPS: usize = 1500;
 /// The solution is good when what is left is this small, in relation to the beginning.
 const REST: f64 = 1e-14;
 
-/// A placement in the making. The far points are in the middle of the circle.
-pub struct Placement<'a> {
+/// How far the far points are from the middle; the circle's radius is 1, and from a distance of more than 2 a third is seen.
+const FAR: f64 = 4.0;
+
+/// Each point's place.
+pub fn place(net: &Net) -> Vec<Place> {
+    let mut places = vec![[0.0; 2]; net.points()];
+    let mut free = vec![true; net.points()];
+    let on_circle = net.ring.iter().enumerate().map(|(number, &point)| (point, at_angle(third(number, net.ring.len()), 1.0)));
+    for (point, place) in on_circle.chain(net.far.into_iter().zip(corners())) {
+        places[point] = place;
+        free[point] = false;
+    }
+    let weights = (0..net.points()).map(|point| net.link(point).iter().map(|&end| weight(net, point, end)).collect()).collect();
+    let mut placement = Placement { net, free, weights, places };
+    placement.settle();
+    placement.places
+}
+
+/// The places of the far points.
+pub fn corners() -> [Place; 3] {
+    [0.5, 1.5, 2.5].map(|thirds| at_angle(thirds, FAR))
+}
+
+/// Where a point of the ring is, in thirds of the circle: each far point is linked to those of one third.
+fn third(number: usize, count: usize) -> f64 {
+    let third = number * 3 / count;
+    let [first, next] = [third, third + 1].map(|third| (third * count).div_ceil(3));
+    third as f64 + (number - first) as f64 / (next - first) as f64
+}
+
+/// A place by its angle in thirds of the circle, counterclockwise from below.
+fn at_angle(thirds: f64, radius: f64) -> Place {
+    let angle = std::f64::consts::TAU * (thirds / 3.0 - 0.25);
+    [radius * angle.cos(), radius * angle.sin()]
+}
+
+/// A placement in the making.
+struct Placement<'a> {
     net: &'a Net,
     free: Vec<bool>,
     /// How much each link of each point pulls, in the order of the links.
     weights: Vec<Vec<f64>>,
-    pub places: Vec<Place>,
+    places: Vec<Place>,
 }
 
-impl<'a> Placement<'a> {
-    /// With all weights equal.
-    pub fn new(net: &'a Net) -> Placement<'a> {
-        let mut places = vec![[0.0; 2]; net.points()];
-        let mut free = vec![true; net.points()];
-        net.far.iter().for_each(|&point| free[point] = false);
-        for (number, &point) in net.ring.iter().enumerate() {
-            let angle = std::f64::consts::TAU * (number as f64 / net.ring.len() as f64 - 0.25);
-            places[point] = [angle.cos(), angle.sin()];
-            free[point] = false;
-        }
-        let weights = (0..net.points()).map(|point| net.link(point).iter().map(|&end| weight(net, point, end)).collect()).collect();
-        let mut placement = Placement { net, free, weights, places };
-        placement.settle();
-        placement
-    }
-
+impl Placement<'_> {
     fn settle(&mut self) {
         for axis in 0..2 {
             let mut values: Vec<f64> = self.places.iter().map(|place| place[axis]).collect();

@@ -10,11 +10,14 @@ use super::place::Place;
 
 /// What a bend costs, in relation to a triangle.
 const STIFFNESS: f64 = 30.0;
-/// What triangles at the outside ring cost, in relation to others.
-const OUTSIDE: f64 = 0.3;
+/// What triangles at the outside ring and at the far points cost, in relation to others.
+const RING: f64 = 0.3;
+const FAR: f64 = 0.02;
+/// How far a point is moved, in relation to where the cost is least: beyond it, for that evens out sooner.
+const BEYOND: f64 = 1.9;
 /// Points moved in all, at most, and sweeps over all points.
-const MOVES: usize = 1_000_000;
-const SWEEPS: usize = 600;
+const MOVES: usize = 1_500_000;
+const SWEEPS: usize = 800;
 /// After each round sides are split: those whose square is above so many areas, at a bend above this angle.
 const ROUNDS: usize = 4;
 const LONG: f64 = 6.0;
@@ -25,8 +28,8 @@ type Bend = [usize; 3];
 
 pub struct Relaxer<'a> {
     net: &'a mut Net,
-    fixed: Vec<bool>,
-    outside: Vec<bool>,
+    /// Each point's softness: what a triangle costs at most, in relation to others.
+    softness: Vec<f64>,
     /// The bends that each point has part in.
     bends: Vec<Vec<Bend>>,
     area: f64,
@@ -39,27 +42,31 @@ struct Pull {
 }
 
 impl<'a> Relaxer<'a> {
-    /// With these points fixed, and this area for each triangle.
-    pub fn new(net: &'a mut Net, fixed: &[usize], area: f64) -> Relaxer<'a> {
-        let mark = |points: &[usize]| {
-            let mut marks = vec![false; net.points()];
-            points.iter().for_each(|&point| marks[point] = true);
-            marks
-        };
-        let (fixed, outside) = (mark(fixed), mark(&net.ring));
-        Relaxer { net, fixed, outside, bends: Vec::new(), area }
+    pub fn new(net: &'a mut Net) -> Relaxer<'a> {
+        let mut softness = vec![1.0; net.points()];
+        net.ring.iter().for_each(|&point| softness[point] = RING);
+        net.far.iter().for_each(|&point| softness[point] = FAR);
+        let area = std::f64::consts::PI / (2 * net.points()) as f64;
+        Relaxer { net, softness, bends: Vec::new(), area }
     }
 
     pub fn run(mut self, places: &mut Vec<Place>) {
-        for _ in 0..ROUNDS {
+        let far = self.net.far;
+        for round in 0..ROUNDS {
+            if round > 0 {
+                self.split_sides(places);
+            }
             self.bends = bends(self.net);
             for sweep in 0..SWEEPS.min(MOVES / places.len() + 1) / ROUNDS {
-                (0..places.len()).filter(|&point| !self.fixed[point]).for_each(|point| self.move_point(places, point));
+                (0..places.len()).filter(|&point| !far.contains(&point)).for_each(|point| self.move_point(places, point));
                 if sweep % 2 == 0 {
                     (0..places.len()).for_each(|point| self.flip_links(places, point));
                 }
             }
-            self.split_sides(places);
+        }
+        if std::env::var("DBG").is_ok() {
+            let t: f64 = (0..places.len()).map(|p| if far.contains(&p) {0.0} else {self.cost(places, p, places[p])}).sum();
+            eprintln!("cost per point {} {}", places.len(), t / places.len() as f64);
         }
     }
 
@@ -77,8 +84,7 @@ impl<'a> Relaxer<'a> {
                 let (a, b) = (places[route[side]], places[route[side + 1]]);
                 self.net.split(trail, side);
                 places.push([(a[0] + b[0]) / 2.0, (a[1] + b[1]) / 2.0]);
-                self.fixed.push(false);
-                self.outside.push(false);
+                self.softness.push(1.0);
             }
         }
     }
@@ -89,7 +95,7 @@ impl<'a> Relaxer<'a> {
         while place < self.net.link(a).len() {
             let b = self.net.link(a)[place];
             place += 1;
-            if b < a || self.fixed[a] && self.fixed[b] || self.net.on_trail(a) && self.net.on_trail(b) {
+            if b < a || self.net.far.contains(&a) && self.net.far.contains(&b) || self.net.on_trail(a) && self.net.on_trail(b) {
                 continue;
             }
             let [c, d] = self.net.beside(a, b);
@@ -110,7 +116,7 @@ impl<'a> Relaxer<'a> {
     fn move_point(&self, places: &mut [Place], point: usize) {
         let here = places[point];
         let Pull { slope, curve } = self.pull(places, point);
-        let step = newton(slope, curve);
+        let step = newton(slope, curve).map(|along| along * BEYOND);
         let mut along = self.reach(places, point, step);
         let cost = self.cost(places, point, here);
         for _ in 0..8 {
@@ -124,7 +130,7 @@ impl<'a> Relaxer<'a> {
     }
 
     fn share(&self, point: usize, from: usize, to: usize) -> f64 {
-        if self.outside[point] || self.outside[from] || self.outside[to] { OUTSIDE } else { 1.0 }
+        self.softness[point].min(self.softness[from]).min(self.softness[to])
     }
 
     /// What the triangles and bends at a point cost if it is at this place.

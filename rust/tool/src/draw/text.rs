@@ -21,8 +21,8 @@ const ARROW: f64 = 13.0;
 /// The least size of a letter and a dot.
 const LEAST: f64 = 0.8;
 
-pub fn write(picture: &Picture, net: &Net, layout: &Layout) -> String {
-    let page = Page::new(net, layout);
+pub fn write(picture: &Picture, layout: &Layout) -> String {
+    let page = Page::new(layout);
     let mut text = String::new();
     page.head(&mut text, picture);
     page.trails(&mut text, picture);
@@ -45,7 +45,8 @@ struct Page<'a> {
 }
 
 impl<'a> Page<'a> {
-    fn new(net: &'a Net, layout: &'a Layout) -> Page<'a> {
+    fn new(layout: &'a Layout) -> Page<'a> {
+        let net = &layout.net;
         let curves: Vec<Curve> = net.routes.iter().map(|route| Curve::new(net, &layout.spots, route)).collect();
         let seen = || net.routes.iter().flatten().map(|&point| layout.spots[point]);
         let low: Spot = std::array::from_fn(|axis| seen().map(|spot| spot[axis]).min().unwrap_or(0));
