@@ -7,13 +7,14 @@
 //! * `files`: files read whole, and files that appear whole or not at all;
 //! * `plan_file`, `record_file`: two kinds of file; `plan_folder`: folders of plan files; `source`: a plan in whatever file;
 //! * `lines`: a plan or a record in one line, and its answer; `stream`: a stream of them, on several threads;
-//! * `shape`: junctions, areas and the contour walk of a turning order;
+//! * `shape`: junctions, areas and the contour walk of a turning order; `draw`: a plan as a picture;
 //! * `shelf`: a shelf in memory, with its `index`; `shelf_file`: its file, `lock` and `sums`; `survey`: what stands on a shelf
 //!   that may be damaged;
 //! * `planar_code`: the interchange format of `import` and `export`; `joining`: which of its trail ends belong together;
 //! * `report`: messages and the exit status; `stdout`: whether standard output was closed.
 
 mod commands;
+mod draw;
 mod files;
 mod help;
 mod index;

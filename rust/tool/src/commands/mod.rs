@@ -1,6 +1,7 @@
 //! The commands: a file each, and what they share.
 
 mod check;
+mod draw;
 mod export;
 mod fetch;
 mod find;
@@ -39,9 +40,10 @@ pub struct Command {
 }
 
 /// The commands, as the overview lists them.
-pub const COMMANDS: [Command; 14] = [
+pub const COMMANDS: [Command; 15] = [
     check::COMMAND,
     show::COMMAND,
+    draw::COMMAND,
     write::COMMAND,
     read::COMMAND,
     shelve::COMMAND,

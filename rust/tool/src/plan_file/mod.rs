@@ -119,7 +119,9 @@ impl Plan {
     /// The names of the junctions by their least darts, if they have names.
     pub fn junction_names(&self) -> BTreeMap<u16, String> {
         let junctions = self.names().into_iter().flat_map(|names| &names.junctions);
-        junctions.filter_map(|junction| Some((junctions::number(*junction.darts.iter().min()?), junction.name.text.clone()))).collect()
+        junctions
+            .filter_map(|junction| Some((junctions::number(*junction.darts.iter().min()?), junction.name.text.clone())))
+            .collect()
     }
 
     fn names(&self) -> Option<&Names> {
