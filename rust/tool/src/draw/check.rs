@@ -6,7 +6,7 @@ use std::f64::consts::{FRAC_PI_2, TAU};
 type Place = [f64; 2];
 
 /// Straight pieces that a curved piece is taken as.
-const PIECES: usize = 12;
+const PIECES: usize = 8;
 
 /// What a picture shows.
 #[derive(Debug)]
@@ -91,31 +91,59 @@ struct Piece {
     ends: [Place; 2],
 }
 
-/// Two trails that meet elsewhere than at a junction that both end at; a trail and itself too.
+impl Piece {
+    /// The left end, then the right end.
+    fn from_left(&self) -> [Place; 2] {
+        let [a, b] = self.ends;
+        if a < b {
+            [a, b]
+        } else {
+            [b, a]
+        }
+    }
+
+    /// Which of two pieces is above the other, at a place of this one; if the other goes through it, by this one's other end.
+    fn above(&self, other: &Piece, place: Place, end: Place) -> std::cmp::Ordering {
+        let [left, right] = other.from_left();
+        turn(left, right, place).total_cmp(&0.0).then(turn(left, right, end).total_cmp(&0.0))
+    }
+}
+
+/// Two trails that meet elsewhere than at a junction that both end at; a trail and itself too. The pieces that a line from
+/// below to above meets are kept in their order while it goes to the right: pieces that meet are next to each other before.
 fn meeting(lines: &[Vec<Place>]) -> Option<(usize, usize)> {
     let pieces: Vec<Piece> = lines.iter().enumerate().flat_map(|(trail, line)| pieces(trail, line)).collect();
-    let mut by_left: Vec<&Piece> = pieces.iter().collect();
-    by_left.sort_by(|a, b| low(a, 0).total_cmp(&low(b, 0)));
-    let mut open: Vec<&Piece> = Vec::new();
-    let mut kept = 16;
-    for piece in by_left {
-        if open.len() > 2 * kept {
-            open.retain(|other| high(other, 0) >= low(piece, 0));
-            kept = open.len().max(16);
+    let ends = |number: usize, [left, right]: [Place; 2]| [(right, false, number), (left, true, number)];
+    let mut events: Vec<(Place, bool, usize)> =
+        (0..pieces.len()).flat_map(|number| ends(number, pieces[number].from_left())).collect();
+    events.sort_by(|a, b| a.partial_cmp(b).expect("numbers"));
+    let mut line: Vec<&Piece> = Vec::new();
+    for (place, begins, number) in events {
+        let piece = &pieces[number];
+        let [left, right] = piece.from_left();
+        let end = if begins { right } else { left };
+        let at = line.partition_point(|other| !std::ptr::eq(*other, piece) && piece.above(other, place, end).is_gt());
+        if begins {
+            line.insert(at, piece);
+        } else if line.get(at).is_some_and(|other| std::ptr::eq(*other, piece)) {
+            line.remove(at);
+        } else {
+            return Some((piece.trail, line.get(at).map_or(piece.trail, |other| other.trail)));
         }
-        let near =
-            |other: &&&Piece| (0..2).all(|axis| high(other, axis) >= low(piece, axis) && high(piece, axis) >= low(other, axis));
-        if let Some(other) = open.iter().filter(near).find(|other| meet(other, piece)) {
-            return Some((other.trail.min(piece.trail), other.trail.max(piece.trail)));
+        let near = line[at.saturating_sub(1)..(at + 2).min(line.len())].windows(2).find(|pair| meet(pair[0], pair[1]));
+        if let Some(pair) = near {
+            return Some((pair[0].trail.min(pair[1].trail), pair[0].trail.max(pair[1].trail)));
         }
-        open.push(piece);
     }
     None
 }
 
+/// The pieces of a line; leaned a little, so that none is upright.
 fn pieces(trail: usize, line: &[Place]) -> impl Iterator<Item = Piece> + '_ {
     let count = line.len() - 1;
-    (0..count).map(move |number| Piece { trail, number, last: number + 1 == count, ends: [line[number], line[number + 1]] })
+    let leaned = |[x, y]: Place| [x + 0.000_123_456_7 * y, y];
+    let ends = move |number: usize| [leaned(line[number]), leaned(line[number + 1])];
+    (0..count).map(move |number| Piece { trail, number, last: number + 1 == count, ends: ends(number) })
 }
 
 fn low(piece: &Piece, axis: usize) -> f64 {
@@ -137,6 +165,9 @@ fn meet(a: &Piece, b: &Piece) -> bool {
                 return folds(from, to, other_to);
             }
         }
+    }
+    if (0..2).any(|axis| high(a, axis) < low(b, axis) || high(b, axis) < low(a, axis)) {
+        return false;
     }
     let [[a, b], [c, d]] = [a.ends, b.ends];
     let apart = |a, b, c, d| turn(a, b, c) * turn(a, b, d) > 0.0;

@@ -28,18 +28,20 @@ impl Layout {
     /// The mean placement, evened out; where the numbers do not carry it, one that begins on a grid; at last the grid itself.
     pub fn new(net: Net) -> Layout {
         let places = place::place(&net);
-        Layout::from_places(net.clone(), places).unwrap_or_else(|| {
+        let room = std::f64::consts::PI / 2.0;
+        Layout::from_places(net.clone(), places, room).unwrap_or_else(|| {
             let spots = grid::place(&net);
             let places = spots.iter().map(|&spot| on_triangle(spot, net.points())).collect();
-            Layout::from_places(net.clone(), places).unwrap_or_else(|| Layout::from_grid(net, &spots))
+            Layout::from_places(net.clone(), places, 3.0 * room).unwrap_or_else(|| Layout::from_grid(net, &spots))
         })
     }
 
-    fn from_places(mut net: Net, mut places: Vec<Place>) -> Option<Layout> {
+    fn from_places(mut net: Net, mut places: Vec<Place>, room: f64) -> Option<Layout> {
         if !fits(&net, |a, b, c| sign(places[a], places[b], places[c])) {
             return None;
         }
-        Relaxer::new(&mut net).run(&mut places);
+        let area = room / net.points() as f64;
+        Relaxer::new(&mut net, area).run(&mut places);
         let scale = scale(&net, &places);
         for unit in FINER {
             let factor = scale * unit * STEPS as f64;

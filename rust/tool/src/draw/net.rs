@@ -66,7 +66,7 @@ impl Net {
     /// The triangles at a point, counterclockwise: the two other corners of each.
     pub fn fan(&self, point: usize) -> impl Iterator<Item = (usize, usize)> + '_ {
         let link = self.link(point);
-        link.iter().copied().zip(link.iter().copied().cycle().skip(1))
+        link.windows(2).map(|pair| (pair[0], pair[1])).chain([(link[link.len() - 1], link[0])])
     }
 
     /// The two points that make triangles with the side from one point to another: on its left and on its right.

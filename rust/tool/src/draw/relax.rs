@@ -16,8 +16,10 @@ const FAR: f64 = 0.02;
 /// How far a point is moved, in relation to where the cost is least: beyond it, for that evens out sooner.
 const BEYOND: f64 = 1.9;
 /// Points moved in all, at most, and sweeps over all points.
-const MOVES: usize = 1_500_000;
-const SWEEPS: usize = 800;
+const MOVES: usize = 1_200_000;
+const SWEEPS: usize = 600;
+/// A round ends when the mean square of the moves in a sweep is below so many areas.
+const SETTLED: f64 = 1e-5;
 /// After each round sides are split: those whose square is above so many areas, at a bend above this angle.
 const ROUNDS: usize = 4;
 const LONG: f64 = 6.0;
@@ -37,36 +39,41 @@ pub struct Relaxer<'a> {
 
 /// What the places around a point say of its own: cost, its slope and curvature.
 struct Pull {
+    cost: f64,
     slope: Place,
     curve: [f64; 3],
 }
 
 impl<'a> Relaxer<'a> {
-    pub fn new(net: &'a mut Net) -> Relaxer<'a> {
+    /// For triangles of this area.
+    pub fn new(net: &'a mut Net, area: f64) -> Relaxer<'a> {
         let mut softness = vec![1.0; net.points()];
         net.ring.iter().for_each(|&point| softness[point] = RING);
         net.far.iter().for_each(|&point| softness[point] = FAR);
-        let area = std::f64::consts::PI / (2 * net.points()) as f64;
         Relaxer { net, softness, bends: Vec::new(), area }
     }
 
     pub fn run(mut self, places: &mut Vec<Place>) {
-        let far = self.net.far;
         for round in 0..ROUNDS {
             if round > 0 {
                 self.split_sides(places);
             }
             self.bends = bends(self.net);
-            for sweep in 0..SWEEPS.min(MOVES / places.len() + 1) / ROUNDS {
-                (0..places.len()).filter(|&point| !far.contains(&point)).for_each(|point| self.move_point(places, point));
-                if sweep % 2 == 0 {
-                    (0..places.len()).for_each(|point| self.flip_links(places, point));
-                }
-            }
+            self.sweep_until_settled(places);
         }
-        if std::env::var("DBG").is_ok() {
-            let t: f64 = (0..places.len()).map(|p| if far.contains(&p) { 0.0 } else { self.cost(places, p, places[p]) }).sum();
-            eprintln!("cost per point {} {}", places.len(), t / places.len() as f64);
+    }
+
+    fn sweep_until_settled(&mut self, places: &mut [Place]) {
+        let far = self.net.far;
+        for sweep in 0..(MOVES / places.len() + ROUNDS).min(SWEEPS) / ROUNDS {
+            let points = (0..places.len()).filter(|point| !far.contains(point));
+            let moved: f64 = points.map(|point| self.move_point(places, point)).sum();
+            if sweep % 2 == 0 {
+                (0..places.len()).for_each(|point| self.flip_links(places, point));
+            }
+            if moved < SETTLED * self.area * places.len() as f64 {
+                return;
+            }
         }
     }
 
@@ -92,12 +99,12 @@ impl<'a> Relaxer<'a> {
     fn flip_links(&mut self, places: &[Place], a: usize) {
         let mut place = 0;
         while place < self.net.link(a).len() {
-            let b = self.net.link(a)[place];
+            let link = self.net.link(a);
+            let (b, c, d) = (link[place], link[(place + 1) % link.len()], link[(place + link.len() - 1) % link.len()]);
             place += 1;
             if b < a || self.net.far.contains(&a) && self.net.far.contains(&b) || self.net.on_trail(a) && self.net.on_trail(b) {
                 continue;
             }
-            let [c, d] = self.net.beside(a, b);
             if self.net.on_trail(c) && self.net.on_trail(d) {
                 continue;
             }
@@ -112,20 +119,21 @@ impl<'a> Relaxer<'a> {
         self.share(a, b, c) * triangle_cost(places[a], places[b], places[c], self.area)
     }
 
-    fn move_point(&self, places: &mut [Place], point: usize) {
+    /// Moves a point to where it costs less; the square of how far.
+    fn move_point(&self, places: &mut [Place], point: usize) -> f64 {
         let here = places[point];
-        let Pull { slope, curve } = self.pull(places, point);
+        let Pull { cost, slope, curve } = self.pull(places, point);
         let step = newton(slope, curve).map(|along| along * BEYOND);
         let mut along = self.reach(places, point, step);
-        let cost = self.cost(places, point, here);
         for _ in 0..8 {
             let there = [here[0] + along * step[0], here[1] + along * step[1]];
             if self.cost(places, point, there) < cost {
                 places[point] = there;
-                return;
+                return squared(here, there);
             }
             along *= 0.4;
         }
+        0.0
     }
 
     fn share(&self, point: usize, from: usize, to: usize) -> f64 {
@@ -148,7 +156,7 @@ impl<'a> Relaxer<'a> {
 
     fn pull(&self, places: &[Place], point: usize) -> Pull {
         let a = places[point];
-        let mut pull = Pull { slope: [0.0; 2], curve: [0.0; 3] };
+        let mut pull = Pull { cost: 0.0, slope: [0.0; 2], curve: [0.0; 3] };
         for (from, to) in self.net.fan(point) {
             let (b, c) = (places[from], places[to]);
             let share = self.share(point, from, to);
@@ -158,6 +166,7 @@ impl<'a> Relaxer<'a> {
             let second = share * 6.0 * self.area / (area * area * area * area);
             let s = [2.0 * (2.0 * a[0] - b[0] - c[0]), 2.0 * (2.0 * a[1] - b[1] - c[1])];
             let g = [(b[1] - c[1]) / 2.0, (c[0] - b[0]) / 2.0];
+            pull.cost += sum * factor;
             pull.slope[0] += factor * s[0] + sum * first * g[0];
             pull.slope[1] += factor * s[1] + sum * first * g[1];
             pull.curve[0] += 4.0 * factor + 2.0 * first * s[0] * g[0] + sum * second * g[0] * g[0];
@@ -166,6 +175,7 @@ impl<'a> Relaxer<'a> {
         }
         for bend in &self.bends[point] {
             let off = off_mean(bend.map(|end| places[end]));
+            pull.cost += STIFFNESS / self.area * (off[0] * off[0] + off[1] * off[1]);
             let weight = if bend[1] == point { -2.0 } else { 1.0 } * 2.0 * STIFFNESS / self.area;
             pull.slope[0] += weight * off[0];
             pull.slope[1] += weight * off[1];

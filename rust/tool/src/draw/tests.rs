@@ -117,7 +117,7 @@ fn random(trails: usize, shape: Shape, random: &mut Random) -> Vec<u16> {
 fn a_thousand_random_plans() {
     let mut numbers = Random(20);
     for round in 0..1000 {
-        let trails = 1 + if round % 5 == 0 { numbers.below(200) } else { numbers.below(60) };
+        let trails = 1 + numbers.below([12, 200, 60][usize::from(round % 10 == 0) * (1 + usize::from(round % 50 != 0))]);
         let order = random(trails, SHAPES[round % SHAPES.len()], &mut numbers);
         let (start, outside) = (numbers.below(order.len()) as u16, numbers.below(order.len()) as u16);
         let outside = if round % 2 == 0 { start } else { outside };
