@@ -8,6 +8,9 @@ type Place = [f64; 2];
 /// Straight pieces that a curved piece is taken as.
 const PIECES: usize = 8;
 
+/// Lines that are as near meet.
+const NEAR: f64 = 1e-9;
+
 /// What a picture shows.
 #[derive(Debug)]
 pub struct Shown {
@@ -88,7 +91,7 @@ struct Piece {
 }
 
 impl Piece {
-    /// The left end, then the right end.
+    /// The left end, then the right end; of an upright piece the lower end, then the upper.
     fn from_left(&self) -> [Place; 2] {
         let [a, b] = self.ends;
         if a < b { [a, b] } else { [b, a] }
@@ -129,12 +132,9 @@ fn meeting(lines: &[Vec<Place>]) -> Option<(usize, usize)> {
     None
 }
 
-/// The pieces of a line; leaned a little, so that none is upright.
 fn pieces(trail: usize, line: &[Place]) -> impl Iterator<Item = Piece> + '_ {
     let count = line.len() - 1;
-    let leaned = |[x, y]: Place| [x + 0.000_123_456_7 * y, y];
-    let ends = move |number: usize| [leaned(line[number]), leaned(line[number + 1])];
-    (0..count).map(move |number| Piece { trail, number, last: number + 1 == count, ends: ends(number) })
+    (0..count).map(move |number| Piece { trail, number, last: number + 1 == count, ends: [line[number], line[number + 1]] })
 }
 
 fn low(piece: &Piece, axis: usize) -> f64 {
@@ -161,7 +161,11 @@ fn meet(a: &Piece, b: &Piece) -> bool {
         return false;
     }
     let [[a, b], [c, d]] = [a.ends, b.ends];
-    let apart = |a, b, c, d| turn(a, b, c) * turn(a, b, d) > 0.0;
+    let side = |a: Place, b: Place, c| turn(a, b, c) / (b[0] - a[0]).hypot(b[1] - a[1]);
+    let apart = |a, b, c, d| {
+        let sides = [side(a, b, c), side(a, b, d)];
+        sides.iter().all(|&side| side > NEAR) || sides.iter().all(|&side| side < -NEAR)
+    };
     !apart(a, b, c, d) && !apart(c, d, a, b)
 }
 

@@ -1,9 +1,10 @@
 //! Plans drawn, and read back from the text of the picture.
 
 use super::check::{self, Shown};
-use super::{svg, Picture};
+use super::layout::Layout;
+use super::net::Net;
+use super::{svg, text, Picture};
 use std::collections::BTreeMap;
-use std::fmt::Write as _;
 
 fn drawn(order: &[u16], start: u16, outside: u16) -> String {
     svg(&Picture { order, start, outside, trails: &BTreeMap::new(), junctions: &BTreeMap::new() })
@@ -20,13 +21,11 @@ fn area(order: &[u16], first: u16) -> Vec<u16> {
     darts
 }
 
-/// Draws a plan, and holds what the picture shows against it.
-fn holds(name: &str, order: &[u16], start: u16, outside: u16) -> String {
-    let text = drawn(order, start, outside);
-    let Shown { order: shown, outside: around } = check::read(&text).unwrap_or_else(|wrong| panic!("{name}: {wrong}"));
+/// Holds what a picture shows against its plan.
+fn holds(name: &str, text: &str, order: &[u16], outside: u16) {
+    let Shown { order: shown, outside: around } = check::read(text).unwrap_or_else(|wrong| panic!("{name}: {wrong}"));
     assert!(shown == order, "{name}: another turning order");
     assert!(around == area(order, outside), "{name}: another area outside");
-    text
 }
 
 struct Random(u64);
@@ -83,6 +82,25 @@ impl Growing {
     }
 }
 
+impl Growing {
+    /// Each plan with one trail more.
+    fn one_more(&self) -> Vec<Growing> {
+        let mut plans = Vec::new();
+        for after in 0..self.order.len() as u16 {
+            let mut grow = |step: &dyn Fn(&mut Growing)| {
+                let mut plan = Growing { order: self.order.clone() };
+                step(&mut plan);
+                plans.push(plan);
+            };
+            grow(&|plan| _ = plan.dead_end(after));
+            for corners in 0..area(&self.order, self.order[usize::from(after)]).len() {
+                grow(&|plan| _ = plan.across(after, corners));
+            }
+        }
+        plans
+    }
+}
+
 /// How a random plan grows: out of ten steps so many are dead ends; the other trails go so many corners on, below a bound.
 #[derive(Clone, Copy)]
 struct Shape {
@@ -113,19 +131,7 @@ fn random(trails: usize, shape: Shape, random: &mut Random) -> Vec<u16> {
     plan.order
 }
 
-#[test]
-fn a_thousand_random_plans() {
-    let mut numbers = Random(20);
-    for round in 0..1000 {
-        let trails = 1 + numbers.below([12, 200, 60][usize::from(round % 10 == 0) * (1 + usize::from(round % 50 != 0))]);
-        let order = random(trails, SHAPES[round % SHAPES.len()], &mut numbers);
-        let (start, outside) = (numbers.below(order.len()) as u16, numbers.below(order.len()) as u16);
-        let outside = if round % 2 == 0 { start } else { outside };
-        holds(&format!("plan {round} of {trails} trails"), &order, start, outside);
-    }
-}
-
-/// Each plan of up to four trails that can be grown, from each start.
+/// A plan grown from another, each trail at the dart that the one before leads to.
 fn trail_by_trail(trails: usize, mut first: Growing, mut next: impl FnMut(&mut Growing, u16) -> u16) -> Vec<u16> {
     let mut last = 1;
     while first.order.len() < 2 * trails {
@@ -185,14 +191,115 @@ fn grid(side: usize) -> Vec<u16> {
 }
 
 #[test]
+fn a_thousand_random_plans() {
+    let mut numbers = Random(20);
+    for round in 0..1000 {
+        let most = if round % 50 == 0 { 200 } else if round % 10 == 0 { 60 } else { 12 };
+        let trails = if round == 0 { most } else { 1 + numbers.below(most) };
+        let order = random(trails, SHAPES[round % SHAPES.len()], &mut numbers);
+        let [start, other] = [0; 2].map(|_| numbers.below(order.len()) as u16);
+        let outside = if round % 2 == 0 { start } else { other };
+        holds(&format!("plan {round} of {trails} trails"), &drawn(&order, start, outside), &order, outside);
+    }
+}
+
+#[test]
+fn every_small_plan_with_every_area_outside() {
+    let mut plans = vec![Growing::trail(), Growing::one_loop()];
+    for _ in 0..2 {
+        let next: Vec<Growing> = plans.iter().flat_map(Growing::one_more).collect();
+        for order in plans.iter().chain(&next).map(|plan| &plan.order) {
+            for outside in 0..order.len() as u16 {
+                holds(&format!("{order:?}"), &drawn(order, order[usize::from(outside)], outside), order, outside);
+            }
+        }
+        plans = next;
+    }
+}
+
+#[test]
 fn large_plans() {
     for (name, order) in large() {
-        let begin = std::time::Instant::now();
-        let text = drawn(&order, 0, 0);
-        let d = begin.elapsed();
-        holds(name, &order, 0, 0);
-        println!("{name} {} trails: drawn in {d:?}, all {:?} {} bytes", order.len() / 2, begin.elapsed(), text.len());
+        holds(name, &drawn(&order, 0, 0), &order, 0);
     }
+}
+
+/// The placement that is left when all others fail.
+#[test]
+fn plans_on_the_grid() {
+    let mut numbers = Random(7);
+    let plans = (0..200).map(|round| random(1 + round, SHAPES[round % SHAPES.len()], &mut numbers)).collect::<Vec<_>>();
+    for order in plans.into_iter().chain(large().into_iter().map(|(_, order)| order).step_by(3)) {
+        let net = Net::new(&order, 0, 1);
+        let spots = super::grid::place(&net);
+        let picture = Picture { order: &order, start: 0, outside: 1, trails: &BTreeMap::new(), junctions: &BTreeMap::new() };
+        holds("on the grid", &text::write(&picture, &Layout::from_grid(net, &spots)), &order, 1);
+    }
+}
+
+#[test]
+fn names_are_shown_and_escaped() {
+    let name = |number, text: &str| BTreeMap::from([(number, String::from(text))]);
+    let (trails, junctions) = (name(1, "Kar <& \"Grat\">\u{1}"), name(0, "H\u{fc}tte 'A'"));
+    let text = svg(&Picture { order: &[3, 2, 1, 0], start: 2, outside: 2, trails: &trails, junctions: &junctions });
+    holds("a pair", &text, &[3, 2, 1, 0], 2);
+    assert!(text.contains(">Kar &lt;&amp; &quot;Grat&quot;&gt;\u{fffd}</text>"));
+    assert!(text.contains(">H\u{fc}tte &#39;A&#39;</text>"));
+    assert!(text.contains(">start: trail Kar &lt;&amp;"));
+    assert!(text.contains(">0</text>"));
+}
+
+#[test]
+fn the_same_plan_gives_the_same_text() {
+    let order = random(40, SHAPES[5], &mut Random(3));
+    assert_eq!(drawn(&order, 3, 5), drawn(&order, 3, 5));
+}
+
+/// A picture of two trails, each from a place to another, with these circles.
+fn by_hand(first: &str, second: &str, circles: &[(&str, u16, u16)]) -> String {
+    let mut text = format!("<path data-trail=\"0\" data-begin=\"0\" data-end=\"1\" d=\"{first}\"/>");
+    text += &format!("<path data-trail=\"1\" data-begin=\"2\" data-end=\"3\" d=\"{second}\"/>");
+    circles.iter().for_each(|(darts, x, y)| text += &format!("<circle data-darts=\"{darts}\" cx=\"{x}\" cy=\"{y}\" r=\"1\"/>"));
+    text
+}
+
+#[test]
+fn the_checker_reads_what_is_seen() {
+    // A path, the second trail up from the end of the first.
+    let circles = [("0", 0, 9), ("1 2", 9, 9), ("3", 9, 0)];
+    let shown = check::read(&by_hand("M0 9L9 9", "M9 9L9 0", &circles)).unwrap();
+    assert_eq!((shown.order, shown.outside), (vec![0, 2, 1, 3], vec![0, 2, 3, 1]));
+    // A trail inside a loop, clockwise from its begin dart.
+    let circles = [("0 1 2", 0, 9), ("3", 5, 9)];
+    let shown = check::read(&by_hand("M0 9L9 0L9 18L0 9", "M0 9L5 9", &circles)).unwrap();
+    assert_eq!((shown.order, shown.outside), (vec![1, 2, 0, 3], vec![1]));
+}
+
+#[test]
+fn the_checker_finds_what_is_wrong() {
+    let ends = [("0", 0, 0), ("1", 9, 9), ("2", 0, 9), ("3", 9, 0)];
+    let wrong = |first: &str, second: &str| check::read(&by_hand(first, second, &ends)).unwrap_err();
+    assert_eq!(wrong("M0 0L9 9", "M0 9L9 0"), "trails 0 and 1 meet");
+    assert_eq!(wrong("M0 0L9 9", "M0 9L5 5L9 0"), "trails 0 and 1 meet");
+    assert_eq!(wrong("M0 0L9 9", "M0 9Q12 12 9 0"), "trails 0 and 1 meet");
+    assert_eq!(wrong("M0 0L9 0L9 9", "M0 9L9 0"), "trails 0 and 1 meet");
+    assert_eq!(wrong("M0 0L9 0L3 3L3 -3L9 9", "M0 9L0 12L9 12L9 10"), "trails 0 and 0 meet");
+    let fold = by_hand("M0 0L9 0", "M0 0L5 0", &[("0 2", 0, 0), ("1", 9, 0), ("3", 5, 0)]);
+    assert_eq!(check::read(&fold).unwrap_err(), "trails 0 and 1 meet");
+    assert_eq!(check::read("<path data-trail=\"0\" data-begin=\"0\" data-end=\"3\" d=\"M0 0L1 1\"/>").unwrap_err(), "darts 0 and 3 on trail 0");
+}
+
+#[test]
+fn the_checker_tells_turning_orders_apart() {
+    let star = [2, 1, 4, 3, 0, 5];
+    let text = drawn(&star, 0, 0);
+    let swap = |text: &str| {
+        let text = text.replace("data-trail=\"1\" data-begin=\"2\" data-end=\"3\"", "data-trail=\"9\"");
+        let text = text.replace("data-trail=\"2\" data-begin=\"4\" data-end=\"5\"", "data-trail=\"1\" data-begin=\"2\" data-end=\"3\"");
+        text.replace("data-trail=\"9\"", "data-trail=\"2\" data-begin=\"4\" data-end=\"5\"").replace("\"0 2 4\"", "\"0 4 2\"")
+    };
+    let text = swap(&text).replace("data-darts=\"3\"", "data-darts=\"x\"").replace("data-darts=\"5\"", "data-darts=\"3\"");
+    assert_eq!(check::read(&text.replace("data-darts=\"x\"", "data-darts=\"5\"")).unwrap().order, [4, 1, 0, 3, 2, 5]);
 }
 
 #[test]
