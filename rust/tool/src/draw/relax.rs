@@ -16,8 +16,8 @@ const FAR: f64 = 0.02;
 /// How far a point is moved, in relation to where the cost is least: beyond it, for that evens out sooner.
 const BEYOND: f64 = 1.9;
 /// Points moved in all, at most, and sweeps over all points.
-const MOVES: usize = 1_200_000;
-const SWEEPS: usize = 600;
+const MOVES: usize = 3_000_000;
+const SWEEPS: usize = 1000;
 /// A round ends when the mean square of the moves in a sweep is below so many areas.
 const SETTLED: f64 = 1e-5;
 /// After each round sides are split: those whose square is above so many areas, at a bend above this angle.
