@@ -5,6 +5,7 @@
 //! * `commands`: what each command does;
 //! * `options`: the words of the command line; `help`: the text of `--help`;
 //! * `plan_file`, `record_file`, `shelf_file`: the three kinds of file;
+//! * `draw`: a plan as a picture;
 //! * `planar_code`: the interchange format that `import` reads;
 //! * `report`: messages and the exit status.
 

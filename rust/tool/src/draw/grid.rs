@@ -73,7 +73,8 @@ impl<'a> Shelling<'a> {
         self.on_contour[point] = false;
         let link = self.net.link(point);
         let begin = link.iter().position(|&end| end == left).unwrap_or(0);
-        let bared: Vec<usize> = (1..link.len()).map(|turn| link[(begin + turn) % link.len()]).take_while(|&end| end != right).collect();
+        let bared: Vec<usize> =
+            (1..link.len()).map(|turn| link[(begin + turn) % link.len()]).take_while(|&end| end != right).collect();
         if bared.is_empty() {
             self.join(left, right);
             [left, right].iter().for_each(|&end| self.drop_chord(end));

@@ -85,7 +85,11 @@ fn fits(net: &Net, sign: impl Fn(usize, usize, usize) -> i128) -> bool {
 fn sign(a: Place, b: Place, c: Place) -> i128 {
     let (left, right) = ((b[0] - a[0]) * (c[1] - a[1]), (b[1] - a[1]) * (c[0] - a[0]));
     let certain = (left - right).abs() > 1e-15 * (left.abs() + right.abs());
-    if certain { (left - right).signum() as i128 } else { 0 }
+    if certain {
+        (left - right).signum() as i128
+    } else {
+        0
+    }
 }
 
 /// Pixels for a length of 1.

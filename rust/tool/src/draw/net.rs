@@ -1,10 +1,17 @@
 //! The net of a plan: the plan made into a triangulation of the sphere without loops and double links.
 //!
-//! Each trail is cut into `SIDES` sides. Each area gets a point in its middle, linked to all points around the area. Where the
-//! area meets a point more than once, and in the outside area, a ring of points stands between: one for each side.
+//! Each trail is cut into `SIDES` sides. Each area gets a point in its middle, linked to all points around the area. A ring of
+//! points stands between, one for each side: it must where the area meets a point more than once. The outside area has three
+//! far points in place of the middle.
+//!
+//! No link joins two points on trails but for the sides themselves. So a triangle has one side of a trail at most, and the
+//! triangles at a point on a trail touch other trails only in their corners at junctions.
 
 /// Sides of a trail to begin with; three at least, so that loops are no loops in the net.
 const SIDES: usize = 4;
+
+/// Up to so many trails every area has a ring: it lets the trails around the area bend. Above, it would cost too much time.
+const RINGED: usize = 400;
 
 /// A plan's net. Its points are the junctions, then the points on the trails, then the points in the areas.
 #[derive(Clone)]
@@ -32,7 +39,8 @@ impl Net {
         let routes: Vec<_> = (0..order.len() / 2).map(|trail| route(trail, junctions.len(), &junction)).collect();
         let on_trails = junctions.len() + routes.len() * (SIDES - 1);
         let mut weave = Weave { points: on_trails, triangles: Vec::new() };
-        let mut net = Net { junctions, routes, areas: areas.len(), ring: Vec::new(), far: [0; 3], links: Vec::new(), on_trail: Vec::new() };
+        let mut net =
+            Net { junctions, routes, areas: areas.len(), ring: Vec::new(), far: [0; 3], links: Vec::new(), on_trail: Vec::new() };
         let outer = area[usize::from(outside)];
         for (number, &least) in areas.iter().enumerate() {
             let first = if number == outer && area[usize::from(start)] == outer { start } else { least };
@@ -40,7 +48,7 @@ impl Net {
             if number == outer {
                 net.ring = weave.ring(&around);
                 net.far = weave.far(&net.ring);
-            } else if repeats(&around, weave.points) {
+            } else if net.routes.len() <= RINGED || repeats(&around, weave.points) {
                 let ring = weave.ring(&around);
                 weave.middle(&ring);
             } else {

@@ -146,19 +146,57 @@ fn large() -> Vec<(&'static str, Vec<u16>)> {
     let mut count = 0;
     vec![
         ("path", trail_by_trail(M, Growing::trail(), |plan, last| plan.dead_end(last) + 1)),
-        ("star", trail_by_trail(M, Growing::trail(), |plan, last| { plan.dead_end(0); last })),
-        ("caterpillar", trail_by_trail(M, Growing::trail(), |plan, last| {
-            count += 1;
-            let dart = plan.dead_end(last);
-            if count % 2 == 0 { last } else { dart + 1 }
-        })),
+        (
+            "star",
+            trail_by_trail(M, Growing::trail(), |plan, last| {
+                plan.dead_end(0);
+                last
+            }),
+        ),
+        (
+            "caterpillar",
+            trail_by_trail(M, Growing::trail(), |plan, last| {
+                count += 1;
+                let dart = plan.dead_end(last);
+                if count % 2 == 0 {
+                    last
+                } else {
+                    dart + 1
+                }
+            }),
+        ),
         ("tree", random(M, SHAPES[0], &mut numbers)),
-        ("parallel trails", trail_by_trail(M, Growing::trail(), |plan, _| { plan.across(0, 1); 0 })),
-        ("loops side by side", trail_by_trail(M, Growing::one_loop(), |plan, last| { plan.across(last, 0); last })),
-        ("loops in each other", trail_by_trail(M, Growing::one_loop(), |plan, _| { plan.across(0, 1); 0 })),
-        ("loops on stems in each other", trail_by_trail(M, Growing::one_loop(), |plan, last| {
-            if plan.order.len() % 4 == 2 { plan.dead_end(last) + 1 } else { plan.across(last, 0) }
-        })),
+        (
+            "parallel trails",
+            trail_by_trail(M, Growing::trail(), |plan, _| {
+                plan.across(0, 1);
+                0
+            }),
+        ),
+        (
+            "loops side by side",
+            trail_by_trail(M, Growing::one_loop(), |plan, last| {
+                plan.across(last, 0);
+                last
+            }),
+        ),
+        (
+            "loops in each other",
+            trail_by_trail(M, Growing::one_loop(), |plan, _| {
+                plan.across(0, 1);
+                0
+            }),
+        ),
+        (
+            "loops on stems in each other",
+            trail_by_trail(M, Growing::one_loop(), |plan, last| {
+                if plan.order.len() % 4 == 2 {
+                    plan.dead_end(last) + 1
+                } else {
+                    plan.across(last, 0)
+                }
+            }),
+        ),
         ("mixed", random(M, SHAPES[5], &mut numbers)),
         ("dense", random(M, SHAPES[4], &mut numbers)),
         ("grid", grid(45)),
@@ -194,7 +232,13 @@ fn grid(side: usize) -> Vec<u16> {
 fn a_thousand_random_plans() {
     let mut numbers = Random(20);
     for round in 0..1000 {
-        let most = if round % 50 == 0 { 200 } else if round % 10 == 0 { 60 } else { 12 };
+        let most = if round % 50 == 0 {
+            200
+        } else if round % 10 == 0 {
+            60
+        } else {
+            12
+        };
         let trails = if round == 0 { most } else { 1 + numbers.below(most) };
         let order = random(trails, SHAPES[round % SHAPES.len()], &mut numbers);
         let [start, other] = [0; 2].map(|_| numbers.below(order.len()) as u16);
@@ -286,7 +330,10 @@ fn the_checker_finds_what_is_wrong() {
     assert_eq!(wrong("M0 0L9 0L3 3L3 -3L9 9", "M0 9L0 12L9 12L9 10"), "trails 0 and 0 meet");
     let fold = by_hand("M0 0L9 0", "M0 0L5 0", &[("0 2", 0, 0), ("1", 9, 0), ("3", 5, 0)]);
     assert_eq!(check::read(&fold).unwrap_err(), "trails 0 and 1 meet");
-    assert_eq!(check::read("<path data-trail=\"0\" data-begin=\"0\" data-end=\"3\" d=\"M0 0L1 1\"/>").unwrap_err(), "darts 0 and 3 on trail 0");
+    assert_eq!(
+        check::read("<path data-trail=\"0\" data-begin=\"0\" data-end=\"3\" d=\"M0 0L1 1\"/>").unwrap_err(),
+        "darts 0 and 3 on trail 0"
+    );
 }
 
 #[test]
@@ -295,47 +342,10 @@ fn the_checker_tells_turning_orders_apart() {
     let text = drawn(&star, 0, 0);
     let swap = |text: &str| {
         let text = text.replace("data-trail=\"1\" data-begin=\"2\" data-end=\"3\"", "data-trail=\"9\"");
-        let text = text.replace("data-trail=\"2\" data-begin=\"4\" data-end=\"5\"", "data-trail=\"1\" data-begin=\"2\" data-end=\"3\"");
+        let text =
+            text.replace("data-trail=\"2\" data-begin=\"4\" data-end=\"5\"", "data-trail=\"1\" data-begin=\"2\" data-end=\"3\"");
         text.replace("data-trail=\"9\"", "data-trail=\"2\" data-begin=\"4\" data-end=\"5\"").replace("\"0 2 4\"", "\"0 4 2\"")
     };
     let text = swap(&text).replace("data-darts=\"3\"", "data-darts=\"x\"").replace("data-darts=\"5\"", "data-darts=\"3\"");
     assert_eq!(check::read(&text.replace("data-darts=\"x\"", "data-darts=\"5\"")).unwrap().order, [4, 1, 0, 3, 2, 5]);
-}
-
-#[test]
-#[ignore]
-fn pictures() {
-    let folder = std::env::var("PICTURES").unwrap();
-    for entry in std::fs::read_dir("../../examples").unwrap() {
-        let path = entry.unwrap().path();
-        if path.extension().is_some_and(|e| e == "plan") {
-            let plan = crate::plan_file::Plan::parse(&std::fs::read_to_string(&path).unwrap()).unwrap();
-            std::fs::write(format!("{folder}/{}.svg", path.file_stem().unwrap().to_str().unwrap()), drawn(&plan.order, plan.start, plan.start)).unwrap();
-        }
-    }
-    let mut numbers = Random(77);
-    for m in [30, 100, 400] {
-        for (i, s) in SHAPES.iter().enumerate() {
-            let order = random(m, *s, &mut numbers);
-            std::fs::write(format!("{folder}/r{m}-{i}.svg"), drawn(&order, 0, 0)).unwrap();
-        }
-    }
-    let one: [u16; 2] = [0, 1];
-    std::fs::write(format!("{folder}/one.svg"), drawn(&one, 0, 0)).unwrap();
-    std::fs::write(format!("{folder}/loop.svg"), drawn(&[1, 0], 0, 0)).unwrap();
-    for m in [5, 20, 60] {
-        let o = trail_by_trail(m, Growing::one_loop(), |plan, _| { plan.across(0, 1); 0 });
-        std::fs::write(format!("{folder}/nested{m}.svg"), drawn(&o, 0, 0)).unwrap();
-        let o = trail_by_trail(m, Growing::one_loop(), |plan, last| {
-            if plan.order.len() % 4 == 2 { plan.dead_end(last) + 1 } else { plan.across(last, 0) }
-        });
-        std::fs::write(format!("{folder}/stems{m}.svg"), drawn(&o, 0, 0)).unwrap();
-        let o = trail_by_trail(m, Growing::trail(), |plan, last| plan.dead_end(last) + 1);
-        std::fs::write(format!("{folder}/path{m}.svg"), drawn(&o, 0, 0)).unwrap();
-        let o = trail_by_trail(m, Growing::trail(), |plan, _| { plan.dead_end(0); 0 });
-        std::fs::write(format!("{folder}/star{m}.svg"), drawn(&o, 0, 0)).unwrap();
-        let o = trail_by_trail(m, Growing::trail(), |plan, _| { plan.across(0, 1); 0 });
-        std::fs::write(format!("{folder}/parallel{m}.svg"), drawn(&o, 0, 0)).unwrap();
-    }
-    std::fs::write(format!("{folder}/grid.svg"), drawn(&grid(6), 0, 0)).unwrap();
 }

@@ -107,10 +107,8 @@ impl<'a> Page<'a> {
         let Picture { start, outside, .. } = self.picture;
         let _ = writeln!(text, "<title>Trail plan: {}</title>", self.counts());
         let _ = writeln!(text, "<desc>The start is dart {start}; the area of dart {outside} is outside.</desc>");
-        let _ = writeln!(
-            text,
-            "<rect x=\"{left:.2}\" y=\"{top:.2}\" width=\"{width:.2}\" height=\"{height:.2}\" fill=\"#ffffff\"/>"
-        );
+        let _ =
+            writeln!(text, "<rect x=\"{left:.2}\" y=\"{top:.2}\" width=\"{width:.2}\" height=\"{height:.2}\" fill=\"#ffffff\"/>");
     }
 
     fn trails(&self, text: &mut String) {
@@ -122,7 +120,8 @@ impl<'a> Page<'a> {
         for (trail, curve) in self.curves.iter().enumerate() {
             let colour = if self.is_start(trail) { format!(" stroke=\"{ACCENT}\"") } else { String::new() };
             let (begin, end, path) = (2 * trail, 2 * trail + 1, self.path(curve));
-            let _ = writeln!(text, "<path data-trail=\"{trail}\" data-begin=\"{begin}\" data-end=\"{end}\"{colour} d=\"{path}\"/>");
+            let _ =
+                writeln!(text, "<path data-trail=\"{trail}\" data-begin=\"{begin}\" data-end=\"{end}\"{colour} d=\"{path}\"/>");
         }
         text.push_str("</g>\n");
     }
@@ -225,7 +224,10 @@ impl<'a> Page<'a> {
 
     fn label(&self, text: &mut String, [x, y]: Place, size: f64, more: &str, words: &str) {
         let (letter, halo, words) = (self.px(size), self.px(0.3 * size), escaped(words));
-        let _ = writeln!(text, "<text x=\"{x:.2}\" y=\"{y:.2}\" font-size=\"{letter:.2}\" stroke-width=\"{halo:.2}\"{more}>{words}</text>");
+        let _ = writeln!(
+            text,
+            "<text x=\"{x:.2}\" y=\"{y:.2}\" font-size=\"{letter:.2}\" stroke-width=\"{halo:.2}\"{more}>{words}</text>"
+        );
     }
 
     fn legend(&self, text: &mut String) {
