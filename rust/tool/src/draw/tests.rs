@@ -281,6 +281,19 @@ fn plans_on_the_grid() {
     }
 }
 
+/// What keeps curves apart: between points on trails there are no links but sides.
+#[test]
+fn links_leave_trails_their_triangles() {
+    let mut numbers = Random(11);
+    for round in 0..30 {
+        let layout = Layout::new(Net::new(&random(5 + 2 * round, SHAPES[round % SHAPES.len()], &mut numbers), 0, 0));
+        let on_trail = |&point: &usize| layout.net.on_trail(point);
+        let points = (0..layout.net.points()).filter(|point| on_trail(point));
+        let links: usize = points.map(|point| layout.net.link(point).iter().copied().filter(|end| on_trail(end)).count()).sum();
+        assert_eq!(links, 2 * layout.net.routes.iter().map(|route| route.len() - 1).sum::<usize>());
+    }
+}
+
 #[test]
 fn names_are_shown_and_escaped() {
     let name = |number, text: &str| BTreeMap::from([(number, String::from(text))]);
