@@ -13,7 +13,7 @@ const SIDES: usize = 4;
 /// Up to so many trails every area has a ring: it lets the trails around the area bend. Above, it would cost too much time.
 const RINGED: usize = 400;
 
-/// A plan's net. Its points are the junctions, then the points on the trails, then the points in the areas.
+/// A plan's net. Its points are the junctions, the points on the trails, those in the areas, and those of sides split later.
 #[derive(Clone)]
 pub struct Net {
     /// The least dart of each junction.
@@ -22,9 +22,9 @@ pub struct Net {
     pub routes: Vec<Vec<usize>>,
     /// How many areas there are.
     pub areas: usize,
-    /// The ring in the outside area, counterclockwise around the plan; the first is right before the start dart if that is outside.
+    /// The ring in the outside area, counterclockwise around the plan; the first is beside the start dart if that is outside.
     pub ring: Vec<usize>,
-    /// Three points in the outside area that the ring does not part from each other, counterclockwise around the plan.
+    /// Three points beyond the ring, counterclockwise around the plan.
     pub far: [usize; 3],
     /// The neighbours of each point, counterclockwise.
     links: Vec<Vec<usize>>,

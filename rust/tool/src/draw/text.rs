@@ -96,7 +96,7 @@ impl<'a> Page<'a> {
     fn head(&self, text: &mut String) {
         let margin = self.px(MARGIN);
         let least = self.px(self.legend_words().chars().count() as f64 * LETTER * 0.55);
-        let (width, height) = (self.size[0].max(least) + 2.0 * margin, self.size[1] + 2.0 * margin + self.px(LETTER * 2.0));
+        let (width, height) = (self.size[0].max(least) + 2.0 * margin, self.size[1] + 2.0 * margin + 2.0 * self.legend_letter());
         let (left, top) = ((self.size[0] - width) / 2.0, -margin);
         let [wide, high] = [width, height].map(|size| size / self.unit);
         let _ = writeln!(
@@ -214,12 +214,20 @@ impl<'a> Page<'a> {
         }
         for (point, least) in self.net.junctions.iter().enumerate() {
             if let Some(name) = self.picture.junctions.get(least) {
-                let [x, y] = self.at(self.spots[point]);
                 let size = letter_size(name, self.junction_room(point));
-                self.label(text, [x, y - self.px(self.dot(point) + 0.3 * size)], size, " font-weight=\"bold\"", name);
+                self.label(text, self.beside_dot(point, size), size, " font-weight=\"bold\"", name);
             }
         }
         text.push_str("</g>\n");
+    }
+
+    /// Where a junction's name stands: above its dot or below it, where trails are farther.
+    fn beside_dot(&self, point: usize, size: f64) -> Place {
+        let [x, y] = self.at(self.spots[point]);
+        let off = self.px(self.dot(point) + 3.0 + 0.5 * size);
+        let free = |y: f64| self.room.around([x, y], |_| false);
+        let middle = if free(y + off) > free(y - off) { y + off } else { y - off };
+        [x, middle + self.px(0.35 * size)]
     }
 
     fn label(&self, text: &mut String, [x, y]: Place, size: f64, more: &str, words: &str) {
@@ -231,12 +239,17 @@ impl<'a> Page<'a> {
     }
 
     fn legend(&self, text: &mut String) {
-        let (letter, words) = (self.px(LETTER), escaped(&self.legend_words()));
-        let (x, y) = (self.size[0] / 2.0, self.size[1] + self.px(MARGIN + LETTER * 1.2));
+        let (letter, words) = (self.legend_letter(), escaped(&self.legend_words()));
+        let (x, y) = (self.size[0] / 2.0, self.size[1] + self.px(MARGIN) + 1.2 * letter);
         let _ = writeln!(
             text,
             "<text x=\"{x:.2}\" y=\"{y:.2}\" font-size=\"{letter:.2}\" text-anchor=\"middle\" fill=\"{INK}\">{words}</text>"
         );
+    }
+
+    /// The size of the legend's letters, in units: it is to be read where all is seen.
+    fn legend_letter(&self) -> f64 {
+        self.px(LETTER).max(self.size[0] / 60.0)
     }
 
     fn legend_words(&self) -> String {
