@@ -140,66 +140,57 @@ fn trail_by_trail(trails: usize, mut first: Growing, mut next: impl FnMut(&mut G
     first.order
 }
 
-fn large() -> Vec<(&'static str, Vec<u16>)> {
-    const M: usize = 4096;
+/// Trails of the largest plans.
+const M: usize = 4096;
+
+type Named = (&'static str, Vec<u16>);
+
+fn large() -> Vec<Named> {
     let mut numbers = Random(4096);
-    let mut count = 0;
-    vec![
-        ("path", trail_by_trail(M, Growing::trail(), |plan, last| plan.dead_end(last) + 1)),
-        (
-            "star",
-            trail_by_trail(M, Growing::trail(), |plan, last| {
-                plan.dead_end(0);
-                last
-            }),
-        ),
-        (
-            "caterpillar",
-            trail_by_trail(M, Growing::trail(), |plan, last| {
-                count += 1;
-                let dart = plan.dead_end(last);
-                if count % 2 == 0 {
-                    last
-                } else {
-                    dart + 1
-                }
-            }),
-        ),
-        ("tree", random(M, SHAPES[0], &mut numbers)),
-        (
-            "parallel trails",
-            trail_by_trail(M, Growing::trail(), |plan, _| {
-                plan.across(0, 1);
-                0
-            }),
-        ),
-        (
-            "loops side by side",
-            trail_by_trail(M, Growing::one_loop(), |plan, last| {
-                plan.across(last, 0);
-                last
-            }),
-        ),
-        (
-            "loops in each other",
-            trail_by_trail(M, Growing::one_loop(), |plan, _| {
-                plan.across(0, 1);
-                0
-            }),
-        ),
-        (
-            "loops on stems in each other",
-            trail_by_trail(M, Growing::one_loop(), |plan, last| {
-                if plan.order.len() % 4 == 2 {
-                    plan.dead_end(last) + 1
-                } else {
-                    plan.across(last, 0)
-                }
-            }),
-        ),
-        ("mixed", random(M, SHAPES[5], &mut numbers)),
-        ("dense", random(M, SHAPES[4], &mut numbers)),
-        ("grid", grid(45)),
+    let mut plans = vec![("tree", random(M, SHAPES[0], &mut numbers)), ("mixed", random(M, SHAPES[5], &mut numbers))];
+    plans.extend([("dense", random(M, SHAPES[4], &mut numbers)), ("grid", grid(45))]);
+    plans.extend(large_trees());
+    plans.extend(large_with_loops());
+    plans
+}
+
+fn large_trees() -> [Named; 3] {
+    let path = |plan: &mut Growing, last: u16| plan.dead_end(last) + 1;
+    let star = |plan: &mut Growing, last: u16| {
+        plan.dead_end(0);
+        last
+    };
+    let caterpillar = |plan: &mut Growing, last: u16| {
+        let dart = plan.dead_end(last);
+        if dart % 4 == 0 {
+            last
+        } else {
+            dart + 1
+        }
+    };
+    [
+        ("path", trail_by_trail(M, Growing::trail(), path)),
+        ("star", trail_by_trail(M, Growing::trail(), star)),
+        ("caterpillar", trail_by_trail(M, Growing::trail(), caterpillar)),
+    ]
+}
+
+fn large_with_loops() -> [Named; 4] {
+    let next_corner = |plan: &mut Growing, last: u16| {
+        plan.across(0, 1);
+        last
+    };
+    let same_corner = |plan: &mut Growing, last: u16| {
+        plan.across(last, 0);
+        last
+    };
+    let stems =
+        |plan: &mut Growing, last: u16| if plan.order.len() % 4 == 2 { plan.dead_end(last) + 1 } else { plan.across(last, 0) };
+    [
+        ("parallel trails", trail_by_trail(M, Growing::trail(), next_corner)),
+        ("loops in each other", trail_by_trail(M, Growing::one_loop(), next_corner)),
+        ("loops side by side", trail_by_trail(M, Growing::one_loop(), same_corner)),
+        ("loops on stems in each other", trail_by_trail(M, Growing::one_loop(), stems)),
     ]
 }
 
