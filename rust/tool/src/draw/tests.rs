@@ -162,7 +162,7 @@ fn large_trees() -> [Named; 3] {
     };
     let caterpillar = |plan: &mut Growing, last: u16| {
         let dart = plan.dead_end(last);
-        if dart % 4 == 0 {
+        if dart.is_multiple_of(4) {
             last
         } else {
             dart + 1
