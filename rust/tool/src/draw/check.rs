@@ -5,8 +5,14 @@ use std::f64::consts::{FRAC_PI_2, TAU};
 
 type Place = [f64; 2];
 
+/// Where trails end, and the darts that leave there, counterclockwise by angle.
+type Junction = (Place, Vec<u16>);
+
 /// Straight pieces that a curved piece is taken as.
 const PIECES: usize = 8;
+
+/// Lines that are as near meet.
+const NEAR: f64 = 1e-9;
 
 /// What a picture shows.
 #[derive(Debug)]
@@ -92,8 +98,8 @@ struct Piece {
 }
 
 impl Piece {
-    /// The left end, then the right end.
-    fn from_left(&self) -> [Place; 2] {
+    /// The left end, then the right end; of an upright piece the lower end, then the upper.
+    fn left_to_right(&self) -> [Place; 2] {
         let [a, b] = self.ends;
         if a < b {
             [a, b]
@@ -104,7 +110,7 @@ impl Piece {
 
     /// Which of two pieces is above the other, at a place of this one; if the other goes through it, by this one's other end.
     fn above(&self, other: &Piece, place: Place, end: Place) -> std::cmp::Ordering {
-        let [left, right] = other.from_left();
+        let [left, right] = other.left_to_right();
         turn(left, right, place).total_cmp(&0.0).then(turn(left, right, end).total_cmp(&0.0))
     }
 }
@@ -115,12 +121,12 @@ fn meeting(lines: &[Vec<Place>]) -> Option<(usize, usize)> {
     let pieces: Vec<Piece> = lines.iter().enumerate().flat_map(|(trail, line)| pieces(trail, line)).collect();
     let ends = |number: usize, [left, right]: [Place; 2]| [(right, false, number), (left, true, number)];
     let mut events: Vec<(Place, bool, usize)> =
-        (0..pieces.len()).flat_map(|number| ends(number, pieces[number].from_left())).collect();
+        (0..pieces.len()).flat_map(|number| ends(number, pieces[number].left_to_right())).collect();
     events.sort_by(|a, b| a.partial_cmp(b).expect("numbers"));
     let mut line: Vec<&Piece> = Vec::new();
     for (place, begins, number) in events {
         let piece = &pieces[number];
-        let [left, right] = piece.from_left();
+        let [left, right] = piece.left_to_right();
         let end = if begins { right } else { left };
         let at = line.partition_point(|other| !std::ptr::eq(*other, piece) && piece.above(other, place, end).is_gt());
         if begins {
@@ -138,12 +144,9 @@ fn meeting(lines: &[Vec<Place>]) -> Option<(usize, usize)> {
     None
 }
 
-/// The pieces of a line; leaned a little, so that none is upright.
 fn pieces(trail: usize, line: &[Place]) -> impl Iterator<Item = Piece> + '_ {
     let count = line.len() - 1;
-    let leaned = |[x, y]: Place| [x + 0.000_123_456_7 * y, y];
-    let ends = move |number: usize| [leaned(line[number]), leaned(line[number + 1])];
-    (0..count).map(move |number| Piece { trail, number, last: number + 1 == count, ends: ends(number) })
+    (0..count).map(move |number| Piece { trail, number, last: number + 1 == count, ends: [line[number], line[number + 1]] })
 }
 
 fn low(piece: &Piece, axis: usize) -> f64 {
@@ -170,7 +173,11 @@ fn meet(a: &Piece, b: &Piece) -> bool {
         return false;
     }
     let [[a, b], [c, d]] = [a.ends, b.ends];
-    let apart = |a, b, c, d| turn(a, b, c) * turn(a, b, d) > 0.0;
+    let side = |a: Place, b: Place, c| turn(a, b, c) / (b[0] - a[0]).hypot(b[1] - a[1]);
+    let apart = |a, b, c, d| {
+        let sides = [side(a, b, c), side(a, b, d)];
+        sides.iter().all(|&side| side > NEAR) || sides.iter().all(|&side| side < -NEAR)
+    };
     !apart(a, b, c, d) && !apart(c, d, a, b)
 }
 
@@ -192,23 +199,16 @@ fn turn(a: Place, b: Place, c: Place) -> f64 {
     (b[0] - a[0]) * (c[1] - a[1]) - (b[1] - a[1]) * (c[0] - a[0])
 }
 
-/// The darts that leave each place where trails end, counterclockwise by angle.
-fn junctions(lines: &[Vec<Place>]) -> Vec<(Place, Vec<u16>)> {
-    let mut found: HashMap<[u64; 2], (Place, Vec<(f64, u16)>)> = HashMap::new();
-    for (dart, (from, to)) in
-        (0..).zip(lines.iter().flat_map(|line| [(line[0], line[1]), (line[line.len() - 1], line[line.len() - 2])]))
-    {
-        let angle = (to[1] - from[1]).atan2(to[0] - from[0]);
-        found.entry(from.map(f64::to_bits)).or_insert((from, Vec::new())).1.push((angle, dart));
-    }
-    let sorted = |mut darts: Vec<(f64, u16)>| {
-        darts.sort_by(|a, b| a.0.total_cmp(&b.0));
-        darts.into_iter().map(|(_, dart)| dart).collect()
-    };
-    found.into_values().map(|(place, darts)| (place, sorted(darts))).collect()
+fn junctions(lines: &[Vec<Place>]) -> Vec<Junction> {
+    let leaving = lines.iter().flat_map(|line| [[line[0], line[1]], [line[line.len() - 1], line[line.len() - 2]]]);
+    let mut darts: Vec<([Place; 2], u16)> = leaving.zip(0..).collect();
+    let angle = |[from, to]: [Place; 2]| (to[1] - from[1]).atan2(to[0] - from[0]);
+    darts.sort_by(|a, b| a.0[0].partial_cmp(&b.0[0]).expect("numbers").then(angle(a.0).total_cmp(&angle(b.0))));
+    let same = |a: &([Place; 2], u16), b: &([Place; 2], u16)| a.0[0] == b.0[0];
+    darts.chunk_by(same).map(|darts| (darts[0].0[0], darts.iter().map(|&(_, dart)| dart).collect())).collect()
 }
 
-fn order_of(junctions: &[(Place, Vec<u16>)]) -> Vec<u16> {
+fn order_of(junctions: &[Junction]) -> Vec<u16> {
     let mut order: Vec<u16> = vec![0; junctions.iter().map(|(_, darts)| darts.len()).sum()];
     for (_, darts) in junctions {
         for (place, &dart) in darts.iter().enumerate() {
@@ -229,7 +229,7 @@ fn cycle(first: u16, next: impl Fn(u16) -> u16) -> Vec<u16> {
 }
 
 /// Each junction has a circle that names its darts, and no circle names others.
-fn circles_agree(svg: &str, junctions: &[(Place, Vec<u16>)], order: &[u16]) -> Result<(), String> {
+fn circles_agree(svg: &str, junctions: &[Junction], order: &[u16]) -> Result<(), String> {
     let mut named = HashMap::new();
     for tag in svg.split("<circle").skip(1) {
         let number = |name: &str| attribute(tag, name).and_then(|text| text.parse::<f64>().ok()).ok_or(format!("no {name}"));
@@ -251,7 +251,7 @@ fn circles_agree(svg: &str, junctions: &[(Place, Vec<u16>)], order: &[u16]) -> R
 }
 
 /// A dart that has the unbounded region on its right: above the highest place of all.
-fn top_dart(lines: &[Vec<Place>], junctions: &[(Place, Vec<u16>)]) -> u16 {
+fn top_dart(lines: &[Vec<Place>], junctions: &[Junction]) -> u16 {
     let places =
         lines.iter().enumerate().flat_map(|(trail, line)| (0..line.len()).map(move |number| (line[number], trail, number)));
     let (top, trail, number) = places.max_by(|a, b| a.0[1].total_cmp(&b.0[1])).unwrap_or_default();
@@ -264,7 +264,7 @@ fn top_dart(lines: &[Vec<Place>], junctions: &[(Place, Vec<u16>)]) -> u16 {
     }
     let leaving = |dart: u16| {
         let line = &lines[usize::from(dart / 2)];
-        turned(if dart % 2 == 0 { line[1] } else { line[line.len() - 2] })
+        turned(line[if dart.is_multiple_of(2) { 1 } else { line.len() - 2 }])
     };
     let darts = junctions.iter().find(|(place, _)| *place == top).map_or(&[][..], |(_, darts)| darts);
     darts.iter().copied().min_by(|&a, &b| leaving(a).total_cmp(&leaving(b))).unwrap_or_default()

@@ -5,11 +5,13 @@ use super::grid;
 use super::net::Net;
 use super::place::{self, Place};
 use super::relax::Relaxer;
+use super::room::{direction, distance};
 
 /// Steps of the grid in a unit of the picture: what is printed has two decimals.
 pub const STEPS: i64 = 100;
-/// The length in pixels of a trail of middle length.
-const TRAIL: f64 = 110.0;
+/// The length in pixels of a trail of middle length, and what is free around the middle of most trails.
+const TRAIL: f64 = 150.0;
+const FREE: f64 = 8.0;
 /// The width in pixels of a picture of few trails at most.
 const WIDTH: f64 = 420.0;
 /// Units of the picture in a pixel: tried one after the other, until the grid is fine enough.
@@ -53,7 +55,8 @@ impl Layout {
         None
     }
 
-    fn from_grid(net: Net, spots: &[Spot]) -> Layout {
+    /// The grid as it is.
+    pub fn from_grid(net: Net, spots: &[Spot]) -> Layout {
         let places: Vec<Place> = spots.iter().map(|spot| spot.map(|value| value as f64)).collect();
         let spots = spots.iter().map(|spot| spot.map(|value| value * STEPS)).collect();
         let unit = 1.0 / scale(&net, &places);
@@ -91,17 +94,28 @@ fn sign(a: Place, b: Place, c: Place) -> i128 {
 
 /// Pixels for a length of 1.
 fn scale(net: &Net, places: &[Place]) -> f64 {
-    let mut lengths: Vec<f64> = net.routes.iter().map(|route| length(places, route)).collect();
-    lengths.sort_by(f64::total_cmp);
-    let seen = || net.routes.iter().flatten().map(|&point| places[point]);
     let span = |axis: usize| {
-        let (low, high) = seen().fold((f64::MAX, f64::MIN), |(low, high), place| (low.min(place[axis]), high.max(place[axis])));
-        high - low
+        let seen = || net.routes.iter().flatten().map(|&point| places[point][axis]);
+        seen().fold(f64::MIN, f64::max) - seen().fold(f64::MAX, f64::min)
     };
     let widest = WIDTH * (1.0 + (net.routes.len() as f64).sqrt() / 4.0);
-    (TRAIL / lengths[lengths.len() / 2]).min(widest / span(0).max(span(1)))
+    let long = TRAIL / ranked(net.routes.iter().map(|route| length(places, route)), 2);
+    let free = FREE / ranked(net.routes.iter().map(|route| free(net, places, route[route.len() / 2])), 4);
+    long.max(free).min(widest / span(0).max(span(1)))
+}
+
+/// The value that one of so many is below.
+fn ranked(values: impl Iterator<Item = f64>, one_of: usize) -> f64 {
+    let mut values: Vec<f64> = values.collect();
+    values.sort_by(f64::total_cmp);
+    values[values.len() / one_of]
 }
 
 fn length(places: &[Place], route: &[usize]) -> f64 {
-    route.windows(2).map(|side| (places[side[0]][0] - places[side[1]][0]).hypot(places[side[0]][1] - places[side[1]][1])).sum()
+    route.windows(2).map(|side| direction(places[side[0]], places[side[1]]).1).sum()
+}
+
+/// How far it is from a point to the far sides of its triangles.
+fn free(net: &Net, places: &[Place], point: usize) -> f64 {
+    net.fan(point).map(|(from, to)| distance(places[point], places[from], places[to])).fold(f64::MAX, f64::min)
 }

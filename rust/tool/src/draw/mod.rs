@@ -3,7 +3,7 @@
 //! * `net`: the plan made into a triangulation;
 //! * `place`, `relax`: its points placed and evened out; `grid`: a placement that cannot fail;
 //! * `layout`: which of them is taken, on the grid of what is printed;
-//! * `curve`: trails through those points; `text`: the SVG.
+//! * `curve`: trails through those points; `room`: what is free around them; `text`: the SVG.
 //!
 //! A placement is taken only if every triangle is the right way round in the whole numbers that are printed. This says that
 //! no two triangles overlap, and a curve keeps to its own triangles.
@@ -14,6 +14,7 @@ mod layout;
 mod net;
 mod place;
 mod relax;
+mod room;
 mod text;
 
 #[cfg(test)]

@@ -1,12 +1,19 @@
 //! The net of a plan: the plan made into a triangulation of the sphere without loops and double links.
 //!
-//! Each trail is cut into `SIDES` sides. Each area gets a point in its middle, linked to all points around the area. Where the
-//! area meets a point more than once, and in the outside area, a ring of points stands between: one for each side.
+//! Each trail is cut into `SIDES` sides. Each area gets a point in its middle, linked to all points around the area. A ring of
+//! points stands between, one for each side: it must where the area meets a point more than once. The outside area has three
+//! far points in place of the middle.
+//!
+//! No link joins two points on trails but for the sides themselves. So a triangle has one side of a trail at most, and the
+//! triangles at a point on a trail touch other trails only in their corners at junctions.
 
 /// Sides of a trail to begin with; three at least, so that loops are no loops in the net.
 const SIDES: usize = 4;
 
-/// A plan's net. Its points are the junctions, then the points on the trails, then the points in the areas.
+/// Up to so many trails every area has a ring: it lets the trails around the area bend. Above, it would cost too much time.
+const RINGED: usize = 400;
+
+/// A plan's net. Its points are the junctions, the points on the trails, those in the areas, and those of sides split later.
 #[derive(Clone)]
 pub struct Net {
     /// The least dart of each junction.
@@ -15,9 +22,9 @@ pub struct Net {
     pub routes: Vec<Vec<usize>>,
     /// How many areas there are.
     pub areas: usize,
-    /// The ring in the outside area, counterclockwise around the plan; the first is right before the start dart if that is outside.
+    /// The ring in the outside area, counterclockwise around the plan; the first is beside the start dart if that is outside.
     pub ring: Vec<usize>,
-    /// Three points in the outside area that the ring does not part from each other, counterclockwise around the plan.
+    /// Three points beyond the ring, counterclockwise around the plan.
     pub far: [usize; 3],
     /// The neighbours of each point, counterclockwise.
     links: Vec<Vec<usize>>,
@@ -41,7 +48,7 @@ impl Net {
             if number == outer {
                 net.ring = weave.ring(&around);
                 net.far = weave.far(&net.ring);
-            } else if repeats(&around, weave.points) {
+            } else if net.routes.len() <= RINGED || repeats(&around, weave.points) {
                 let ring = weave.ring(&around);
                 weave.middle(&ring);
             } else {

@@ -5,7 +5,7 @@ use super::net::Net;
 pub type Place = [f64; 2];
 
 /// Steps of the solver at most.
-const STEPS: usize = 1500;
+const STEPS: usize = 800;
 /// The solution is good when what is left is this small, in relation to the beginning.
 const REST: f64 = 1e-14;
 

@@ -16,10 +16,12 @@ const FAR: f64 = 0.02;
 /// How far a point is moved, in relation to where the cost is least: beyond it, for that evens out sooner.
 const BEYOND: f64 = 1.9;
 /// Points moved in all, at most, and sweeps over all points.
-const MOVES: usize = 1_200_000;
-const SWEEPS: usize = 600;
+const MOVES: usize = 3_000_000;
+const SWEEPS: usize = 1000;
 /// A round ends when the mean square of the moves in a sweep is below so many areas.
 const SETTLED: f64 = 1e-5;
+/// A link flips if what is there then costs less than so much of what is there now.
+const FLIP: f64 = 0.999;
 /// After each round sides are split: those whose square is above so many areas, at a bend above this angle.
 const ROUNDS: usize = 4;
 const LONG: f64 = 6.0;
@@ -37,11 +39,38 @@ pub struct Relaxer<'a> {
     area: f64,
 }
 
-/// What the places around a point say of its own: cost, its slope and curvature.
+/// What a point costs where it is, the slope of that along x and y, and the slope's slopes along xx, xy and yy.
 struct Pull {
     cost: f64,
     slope: Place,
     curve: [f64; 3],
+}
+
+impl Pull {
+    /// Adds what a triangle costs as its first corner moves.
+    fn add_triangle(&mut self, [a, b, c]: [Place; 3], share: f64, wanted: f64) {
+        let (sum, area) = (squares(a, b, c), cross(a, b, c) / 2.0);
+        let factor = share * (1.0 / wanted + wanted / area.powi(2));
+        let (first, second) = (share * -2.0 * wanted / area.powi(3), share * 6.0 * wanted / area.powi(4));
+        // The slopes of the sum and of the area.
+        let s = [2.0 * (2.0 * a[0] - b[0] - c[0]), 2.0 * (2.0 * a[1] - b[1] - c[1])];
+        let g = [(b[1] - c[1]) / 2.0, (c[0] - b[0]) / 2.0];
+        self.cost += sum * factor;
+        self.slope[0] += factor * s[0] + sum * first * g[0];
+        self.slope[1] += factor * s[1] + sum * first * g[1];
+        self.curve[0] += 4.0 * factor + 2.0 * first * s[0] * g[0] + sum * second * g[0] * g[0];
+        self.curve[1] += first * (s[0] * g[1] + s[1] * g[0]) + sum * second * g[0] * g[1];
+        self.curve[2] += 4.0 * factor + 2.0 * first * s[1] * g[1] + sum * second * g[1] * g[1];
+    }
+
+    /// Adds what a bend costs as the point moves that has this part in it.
+    fn add_bend(&mut self, off: Place, part: f64, stiffness: f64) {
+        self.cost += stiffness * (off[0] * off[0] + off[1] * off[1]);
+        self.slope[0] += 2.0 * stiffness * part * off[0];
+        self.slope[1] += 2.0 * stiffness * part * off[1];
+        self.curve[0] += 2.0 * stiffness * part * part;
+        self.curve[2] += 2.0 * stiffness * part * part;
+    }
 }
 
 impl<'a> Relaxer<'a> {
@@ -95,24 +124,26 @@ impl<'a> Relaxer<'a> {
         }
     }
 
-    /// Flips the links from a point to later ones where that costs less. No link is to join two points on trails.
+    /// Flips the links from a point to later ones where that costs less.
     fn flip_links(&mut self, places: &[Place], a: usize) {
         let mut place = 0;
         while place < self.net.link(a).len() {
             let link = self.net.link(a);
             let (b, c, d) = (link[place], link[(place + 1) % link.len()], link[(place + link.len() - 1) % link.len()]);
+            if a < b && self.may_flip([a, b], [c, d]) {
+                let now = self.triangle(places, a, b, c) + self.triangle(places, b, a, d);
+                if self.triangle(places, a, d, c) + self.triangle(places, d, b, c) < FLIP * now {
+                    self.net.flip(a, b);
+                }
+            }
             place += 1;
-            if b < a || self.net.far.contains(&a) && self.net.far.contains(&b) || self.net.on_trail(a) && self.net.on_trail(b) {
-                continue;
-            }
-            if self.net.on_trail(c) && self.net.on_trail(d) {
-                continue;
-            }
-            let now = self.triangle(places, a, b, c) + self.triangle(places, b, a, d);
-            if self.triangle(places, a, d, c) + self.triangle(places, d, b, c) < 0.999 * now {
-                self.net.flip(a, b);
-            }
         }
+    }
+
+    /// Whether a link may give way to another: it is no side and not of the frame, and the other joins no two points on trails.
+    fn may_flip(&self, link: [usize; 2], other: [usize; 2]) -> bool {
+        let on_trails = |ends: [usize; 2]| ends.iter().all(|&end| self.net.on_trail(end));
+        !on_trails(link) && !on_trails(other) && !link.iter().all(|end| self.net.far.contains(end))
     }
 
     fn triangle(&self, places: &[Place], a: usize, b: usize, c: usize) -> f64 {
@@ -155,33 +186,13 @@ impl<'a> Relaxer<'a> {
     }
 
     fn pull(&self, places: &[Place], point: usize) -> Pull {
-        let a = places[point];
         let mut pull = Pull { cost: 0.0, slope: [0.0; 2], curve: [0.0; 3] };
         for (from, to) in self.net.fan(point) {
-            let (b, c) = (places[from], places[to]);
-            let share = self.share(point, from, to);
-            let (sum, area) = (squares(a, b, c), cross(a, b, c) / 2.0);
-            let factor = share * (1.0 / self.area + self.area / (area * area));
-            let first = share * -2.0 * self.area / (area * area * area);
-            let second = share * 6.0 * self.area / (area * area * area * area);
-            let s = [2.0 * (2.0 * a[0] - b[0] - c[0]), 2.0 * (2.0 * a[1] - b[1] - c[1])];
-            let g = [(b[1] - c[1]) / 2.0, (c[0] - b[0]) / 2.0];
-            pull.cost += sum * factor;
-            pull.slope[0] += factor * s[0] + sum * first * g[0];
-            pull.slope[1] += factor * s[1] + sum * first * g[1];
-            pull.curve[0] += 4.0 * factor + 2.0 * first * s[0] * g[0] + sum * second * g[0] * g[0];
-            pull.curve[1] += first * (s[0] * g[1] + s[1] * g[0]) + sum * second * g[0] * g[1];
-            pull.curve[2] += 4.0 * factor + 2.0 * first * s[1] * g[1] + sum * second * g[1] * g[1];
+            pull.add_triangle([places[point], places[from], places[to]], self.share(point, from, to), self.area);
         }
         for bend in &self.bends[point] {
-            let off = off_mean(bend.map(|end| places[end]));
-            pull.cost += STIFFNESS / self.area * (off[0] * off[0] + off[1] * off[1]);
-            let weight = if bend[1] == point { -2.0 } else { 1.0 } * 2.0 * STIFFNESS / self.area;
-            pull.slope[0] += weight * off[0];
-            pull.slope[1] += weight * off[1];
-            let own = weight.abs() * if bend[1] == point { 2.0 } else { 1.0 };
-            pull.curve[0] += own;
-            pull.curve[2] += own;
+            let part = if bend[1] == point { -2.0 } else { 1.0 };
+            pull.add_bend(off_mean(bend.map(|end| places[end])), part, STIFFNESS / self.area);
         }
         pull
     }

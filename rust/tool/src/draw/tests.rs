@@ -1,9 +1,10 @@
 //! Plans drawn, and read back from the text of the picture.
 
 use super::check::{self, Shown};
-use super::{svg, Picture};
+use super::layout::Layout;
+use super::net::Net;
+use super::{svg, text, Picture};
 use std::collections::BTreeMap;
-use std::fmt::Write as _;
 
 fn drawn(order: &[u16], start: u16, outside: u16) -> String {
     svg(&Picture { order, start, outside, trails: &BTreeMap::new(), junctions: &BTreeMap::new() })
@@ -20,13 +21,11 @@ fn area(order: &[u16], first: u16) -> Vec<u16> {
     darts
 }
 
-/// Draws a plan, and holds what the picture shows against it.
-fn holds(name: &str, order: &[u16], start: u16, outside: u16) -> String {
-    let text = drawn(order, start, outside);
-    let Shown { order: shown, outside: around } = check::read(&text).unwrap_or_else(|wrong| panic!("{name}: {wrong}"));
+/// Holds what a picture shows against its plan.
+fn holds(name: &str, text: &str, order: &[u16], outside: u16) {
+    let Shown { order: shown, outside: around } = check::read(text).unwrap_or_else(|wrong| panic!("{name}: {wrong}"));
     assert!(shown == order, "{name}: another turning order");
     assert!(around == area(order, outside), "{name}: another area outside");
-    text
 }
 
 struct Random(u64);
@@ -83,6 +82,25 @@ impl Growing {
     }
 }
 
+impl Growing {
+    /// Each plan with one trail more.
+    fn one_more(&self) -> Vec<Growing> {
+        let mut plans = Vec::new();
+        for after in 0..self.order.len() as u16 {
+            let mut grow = |step: &dyn Fn(&mut Growing)| {
+                let mut plan = Growing { order: self.order.clone() };
+                step(&mut plan);
+                plans.push(plan);
+            };
+            grow(&|plan| _ = plan.dead_end(after));
+            for corners in 0..area(&self.order, self.order[usize::from(after)]).len() {
+                grow(&|plan| _ = plan.across(after, corners));
+            }
+        }
+        plans
+    }
+}
+
 /// How a random plan grows: out of ten steps so many are dead ends; the other trails go so many corners on, below a bound.
 #[derive(Clone, Copy)]
 struct Shape {
@@ -113,19 +131,7 @@ fn random(trails: usize, shape: Shape, random: &mut Random) -> Vec<u16> {
     plan.order
 }
 
-#[test]
-fn a_thousand_random_plans() {
-    let mut numbers = Random(20);
-    for round in 0..1000 {
-        let trails = 1 + numbers.below([12, 200, 60][usize::from(round % 10 == 0) * (1 + usize::from(round % 50 != 0))]);
-        let order = random(trails, SHAPES[round % SHAPES.len()], &mut numbers);
-        let (start, outside) = (numbers.below(order.len()) as u16, numbers.below(order.len()) as u16);
-        let outside = if round % 2 == 0 { start } else { outside };
-        holds(&format!("plan {round} of {trails} trails"), &order, start, outside);
-    }
-}
-
-/// Each plan of up to four trails that can be grown, from each start.
+/// A plan grown from another, each trail at the dart that the one before leads to.
 fn trail_by_trail(trails: usize, mut first: Growing, mut next: impl FnMut(&mut Growing, u16) -> u16) -> Vec<u16> {
     let mut last = 1;
     while first.order.len() < 2 * trails {
@@ -134,66 +140,57 @@ fn trail_by_trail(trails: usize, mut first: Growing, mut next: impl FnMut(&mut G
     first.order
 }
 
-fn large() -> Vec<(&'static str, Vec<u16>)> {
-    const M: usize = 4096;
+/// Trails of the largest plans.
+const M: usize = 4096;
+
+type Named = (&'static str, Vec<u16>);
+
+fn large() -> Vec<Named> {
     let mut numbers = Random(4096);
-    let mut count = 0;
-    vec![
-        ("path", trail_by_trail(M, Growing::trail(), |plan, last| plan.dead_end(last) + 1)),
-        (
-            "star",
-            trail_by_trail(M, Growing::trail(), |plan, last| {
-                plan.dead_end(0);
-                last
-            }),
-        ),
-        (
-            "caterpillar",
-            trail_by_trail(M, Growing::trail(), |plan, last| {
-                count += 1;
-                let dart = plan.dead_end(last);
-                if count % 2 == 0 {
-                    last
-                } else {
-                    dart + 1
-                }
-            }),
-        ),
-        ("tree", random(M, SHAPES[0], &mut numbers)),
-        (
-            "parallel trails",
-            trail_by_trail(M, Growing::trail(), |plan, _| {
-                plan.across(0, 1);
-                0
-            }),
-        ),
-        (
-            "loops side by side",
-            trail_by_trail(M, Growing::one_loop(), |plan, last| {
-                plan.across(last, 0);
-                last
-            }),
-        ),
-        (
-            "loops in each other",
-            trail_by_trail(M, Growing::one_loop(), |plan, _| {
-                plan.across(0, 1);
-                0
-            }),
-        ),
-        (
-            "loops on stems in each other",
-            trail_by_trail(M, Growing::one_loop(), |plan, last| {
-                if plan.order.len() % 4 == 2 {
-                    plan.dead_end(last) + 1
-                } else {
-                    plan.across(last, 0)
-                }
-            }),
-        ),
-        ("mixed", random(M, SHAPES[5], &mut numbers)),
-        ("dense", random(M, SHAPES[4], &mut numbers)),
-        ("grid", grid(45)),
+    let mut plans = vec![("tree", random(M, SHAPES[0], &mut numbers)), ("mixed", random(M, SHAPES[5], &mut numbers))];
+    plans.extend([("dense", random(M, SHAPES[4], &mut numbers)), ("grid", grid(45))]);
+    plans.extend(large_trees());
+    plans.extend(large_with_loops());
+    plans
+}
+
+fn large_trees() -> [Named; 3] {
+    let path = |plan: &mut Growing, last: u16| plan.dead_end(last) + 1;
+    let star = |plan: &mut Growing, last: u16| {
+        plan.dead_end(0);
+        last
+    };
+    let caterpillar = |plan: &mut Growing, last: u16| {
+        let dart = plan.dead_end(last);
+        if dart.is_multiple_of(4) {
+            last
+        } else {
+            dart + 1
+        }
+    };
+    [
+        ("path", trail_by_trail(M, Growing::trail(), path)),
+        ("star", trail_by_trail(M, Growing::trail(), star)),
+        ("caterpillar", trail_by_trail(M, Growing::trail(), caterpillar)),
+    ]
+}
+
+fn large_with_loops() -> [Named; 4] {
+    let next_corner = |plan: &mut Growing, last: u16| {
+        plan.across(0, 1);
+        last
+    };
+    let same_corner = |plan: &mut Growing, last: u16| {
+        plan.across(last, 0);
+        last
+    };
+    let stems =
+        |plan: &mut Growing, last: u16| if plan.order.len() % 4 == 2 { plan.dead_end(last) + 1 } else { plan.across(last, 0) };
+    [
+        ("parallel trails", trail_by_trail(M, Growing::trail(), next_corner)),
+        ("loops in each other", trail_by_trail(M, Growing::one_loop(), next_corner)),
+        ("loops side by side", trail_by_trail(M, Growing::one_loop(), same_corner)),
+        ("loops on stems in each other", trail_by_trail(M, Growing::one_loop(), stems)),
     ]
 }
 
@@ -223,67 +220,136 @@ fn grid(side: usize) -> Vec<u16> {
 }
 
 #[test]
-fn large_plans() {
-    for (name, order) in large() {
-        let begin = std::time::Instant::now();
-        let text = drawn(&order, 0, 0);
-        let d = begin.elapsed();
-        holds(name, &order, 0, 0);
-        println!("{name} {} trails: drawn in {d:?}, all {:?} {} bytes", order.len() / 2, begin.elapsed(), text.len());
+fn a_thousand_random_plans() {
+    let mut numbers = Random(20);
+    for round in 0..1000 {
+        let most = if round % 50 == 0 {
+            200
+        } else if round % 10 == 0 {
+            60
+        } else {
+            12
+        };
+        let trails = if round == 0 { most } else { 1 + numbers.below(most) };
+        let order = random(trails, SHAPES[round % SHAPES.len()], &mut numbers);
+        let [start, other] = [0; 2].map(|_| numbers.below(order.len()) as u16);
+        let outside = if round % 2 == 0 { start } else { other };
+        holds(&format!("plan {round} of {trails} trails"), &drawn(&order, start, outside), &order, outside);
     }
 }
 
 #[test]
-#[ignore]
-fn pictures() {
-    let folder = std::env::var("PICTURES").unwrap();
-    for entry in std::fs::read_dir("../../examples").unwrap() {
-        let path = entry.unwrap().path();
-        if path.extension().is_some_and(|e| e == "plan") {
-            let plan = crate::plan_file::Plan::parse(&std::fs::read_to_string(&path).unwrap()).unwrap();
-            std::fs::write(
-                format!("{folder}/{}.svg", path.file_stem().unwrap().to_str().unwrap()),
-                drawn(&plan.order, plan.start, plan.start),
-            )
-            .unwrap();
-        }
-    }
-    let mut numbers = Random(77);
-    for m in [30, 100, 400] {
-        for (i, s) in SHAPES.iter().enumerate() {
-            let order = random(m, *s, &mut numbers);
-            std::fs::write(format!("{folder}/r{m}-{i}.svg"), drawn(&order, 0, 0)).unwrap();
-        }
-    }
-    let one: [u16; 2] = [0, 1];
-    std::fs::write(format!("{folder}/one.svg"), drawn(&one, 0, 0)).unwrap();
-    std::fs::write(format!("{folder}/loop.svg"), drawn(&[1, 0], 0, 0)).unwrap();
-    for m in [5, 20, 60] {
-        let o = trail_by_trail(m, Growing::one_loop(), |plan, _| {
-            plan.across(0, 1);
-            0
-        });
-        std::fs::write(format!("{folder}/nested{m}.svg"), drawn(&o, 0, 0)).unwrap();
-        let o = trail_by_trail(m, Growing::one_loop(), |plan, last| {
-            if plan.order.len() % 4 == 2 {
-                plan.dead_end(last) + 1
-            } else {
-                plan.across(last, 0)
+fn every_small_plan_with_every_area_outside() {
+    let mut plans = vec![Growing::trail(), Growing::one_loop()];
+    for _ in 0..2 {
+        let next: Vec<Growing> = plans.iter().flat_map(Growing::one_more).collect();
+        for order in plans.iter().chain(&next).map(|plan| &plan.order) {
+            for outside in 0..order.len() as u16 {
+                holds(&format!("{order:?}"), &drawn(order, order[usize::from(outside)], outside), order, outside);
             }
-        });
-        std::fs::write(format!("{folder}/stems{m}.svg"), drawn(&o, 0, 0)).unwrap();
-        let o = trail_by_trail(m, Growing::trail(), |plan, last| plan.dead_end(last) + 1);
-        std::fs::write(format!("{folder}/path{m}.svg"), drawn(&o, 0, 0)).unwrap();
-        let o = trail_by_trail(m, Growing::trail(), |plan, _| {
-            plan.dead_end(0);
-            0
-        });
-        std::fs::write(format!("{folder}/star{m}.svg"), drawn(&o, 0, 0)).unwrap();
-        let o = trail_by_trail(m, Growing::trail(), |plan, _| {
-            plan.across(0, 1);
-            0
-        });
-        std::fs::write(format!("{folder}/parallel{m}.svg"), drawn(&o, 0, 0)).unwrap();
+        }
+        plans = next;
     }
-    std::fs::write(format!("{folder}/grid.svg"), drawn(&grid(6), 0, 0)).unwrap();
+}
+
+#[test]
+fn large_plans() {
+    for (name, order) in large() {
+        holds(name, &drawn(&order, 0, 0), &order, 0);
+    }
+}
+
+/// The placement that is left when all others fail.
+#[test]
+fn plans_on_the_grid() {
+    let mut numbers = Random(7);
+    let plans = (0..200).map(|round| random(1 + round, SHAPES[round % SHAPES.len()], &mut numbers)).collect::<Vec<_>>();
+    for order in plans.into_iter().chain(large().into_iter().map(|(_, order)| order).step_by(3)) {
+        let net = Net::new(&order, 0, 1);
+        let spots = super::grid::place(&net);
+        let picture = Picture { order: &order, start: 0, outside: 1, trails: &BTreeMap::new(), junctions: &BTreeMap::new() };
+        holds("on the grid", &text::write(&picture, &Layout::from_grid(net, &spots)), &order, 1);
+    }
+}
+
+/// What keeps curves apart: between points on trails there are no links but sides.
+#[test]
+fn links_leave_trails_their_triangles() {
+    let mut numbers = Random(11);
+    for round in 0..30 {
+        let layout = Layout::new(Net::new(&random(5 + 2 * round, SHAPES[round % SHAPES.len()], &mut numbers), 0, 0));
+        let on_trail = |&point: &usize| layout.net.on_trail(point);
+        let points = (0..layout.net.points()).filter(|point| on_trail(point));
+        let links: usize = points.map(|point| layout.net.link(point).iter().copied().filter(|end| on_trail(end)).count()).sum();
+        assert_eq!(links, 2 * layout.net.routes.iter().map(|route| route.len() - 1).sum::<usize>());
+    }
+}
+
+#[test]
+fn names_are_shown_and_escaped() {
+    let name = |number, text: &str| BTreeMap::from([(number, String::from(text))]);
+    let (trails, junctions) = (name(1, "Kar <& \"Grat\">\u{1}"), name(0, "H\u{fc}tte 'A'"));
+    let text = svg(&Picture { order: &[3, 2, 1, 0], start: 2, outside: 2, trails: &trails, junctions: &junctions });
+    holds("a pair", &text, &[3, 2, 1, 0], 2);
+    assert!(text.contains(">Kar &lt;&amp; &quot;Grat&quot;&gt;\u{fffd}</text>"));
+    assert!(text.contains(">H\u{fc}tte &#39;A&#39;</text>"));
+    assert!(text.contains(">start: trail Kar &lt;&amp;"));
+    assert!(text.contains(">0</text>"));
+}
+
+#[test]
+fn the_same_plan_gives_the_same_text() {
+    let order = random(40, SHAPES[5], &mut Random(3));
+    assert_eq!(drawn(&order, 3, 5), drawn(&order, 3, 5));
+}
+
+/// A picture of two trails, each from a place to another, with these circles.
+fn by_hand(first: &str, second: &str, circles: &[(&str, u16, u16)]) -> String {
+    let mut text = format!("<path data-trail=\"0\" data-begin=\"0\" data-end=\"1\" d=\"{first}\"/>");
+    text += &format!("<path data-trail=\"1\" data-begin=\"2\" data-end=\"3\" d=\"{second}\"/>");
+    circles.iter().for_each(|(darts, x, y)| text += &format!("<circle data-darts=\"{darts}\" cx=\"{x}\" cy=\"{y}\" r=\"1\"/>"));
+    text
+}
+
+#[test]
+fn the_checker_reads_what_is_seen() {
+    // A path, the second trail up from the end of the first.
+    let circles = [("0", 0, 9), ("1 2", 9, 9), ("3", 9, 0)];
+    let shown = check::read(&by_hand("M0 9L9 9", "M9 9L9 0", &circles)).unwrap();
+    assert_eq!((shown.order, shown.outside), (vec![0, 2, 1, 3], vec![0, 2, 3, 1]));
+    // A trail inside a loop, clockwise from its begin dart.
+    let circles = [("0 1 2", 0, 9), ("3", 5, 9)];
+    let shown = check::read(&by_hand("M0 9L9 0L9 18L0 9", "M0 9L5 9", &circles)).unwrap();
+    assert_eq!((shown.order, shown.outside), (vec![1, 2, 0, 3], vec![1]));
+}
+
+#[test]
+fn the_checker_finds_what_is_wrong() {
+    let ends = [("0", 0, 0), ("1", 9, 9), ("2", 0, 9), ("3", 9, 0)];
+    let wrong = |first: &str, second: &str| check::read(&by_hand(first, second, &ends)).unwrap_err();
+    assert_eq!(wrong("M0 0L9 9", "M0 9L9 0"), "trails 0 and 1 meet");
+    assert_eq!(wrong("M0 0L9 9", "M0 9L5 5L9 0"), "trails 0 and 1 meet");
+    assert_eq!(wrong("M0 0L9 9", "M0 9Q12 12 9 0"), "trails 0 and 1 meet");
+    assert_eq!(wrong("M0 0L9 0L9 9", "M0 9L9 0"), "trails 0 and 1 meet");
+    assert_eq!(wrong("M0 0L9 0L3 3L3 -3L9 9", "M0 9L0 12L9 12L9 10"), "trails 0 and 0 meet");
+    let fold = by_hand("M0 0L9 0", "M0 0L5 0", &[("0 2", 0, 0), ("1", 9, 0), ("3", 5, 0)]);
+    assert_eq!(check::read(&fold).unwrap_err(), "trails 0 and 1 meet");
+    assert_eq!(
+        check::read("<path data-trail=\"0\" data-begin=\"0\" data-end=\"3\" d=\"M0 0L1 1\"/>").unwrap_err(),
+        "darts 0 and 3 on trail 0"
+    );
+}
+
+#[test]
+fn the_checker_tells_turning_orders_apart() {
+    let star = [2, 1, 4, 3, 0, 5];
+    let text = drawn(&star, 0, 0);
+    let swap = |text: &str| {
+        let text = text.replace("data-trail=\"1\" data-begin=\"2\" data-end=\"3\"", "data-trail=\"9\"");
+        let text =
+            text.replace("data-trail=\"2\" data-begin=\"4\" data-end=\"5\"", "data-trail=\"1\" data-begin=\"2\" data-end=\"3\"");
+        text.replace("data-trail=\"9\"", "data-trail=\"2\" data-begin=\"4\" data-end=\"5\"").replace("\"0 2 4\"", "\"0 4 2\"")
+    };
+    let text = swap(&text).replace("data-darts=\"3\"", "data-darts=\"x\"").replace("data-darts=\"5\"", "data-darts=\"3\"");
+    assert_eq!(check::read(&text.replace("data-darts=\"x\"", "data-darts=\"5\"")).unwrap().order, [4, 1, 0, 3, 2, 5]);
 }

@@ -6,6 +6,8 @@
 use super::curve::{Curve, Spot};
 use super::layout::{Layout, STEPS};
 use super::net::Net;
+use super::place::Place;
+use super::room::{direction, Room};
 use super::Picture;
 use std::fmt::Write as _;
 
@@ -17,27 +19,33 @@ const MARGIN: f64 = 28.0;
 const LINE: f64 = 1.8;
 const DOT: f64 = 4.2;
 const LETTER: f64 = 13.0;
-const ARROW: f64 = 13.0;
-/// The least size of a letter and a dot.
-const LEAST: f64 = 0.8;
+const ARROWS: [f64; 5] = [13.0, 11.0, 9.0, 7.0, 5.5];
+/// The least size of letters and dots.
+const LEAST: f64 = 1.2;
+/// As far as this is looked for other trails.
+const SIGHT: f64 = 16.0;
 
 pub fn write(picture: &Picture, layout: &Layout) -> String {
-    let page = Page::new(layout);
+    let page = Page::new(picture, layout);
     let mut text = String::new();
-    page.head(&mut text, picture);
-    page.trails(&mut text, picture);
-    page.junctions(&mut text, picture);
-    page.start(&mut text, picture);
-    page.labels(&mut text, picture);
-    page.legend(&mut text, picture);
+    page.head(&mut text);
+    page.trails(&mut text);
+    page.junctions(&mut text);
+    page.start(&mut text);
+    page.labels(&mut text);
+    page.legend(&mut text);
     text.push_str("</svg>\n");
     text
 }
 
 struct Page<'a> {
+    picture: &'a Picture<'a>,
     net: &'a Net,
-    layout: &'a Layout,
+    spots: &'a [Spot],
+    /// Units in a pixel.
+    unit: f64,
     curves: Vec<Curve>,
+    room: Room,
     /// Left and top of what is drawn, in steps.
     corner: Spot,
     /// Width and height of what is drawn, in units.
@@ -45,199 +53,236 @@ struct Page<'a> {
 }
 
 impl<'a> Page<'a> {
-    fn new(layout: &'a Layout) -> Page<'a> {
-        let net = &layout.net;
-        let curves: Vec<Curve> = net.routes.iter().map(|route| Curve::new(net, &layout.spots, route)).collect();
-        let seen = || net.routes.iter().flatten().map(|&point| layout.spots[point]);
+    fn new(picture: &'a Picture, Layout { net, spots, unit }: &'a Layout) -> Page<'a> {
+        let curves: Vec<Curve> = net.routes.iter().map(|route| Curve::new(net, spots, route)).collect();
+        let seen = || net.routes.iter().flatten().map(|&point| spots[point]);
         let low: Spot = std::array::from_fn(|axis| seen().map(|spot| spot[axis]).min().unwrap_or(0));
         let high: Spot = std::array::from_fn(|axis| seen().map(|spot| spot[axis]).max().unwrap_or(0));
         let size = std::array::from_fn(|axis| (high[axis] - low[axis]) as f64 / STEPS as f64);
-        Page { net, layout, curves, corner: [low[0], high[1]], size }
+        let room = Room::new(&[], 2.0 * SIGHT * unit);
+        let mut page = Page { picture, net, spots, unit: *unit, curves, room, corner: [low[0], high[1]], size };
+        let lines: Vec<Vec<Place>> = page.curves.iter().map(|curve| page.line(curve)).collect();
+        page.room = Room::new(&lines, 2.0 * SIGHT * unit);
+        page
     }
 
     /// Pixels in units.
     fn px(&self, pixels: f64) -> f64 {
-        pixels * self.layout.unit
+        pixels * self.unit
     }
 
     /// A spot in units, y going down.
-    fn at(&self, spot: Spot) -> [f64; 2] {
+    fn at(&self, spot: Spot) -> Place {
         [(spot[0] - self.corner[0]) as f64 / STEPS as f64, (self.corner[1] - spot[1]) as f64 / STEPS as f64]
     }
 
-    /// How far it is, in pixels, from a point to the far sides of the triangles around it: so much is free of other trails.
-    fn room(&self, point: usize) -> f64 {
-        let at = |point: usize| self.at(self.layout.spots[point]);
-        let sides = self.net.fan(point).map(|(from, to)| distance(at(point), at(from), at(to)));
-        sides.fold(f64::MAX, f64::min) / self.layout.unit
+    /// A spot as it is printed, exact.
+    fn exact(&self, spot: Spot) -> [String; 2] {
+        [exact(spot[0] - self.corner[0]), exact(self.corner[1] - spot[1])]
     }
 
-    fn head(&self, text: &mut String, picture: &Picture) {
+    /// Places along a trail.
+    fn line(&self, curve: &Curve) -> Vec<Place> {
+        let corners = curve.corners.iter().flat_map(|&[from, here, to]| [self.at(from), self.top([from, here, to]), self.at(to)]);
+        [self.at(curve.begin)].into_iter().chain(corners).chain([self.at(curve.end)]).collect()
+    }
+
+    /// The middle of a rounded corner.
+    fn top(&self, corner: [Spot; 3]) -> Place {
+        let [from, here, to] = corner.map(|spot| self.at(spot));
+        std::array::from_fn(|axis| (from[axis] + 2.0 * here[axis] + to[axis]) / 4.0)
+    }
+
+    fn head(&self, text: &mut String) {
         let margin = self.px(MARGIN);
-        let least = self.px(legend(picture, self.net).len().max(30) as f64 * LETTER * 0.55);
-        let width = self.size[0].max(least) + 2.0 * margin;
-        let height = self.size[1] + 2.0 * margin + self.px(LETTER * 2.0);
-        let left = (self.size[0] - width) / 2.0;
-        let [wide, high] = [width, height].map(|size| size / self.layout.unit);
-        let _ = write!(
+        let least = self.px(self.legend_words().chars().count() as f64 * LETTER * 0.55);
+        let (width, height) = (self.size[0].max(least) + 2.0 * margin, self.size[1] + 2.0 * margin + 2.0 * self.legend_letter());
+        let (left, top) = ((self.size[0] - width) / 2.0, -margin);
+        let [wide, high] = [width, height].map(|size| size / self.unit);
+        let _ = writeln!(
             text,
-            "<svg xmlns=\"http://www.w3.org/2000/svg\" viewBox=\"{left:.2} {:.2} {width:.2} {height:.2}\" width=\"{wide:.0}\" \
-             height=\"{high:.0}\" font-family=\"Helvetica, Arial, sans-serif\">\n<title>Trail plan: {}</title>\n<desc>Start: dart {}. \
-             Outside: the area of dart {}.</desc>\n<rect x=\"{left:.2}\" y=\"{:.2}\" width=\"{width:.2}\" height=\"{height:.2}\" \
-             fill=\"#ffffff\"/>\n",
-            -margin,
-            counts(self.net),
-            picture.start,
-            picture.outside,
-            -margin,
+            "<svg xmlns=\"http://www.w3.org/2000/svg\" viewBox=\"{left:.2} {top:.2} {width:.2} {height:.2}\" width=\"{wide:.0}\" \
+             height=\"{high:.0}\" font-family=\"Helvetica, Arial, sans-serif\">"
         );
+        let Picture { start, outside, .. } = self.picture;
+        let _ = writeln!(text, "<title>Trail plan: {}</title>", self.counts());
+        let _ = writeln!(text, "<desc>The start is dart {start}; the area of dart {outside} is outside.</desc>");
+        let _ =
+            writeln!(text, "<rect x=\"{left:.2}\" y=\"{top:.2}\" width=\"{width:.2}\" height=\"{height:.2}\" fill=\"#ffffff\"/>");
     }
 
-    fn trails(&self, text: &mut String, picture: &Picture) {
+    fn trails(&self, text: &mut String) {
         let width = self.px(LINE);
         let _ = writeln!(
             text,
             "<g fill=\"none\" stroke=\"{INK}\" stroke-width=\"{width:.2}\" stroke-linecap=\"round\" stroke-linejoin=\"round\">"
         );
         for (trail, curve) in self.curves.iter().enumerate() {
-            let _ = write!(text, "<path data-trail=\"{trail}\" data-begin=\"{}\" data-end=\"{}\"", 2 * trail, 2 * trail + 1);
-            if trail == usize::from(picture.start / 2) {
-                let _ = write!(text, " stroke=\"{ACCENT}\"");
-            }
-            let _ = writeln!(text, " d=\"{}\"/>", self.path(curve));
+            let colour = if self.is_start(trail) { format!(" stroke=\"{ACCENT}\"") } else { String::new() };
+            let (begin, end, path) = (2 * trail, 2 * trail + 1, self.path(curve));
+            let _ =
+                writeln!(text, "<path data-trail=\"{trail}\" data-begin=\"{begin}\" data-end=\"{end}\"{colour} d=\"{path}\"/>");
         }
         text.push_str("</g>\n");
     }
 
+    fn is_start(&self, trail: usize) -> bool {
+        trail == usize::from(self.picture.start / 2)
+    }
+
     fn path(&self, curve: &Curve) -> String {
-        let mut path = format!("M{}", self.pair(curve.begin));
+        let pair = |spot: Spot| self.exact(spot).join(" ");
+        let mut path = format!("M{}", pair(curve.begin));
         let mut last = curve.begin;
         for &[from, here, to] in &curve.corners {
             if from != last {
-                let _ = write!(path, "L{}", self.pair(from));
+                let _ = write!(path, "L{}", pair(from));
             }
             if to != from {
-                let _ = write!(path, "Q{} {}", self.pair(here), self.pair(to));
+                let _ = write!(path, "Q{} {}", pair(here), pair(to));
             }
             last = to;
         }
-        let _ = write!(path, "L{}", self.pair(curve.end));
+        let _ = write!(path, "L{}", pair(curve.end));
         path
     }
 
-    /// A spot as it is printed, exact.
-    fn pair(&self, spot: Spot) -> String {
-        format!("{} {}", exact(spot[0] - self.corner[0]), exact(self.corner[1] - spot[1]))
-    }
-
-    fn junctions(&self, text: &mut String, picture: &Picture) {
+    fn junctions(&self, text: &mut String) {
         let _ = writeln!(text, "<g fill=\"{INK}\">");
         for (point, &least) in self.net.junctions.iter().enumerate() {
-            let spot = self.layout.spots[point];
-            let (x, y) = (exact(spot[0] - self.corner[0]), exact(self.corner[1] - spot[1]));
-            let radius = self.px(self.dot(point));
-            let _ = writeln!(
-                text,
-                "<circle data-darts=\"{}\" cx=\"{x}\" cy=\"{y}\" r=\"{radius:.2}\"/>",
-                darts(picture.order, least)
-            );
+            let [x, y] = self.exact(self.spots[point]);
+            let (darts, radius) = (darts(self.picture.order, least), self.px(self.dot(point)));
+            let _ = writeln!(text, "<circle data-darts=\"{darts}\" cx=\"{x}\" cy=\"{y}\" r=\"{radius:.2}\"/>");
         }
         text.push_str("</g>\n");
     }
 
     /// The radius of a junction's dot, in pixels.
     fn dot(&self, point: usize) -> f64 {
-        (0.5 * self.room(point)).clamp(LEAST, DOT)
+        (0.6 * self.junction_room(point)).clamp(LEAST, DOT)
     }
 
-    /// The mark of the start: a ring at its junction and an arrow head along its dart.
-    fn start(&self, text: &mut String, picture: &Picture) {
-        let mut route = self.net.routes[usize::from(picture.start / 2)].clone();
-        if picture.start % 2 == 1 {
-            route.reverse();
+    /// How far other trails are from a junction, in pixels.
+    fn junction_room(&self, point: usize) -> f64 {
+        let ends_here = |trail: usize| [self.net.routes[trail].first(), self.net.routes[trail].last()].contains(&Some(&point));
+        self.room.around(self.at(self.spots[point]), ends_here) / self.unit
+    }
+
+    /// How far other trails are from a place of a trail, in pixels.
+    fn trail_room(&self, trail: usize, place: Place) -> f64 {
+        self.room.around(place, |other| other == trail) / self.unit
+    }
+
+    /// The mark of the start: a ring at its junction and an arrow head along its dart, as large as there is room for.
+    fn start(&self, text: &mut String) {
+        let trail = usize::from(self.picture.start / 2);
+        let mut line = self.line(&self.curves[trail]);
+        let mut point = self.net.routes[trail].first();
+        if self.picture.start % 2 == 1 {
+            line.reverse();
+            point = self.net.routes[trail].last();
         }
-        let [here, there] = [route[0], route[1]].map(|point| self.at(self.layout.spots[point]));
-        let (along, length) = direction(here, there);
-        let radius = self.px(self.dot(route[0]) + 3.0);
-        let size = self.px(ARROW);
-        let [base, tip] = [radius, radius + size].map(|far| [here[0] + along[0] * far, here[1] + along[1] * far]);
-        let _ = length;
-        let side = [-along[1] * size * 0.4, along[0] * size * 0.4];
-        let [x, y] = here;
+        let radius = self.dot(*point.unwrap_or(&0)) + 3.0;
+        let tip_at = |size: f64| along(&line, self.px(radius + size));
+        let fits = |size: &f64| self.trail_room(trail, tip_at(*size)) > 0.3 * size;
+        let size = ARROWS.into_iter().find(fits).unwrap_or(ARROWS[ARROWS.len() - 1]);
+        let [base, tip] = [along(&line, self.px(radius)), tip_at(size)];
+        let (forward, _) = direction(base, tip);
+        let side = [-forward[1], forward[0]].map(|part| part * self.px(0.4 * size));
+        let [x, y] = line[0];
+        let (radius, width) = (self.px(radius), self.px(LINE));
+        let corners = [tip, [base[0] + side[0], base[1] + side[1]], [base[0] - side[0], base[1] - side[1]]];
+        let corners = corners.map(|[x, y]| format!("{x:.2},{y:.2}")).join(" ");
         let _ = writeln!(
             text,
             "<g fill=\"{ACCENT}\">\n<circle cx=\"{x:.2}\" cy=\"{y:.2}\" r=\"{radius:.2}\" fill=\"none\" stroke=\"{ACCENT}\" \
-             stroke-width=\"{:.2}\"/>\n<polygon points=\"{:.2},{:.2} {:.2},{:.2} {:.2},{:.2}\"/>\n</g>",
-            self.px(LINE),
-            tip[0],
-            tip[1],
-            base[0] + side[0],
-            base[1] + side[1],
-            base[0] - side[0],
-            base[1] - side[1],
+             stroke-width=\"{width:.2}\"/>\n<polygon points=\"{corners}\"/>\n</g>"
         );
     }
 
-    fn labels(&self, text: &mut String, picture: &Picture) {
+    fn labels(&self, text: &mut String) {
         let _ = writeln!(
             text,
             "<g text-anchor=\"middle\" fill=\"{INK}\" stroke=\"#ffffff\" stroke-linejoin=\"round\" paint-order=\"stroke\">"
         );
-        for (trail, route) in self.net.routes.iter().enumerate() {
-            let [x, y] = self.middle(trail);
-            let colour = if trail == usize::from(picture.start / 2) { format!(" fill=\"{ACCENT}\"") } else { String::new() };
-            let size = (0.6 * self.room(route[route.len() / 2])).clamp(LEAST, LETTER);
-            self.label(text, [x, y + self.px(size * 0.35)], size, &colour, &trail_name(picture, trail));
+        for (trail, curve) in self.curves.iter().enumerate() {
+            let colour = if self.is_start(trail) { format!(" fill=\"{ACCENT}\"") } else { String::new() };
+            let name = self.trail_name(trail);
+            let [x, y] = self.top(curve.corners[curve.corners.len() / 2]);
+            let size = letter_size(&name, self.trail_room(trail, [x, y]));
+            self.label(text, [x, y + self.px(0.35 * size)], size, &colour, &name);
         }
         for (point, least) in self.net.junctions.iter().enumerate() {
-            if let Some(name) = picture.junctions.get(least) {
-                let [x, y] = self.at(self.layout.spots[point]);
-                let size = (0.6 * self.room(point)).clamp(LEAST, LETTER);
-                self.label(text, [x, y - self.px(self.dot(point) + 0.3 * size)], size, " font-weight=\"bold\"", name);
+            if let Some(name) = self.picture.junctions.get(least) {
+                let size = letter_size(name, self.junction_room(point));
+                self.label(text, self.beside_dot(point, size), size, " font-weight=\"bold\"", name);
             }
         }
         text.push_str("</g>\n");
     }
 
-    fn label(&self, text: &mut String, [x, y]: [f64; 2], size: f64, more: &str, words: &str) {
-        let (letter, halo) = (self.px(size), self.px(size * 0.25));
-        let words = escaped(words);
+    /// Where a junction's name stands: above its dot or below it, where trails are farther.
+    fn beside_dot(&self, point: usize, size: f64) -> Place {
+        let [x, y] = self.at(self.spots[point]);
+        let off = self.px(self.dot(point) + 3.0 + 0.5 * size);
+        let free = |y: f64| self.room.around([x, y], |_| false);
+        let middle = if free(y + off) > free(y - off) { y + off } else { y - off };
+        [x, middle + self.px(0.35 * size)]
+    }
+
+    fn label(&self, text: &mut String, [x, y]: Place, size: f64, more: &str, words: &str) {
+        let (letter, halo, words) = (self.px(size), self.px(0.3 * size), escaped(words));
         let _ = writeln!(
             text,
             "<text x=\"{x:.2}\" y=\"{y:.2}\" font-size=\"{letter:.2}\" stroke-width=\"{halo:.2}\"{more}>{words}</text>"
         );
     }
 
-    /// The middle of a trail's curve, in units.
-    fn middle(&self, trail: usize) -> [f64; 2] {
-        let [from, here, to] = self.curves[trail].corners[self.curves[trail].corners.len() / 2].map(|spot| self.at(spot));
-        std::array::from_fn(|axis| (from[axis] + 2.0 * here[axis] + to[axis]) / 4.0)
-    }
-
-    fn legend(&self, text: &mut String, picture: &Picture) {
-        let words = legend(picture, self.net);
-        let letter = self.px(LETTER);
-        let (x, y) = (self.size[0] / 2.0, self.size[1] + self.px(MARGIN + LETTER * 1.2));
+    fn legend(&self, text: &mut String) {
+        let (letter, words) = (self.legend_letter(), escaped(&self.legend_words()));
+        let (x, y) = (self.size[0] / 2.0, self.size[1] + self.px(MARGIN) + 1.2 * letter);
         let _ = writeln!(
             text,
-            "<text x=\"{x:.2}\" y=\"{y:.2}\" font-size=\"{letter:.2}\" text-anchor=\"middle\" fill=\"{INK}\">{}</text>",
-            escaped(&words)
+            "<text x=\"{x:.2}\" y=\"{y:.2}\" font-size=\"{letter:.2}\" text-anchor=\"middle\" fill=\"{INK}\">{words}</text>"
         );
+    }
+
+    /// The size of the legend's letters, in units: it is to be read where all is seen.
+    fn legend_letter(&self) -> f64 {
+        self.px(LETTER).max(self.size[0] / 60.0)
+    }
+
+    fn legend_words(&self) -> String {
+        format!("start: trail {} ({})", self.trail_name(usize::from(self.picture.start / 2)), self.counts())
+    }
+
+    fn counts(&self) -> String {
+        let counted = |count: usize, what: &str| format!("{count} {what}{}", if count == 1 { "" } else { "s" });
+        let Net { routes, junctions, areas, .. } = self.net;
+        format!("{}, {}, {}", counted(routes.len(), "trail"), counted(junctions.len(), "junction"), counted(*areas, "area"))
+    }
+
+    fn trail_name(&self, trail: usize) -> String {
+        self.picture.trails.get(&(trail as u16)).cloned().unwrap_or_else(|| trail.to_string())
     }
 }
 
-fn legend(picture: &Picture, net: &Net) -> String {
-    format!("start: trail {}   ({})", trail_name(picture, usize::from(picture.start / 2)), counts(net))
+/// The size of a label's letters in pixels, where other trails are so far; a long name may be closer to them.
+fn letter_size(name: &str, room: f64) -> f64 {
+    let letters = name.chars().count().max(2) as f64;
+    (2.0 * room / letters.sqrt()).clamp(LEAST, LETTER)
 }
 
-fn counts(net: &Net) -> String {
-    let counted = |count: usize, what: &str| format!("{count} {what}{}", if count == 1 { "" } else { "s" });
-    let (trails, junctions, areas) = (net.routes.len(), net.junctions.len(), net.areas);
-    format!("{}, {}, {}", counted(trails, "trail"), counted(junctions, "junction"), counted(areas, "area"))
-}
-
-fn trail_name(picture: &Picture, trail: usize) -> String {
-    picture.trails.get(&(trail as u16)).cloned().unwrap_or_else(|| trail.to_string())
+/// The place so far along a line.
+fn along(line: &[Place], mut far: f64) -> Place {
+    for side in line.windows(2) {
+        let (forward, length) = direction(side[0], side[1]);
+        if far <= length {
+            return std::array::from_fn(|axis| side[0][axis] + far * forward[axis]);
+        }
+        far -= length;
+    }
+    line[line.len() - 1]
 }
 
 /// The darts of a junction, from its least.
@@ -277,17 +322,4 @@ fn escaped(words: &str) -> String {
         }
     }
     text
-}
-
-fn direction(from: [f64; 2], to: [f64; 2]) -> ([f64; 2], f64) {
-    let length = (to[0] - from[0]).hypot(to[1] - from[1]);
-    ([(to[0] - from[0]) / length, (to[1] - from[1]) / length], length)
-}
-
-/// How far a place is from a segment.
-fn distance(here: [f64; 2], from: [f64; 2], to: [f64; 2]) -> f64 {
-    let (along, length) = direction(from, to);
-    let (x, y) = (here[0] - from[0], here[1] - from[1]);
-    let foot = (x * along[0] + y * along[1]).clamp(0.0, length);
-    (x - foot * along[0]).hypot(y - foot * along[1])
 }
