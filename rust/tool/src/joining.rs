@@ -210,39 +210,22 @@ fn parts_without(graph: &Graph, u: usize, v: usize) -> Vec<usize> {
 #[cfg(test)]
 mod tests {
     use super::*;
+    use crate::growing::{Growing, Random};
     use crate::planar_code::graph_of;
     use std::collections::BTreeSet;
 
-    /// A small generator of numbers, always the same ones.
-    struct Numbers(u64);
-
-    impl Numbers {
-        fn below(&mut self, bound: usize) -> usize {
-            self.0 = self.0.wrapping_mul(6364136223846793005).wrapping_add(1442695040888963407);
-            (self.0 >> 33) as usize % bound
-        }
-    }
-
     /// A random plan of this many trails without loops: a dead end at a corner, or a trail across an area, one after another.
-    /// A corner is named by the dart before it; the next corner of its area is `order[corner] ^ 1`.
-    fn random_plan(numbers: &mut Numbers, trails: usize) -> Vec<u16> {
-        let mut order: Vec<u16> = vec![0, 1];
-        while order.len() < 2 * trails {
-            let from = numbers.below(order.len());
-            let steps = numbers.below(4);
-            let to = (0..steps).fold(from, |corner, _| usize::from(order[corner] ^ 1));
-            let new = order.len() as u16;
-            if steps == 0 {
-                order.extend([order[from], new + 1]);
-            } else if junction(&order, from).contains(&to) {
-                continue;
-            } else {
-                order.extend([order[from], order[to]]);
-                order[to] = new + 1;
+    fn random_plan(random: &mut Random, trails: usize) -> Vec<u16> {
+        let mut plan = Growing::trail();
+        while plan.order.len() < 2 * trails {
+            let (from, corners) = (random.below(plan.order.len()) as u16, random.below(4));
+            if corners == 0 {
+                plan.dead_end(from);
+            } else if !junction(&plan.order, from.into()).contains(&plan.corner(from, corners).into()) {
+                plan.across(from, corners);
             }
-            order[from] = new;
         }
-        order
+        plan.order
     }
 
     /// The darts of a dart's junction, clockwise from it.
@@ -256,10 +239,10 @@ mod tests {
     }
 
     /// The lists of a plan with start 0, whose entry is the first; the other junctions and their lists begin anywhere.
-    fn lists(numbers: &mut Numbers, order: &[u16]) -> Graph {
+    fn lists(random: &mut Random, order: &[u16]) -> Graph {
         let mut junctions = vec![junction(order, 0)];
         while junctions.concat().len() < order.len() {
-            let dart = numbers.below(order.len());
+            let dart = random.below(order.len());
             if !junctions.concat().contains(&dart) {
                 junctions.push(junction(order, dart));
             }
@@ -290,11 +273,11 @@ mod tests {
 
     #[test]
     fn a_graph_is_taken_exactly_if_all_ways_to_join_it_give_one_plan() {
-        let mut numbers = Numbers(1);
+        let mut random = Random(1);
         let (mut one, mut several) = (0, 0);
         for round in 0..4000 {
-            let order = random_plan(&mut numbers, 1 + round % 7);
-            let graph = lists(&mut numbers, &order);
+            let order = random_plan(&mut random, 1 + round % 7);
+            let graph = lists(&mut random, &order);
             let records = all_records(&graph);
             assert!(records.contains(&record(&order).unwrap()), "{graph:?}");
             match turning_order(&graph) {
@@ -309,11 +292,11 @@ mod tests {
 
     #[test]
     fn what_is_taken_of_a_large_graph_is_its_plan() {
-        let mut numbers = Numbers(2);
+        let mut random = Random(2);
         let mut taken = 0;
         for round in 0..2000 {
-            let order = random_plan(&mut numbers, 8 + round % 40);
-            for graph in [lists(&mut numbers, &order), graph_of(&order)] {
+            let order = random_plan(&mut random, 8 + round % 40);
+            for graph in [lists(&mut random, &order), graph_of(&order)] {
                 match turning_order(&graph) {
                     Ok(found) => assert_eq!(record(&found), record(&order)),
                     Err(untaken) => assert!(matches!(untaken, Untaken::Ambiguous(..)), "{untaken}"),

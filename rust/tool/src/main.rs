@@ -11,11 +11,14 @@
 //! * `shelf`: a shelf in memory, with its `index`; `shelf_file`: its file, `lock` and `sums`; `survey`: what stands on a shelf
 //!   that may be damaged;
 //! * `planar_code`: the interchange format of `import` and `export`; `joining`: which of its trail ends belong together;
-//! * `report`: messages and the exit status; `stdout`: whether standard output was closed.
+//! * `report`: messages and the exit status; `stdout`: whether standard output was closed;
+//! * `growing`: random plans, for tests.
 
 mod commands;
 mod draw;
 mod files;
+#[cfg(test)]
+mod growing;
 mod help;
 mod index;
 mod inputs;

@@ -4,7 +4,10 @@ use super::check::{self, Shown};
 use super::layout::Layout;
 use super::net::Net;
 use super::{svg, text, Picture};
+use crate::growing::{random, Growing, Random, Shape};
 use std::collections::BTreeMap;
+use std::sync::atomic::{AtomicUsize, Ordering::Relaxed};
+use std::thread;
 
 fn drawn(order: &[u16], start: u16, outside: u16) -> String {
     svg(&Picture { order, start, outside, trails: &BTreeMap::new(), junctions: &BTreeMap::new() })
@@ -28,84 +31,21 @@ fn holds(name: &str, text: &str, order: &[u16], outside: u16) {
     assert!(around == area(order, outside), "{name}: another area outside");
 }
 
-struct Random(u64);
-
-impl Random {
-    /// A number below a bound.
-    fn below(&mut self, bound: usize) -> usize {
-        self.0 ^= self.0 << 13;
-        self.0 ^= self.0 >> 7;
-        self.0 ^= self.0 << 17;
-        (self.0.wrapping_mul(0x2545_F491_4F6C_DD1D) >> 33) as usize % bound
-    }
-}
-
-/// A plan that grows by trails.
-struct Growing {
-    order: Vec<u16>,
-}
-
-impl Growing {
-    fn trail() -> Growing {
-        Growing { order: vec![0, 1] }
-    }
-
-    fn one_loop() -> Growing {
-        Growing { order: vec![1, 0] }
-    }
-
-    /// Puts a new dart right after another.
-    fn put_after(&mut self, after: u16, dart: u16) {
-        self.order[usize::from(dart)] = self.order[usize::from(after)];
-        self.order[usize::from(after)] = dart;
-    }
-
-    /// A trail to a new junction, from the corner after a dart; its first dart.
-    fn dead_end(&mut self, after: u16) -> u16 {
-        let dart = self.order.len() as u16;
-        self.order.extend([dart, dart + 1]);
-        self.put_after(after, dart);
-        dart
-    }
-
-    /// A trail from the corner after a dart to another corner, so many corners on around its area; its first dart.
-    fn across(&mut self, after: u16, corners: usize) -> u16 {
-        let mut to = after;
-        for _ in 0..corners {
-            to = self.order[usize::from(to)] ^ 1;
+/// Each plan with one trail more.
+fn one_more(plan: &Growing) -> Vec<Growing> {
+    let mut plans = Vec::new();
+    for after in 0..plan.order.len() as u16 {
+        let mut grow = |step: &dyn Fn(&mut Growing)| {
+            let mut plan = plan.clone();
+            step(&mut plan);
+            plans.push(plan);
+        };
+        grow(&|plan| _ = plan.dead_end(after));
+        for corners in 0..area(&plan.order, plan.order[usize::from(after)]).len() {
+            grow(&|plan| _ = plan.across(after, corners));
         }
-        let dart = self.order.len() as u16;
-        self.order.extend([dart, dart + 1]);
-        self.put_after(after, dart);
-        self.put_after(if to == after { dart } else { to }, dart + 1);
-        dart
     }
-}
-
-impl Growing {
-    /// Each plan with one trail more.
-    fn one_more(&self) -> Vec<Growing> {
-        let mut plans = Vec::new();
-        for after in 0..self.order.len() as u16 {
-            let mut grow = |step: &dyn Fn(&mut Growing)| {
-                let mut plan = Growing { order: self.order.clone() };
-                step(&mut plan);
-                plans.push(plan);
-            };
-            grow(&|plan| _ = plan.dead_end(after));
-            for corners in 0..area(&self.order, self.order[usize::from(after)]).len() {
-                grow(&|plan| _ = plan.across(after, corners));
-            }
-        }
-        plans
-    }
-}
-
-/// How a random plan grows: out of ten steps so many are dead ends; the other trails go so many corners on, below a bound.
-#[derive(Clone, Copy)]
-struct Shape {
-    dead_ends: usize,
-    corners: usize,
+    plans
 }
 
 const SHAPES: [Shape; 7] = [
@@ -117,19 +57,6 @@ const SHAPES: [Shape; 7] = [
     Shape { dead_ends: 4, corners: 30 },
     Shape { dead_ends: 6, corners: 300 },
 ];
-
-fn random(trails: usize, shape: Shape, random: &mut Random) -> Vec<u16> {
-    let mut plan = if random.below(2) == 0 { Growing::trail() } else { Growing::one_loop() };
-    while plan.order.len() < 2 * trails {
-        let after = random.below(plan.order.len()) as u16;
-        if random.below(10) < shape.dead_ends {
-            plan.dead_end(after);
-        } else {
-            plan.across(after, random.below(shape.corners));
-        }
-    }
-    plan.order
-}
 
 /// A plan grown from another, each trail at the dart that the one before leads to.
 fn trail_by_trail(trails: usize, mut first: Growing, mut next: impl FnMut(&mut Growing, u16) -> u16) -> Vec<u16> {
@@ -219,30 +146,32 @@ fn grid(side: usize) -> Vec<u16> {
     order
 }
 
+/// Draws a random plan of up to 200 trails; every other time another area is outside than the start's.
+fn random_plan_holds(round: usize) {
+    let mut numbers = Random(round as u64);
+    let trails = if round == 0 { 200 } else { numbers.size(200) };
+    let order = random(trails, SHAPES[round % SHAPES.len()], &mut numbers);
+    let [start, other] = [0; 2].map(|_| numbers.below(order.len()) as u16);
+    let outside = if round % 2 == 0 { start } else { other };
+    holds(&format!("plan {round} of {trails} trails"), &drawn(&order, start, outside), &order, outside);
+}
+
 #[test]
 fn a_thousand_random_plans() {
-    let mut numbers = Random(20);
-    for round in 0..1000 {
-        let most = if round % 50 == 0 {
-            200
-        } else if round % 10 == 0 {
-            60
-        } else {
-            12
-        };
-        let trails = if round == 0 { most } else { 1 + numbers.below(most) };
-        let order = random(trails, SHAPES[round % SHAPES.len()], &mut numbers);
-        let [start, other] = [0; 2].map(|_| numbers.below(order.len()) as u16);
-        let outside = if round % 2 == 0 { start } else { other };
-        holds(&format!("plan {round} of {trails} trails"), &drawn(&order, start, outside), &order, outside);
-    }
+    let next = AtomicUsize::new(0);
+    let rounds = || std::iter::repeat_with(|| next.fetch_add(1, Relaxed)).take_while(|&round| round < 1000);
+    thread::scope(|scope| {
+        for _ in 0..thread::available_parallelism().map_or(1, usize::from) {
+            scope.spawn(|| rounds().for_each(random_plan_holds));
+        }
+    });
 }
 
 #[test]
 fn every_small_plan_with_every_area_outside() {
     let mut plans = vec![Growing::trail(), Growing::one_loop()];
     for _ in 0..2 {
-        let next: Vec<Growing> = plans.iter().flat_map(Growing::one_more).collect();
+        let next: Vec<Growing> = plans.iter().flat_map(one_more).collect();
         for order in plans.iter().chain(&next).map(|plan| &plan.order) {
             for outside in 0..order.len() as u16 {
                 holds(&format!("{order:?}"), &drawn(order, order[usize::from(outside)], outside), order, outside);

@@ -1,51 +1,30 @@
 //! What both forms have in common.
 
 use super::*;
+use crate::growing::{self, Random, Shape};
 use crate::shape::junctions;
 
-/// A small source of random numbers (splitmix64).
-struct Random(u64);
+/// A random plan with this many trails, perhaps with loops.
+fn plan(random: &mut Random, trails: usize) -> Plan {
+    let order = growing::random(trails, Shape { dead_ends: 3, corners: 6 }, random);
+    let start = random.below(order.len()) as u16;
+    Plan { order, start, written: Written::Record }
+}
 
-impl Random {
-    fn below(&mut self, bound: usize) -> usize {
-        self.0 = self.0.wrapping_add(0x9E37_79B9_7F4A_7C15);
-        let z = (self.0 ^ (self.0 >> 30)).wrapping_mul(0xBF58_476D_1CE4_E5B9);
-        let z = (z ^ (z >> 27)).wrapping_mul(0x94D0_49BB_1331_11EB);
-        ((z ^ (z >> 31)) % bound as u64) as usize
-    }
-
-    /// A planar plan with this many trails, grown trail by trail: one to a new junction, or one between two corners of an
-    /// area. The corner after a dart is named by it.
-    fn plan(&mut self, trails: usize) -> Plan {
-        let mut order: Vec<u16> = if self.below(2) == 0 { vec![0, 1] } else { vec![1, 0] };
-        while order.len() < 2 * trails {
-            let (new, corner) = (order.len(), self.below(order.len()));
-            let other = (0..self.below(6)).fold(corner, |corner, _| usize::from(order[corner]) ^ 1);
-            order.extend([new as u16, new as u16 + 1]);
-            order.swap(corner, new);
-            if self.below(3) > 0 {
-                order.swap(other, new + 1);
-            }
+/// Damages some bytes.
+fn damage(random: &mut Random, text: &str) -> Vec<u8> {
+    let mut bytes = text.as_bytes().to_vec();
+    for _ in 0..=random.below(4) {
+        let place = random.below(bytes.len() + 1);
+        let byte = b":#\n\r \0a9A\xFC\x1B"[random.below(11)];
+        match (random.below(4), bytes.get_mut(place)) {
+            (0, Some(_)) => drop(bytes.remove(place)),
+            (1, Some(there)) => *there = random.below(256) as u8,
+            (2, Some(there)) => *there = byte,
+            _ => bytes.insert(place, byte),
         }
-        let start = self.below(order.len()) as u16;
-        Plan { order, start, written: Written::Record }
     }
-
-    /// Damages some bytes.
-    fn damage(&mut self, text: &str) -> Vec<u8> {
-        let mut bytes = text.as_bytes().to_vec();
-        for _ in 0..=self.below(4) {
-            let place = self.below(bytes.len() + 1);
-            let byte = b":#\n\r \0a9A\xFC\x1B"[self.below(11)];
-            match (self.below(4), bytes.get_mut(place)) {
-                (0, Some(_)) => drop(bytes.remove(place)),
-                (1, Some(there)) => *there = self.below(256) as u8,
-                (2, Some(there)) => *there = byte,
-                _ => bytes.insert(place, byte),
-            }
-        }
-        bytes
-    }
+    bytes
 }
 
 /// The order with its darts numbered as they are met from the start by entries and opposites.
@@ -69,7 +48,7 @@ fn one_form_and_the_other() {
     let mut random = Random(1);
     for turn in 0..2000 {
         let trails = if turn == 0 { 4096 } else { 1 + random.below(40) };
-        let plan = random.plan(trails);
+        let plan = plan(&mut random, trails);
         assert_eq!(plan.sound(), Ok(()));
         let named = Plan::parse(&junctions_text("", &plan)).unwrap();
         let again = Plan::parse(&text("", &named.order, named.start)).unwrap();
@@ -85,9 +64,9 @@ fn one_form_and_the_other() {
 #[test]
 fn some_random_plans_have_loops_and_some_have_none() {
     let mut random = Random(2);
-    let count = (0..100).filter(|_| random.plan(4).record(None).is_ok()).count();
+    let count = (0..100).filter(|_| plan(&mut random, 4).record(None).is_ok()).count();
     assert!((10..90).contains(&count), "{count}");
-    assert!((0..100).any(|_| junctions(&random.plan(9).order).count == 4));
+    assert!((0..100).any(|_| junctions(&plan(&mut random, 9).order).count == 4));
 }
 
 #[test]
@@ -100,7 +79,7 @@ fn damaged_plan_files() {
     let mut random = Random(3);
     let mut outcomes = [0; 3];
     for turn in 0..10_000 {
-        let bytes = random.damage(texts[turn % texts.len()]);
+        let bytes = damage(&mut random, texts[turn % texts.len()]);
         let Some(text) = text_of(&bytes) else { continue };
         let outcome = match Plan::parse(&text).map(|plan| plan.record(None).map_err(|refusal| plan.problem("file", refusal))) {
             Ok(Ok(_)) => 0,

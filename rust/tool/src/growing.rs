@@ -1,0 +1,86 @@
+//! Random plans, for tests.
+
+/// A small source of random numbers (splitmix64).
+pub struct Random(pub u64);
+
+impl Random {
+    /// A number below a bound.
+    pub fn below(&mut self, bound: usize) -> usize {
+        self.0 = self.0.wrapping_add(0x9E37_79B9_7F4A_7C15);
+        let z = (self.0 ^ (self.0 >> 30)).wrapping_mul(0xBF58_476D_1CE4_E5B9);
+        let z = (z ^ (z >> 27)).wrapping_mul(0x94D0_49BB_1331_11EB);
+        ((z ^ (z >> 31)) % bound as u64) as usize
+    }
+
+    /// A number from 1 to a bound, each order of magnitude about as often.
+    pub fn size(&mut self, most: usize) -> usize {
+        let exponent = self.below(1 << 16) as f64 / 65536.0;
+        (most as f64).powf(exponent).round() as usize
+    }
+}
+
+/// A plan that grows by trails. The corner after a dart is named by it.
+#[derive(Clone)]
+pub struct Growing {
+    pub order: Vec<u16>,
+}
+
+impl Growing {
+    pub fn trail() -> Growing {
+        Growing { order: vec![0, 1] }
+    }
+
+    pub fn one_loop() -> Growing {
+        Growing { order: vec![1, 0] }
+    }
+
+    /// The corner so many corners on around the area.
+    pub fn corner(&self, after: u16, corners: usize) -> u16 {
+        (0..corners).fold(after, |corner, _| self.order[usize::from(corner)] ^ 1)
+    }
+
+    /// A trail to a new junction, from a corner; its first dart.
+    pub fn dead_end(&mut self, after: u16) -> u16 {
+        let dart = self.order.len() as u16;
+        self.order.extend([dart, dart + 1]);
+        self.put_after(after, dart);
+        dart
+    }
+
+    /// A trail from a corner to another, so many corners on around its area; its first dart.
+    pub fn across(&mut self, after: u16, corners: usize) -> u16 {
+        let to = self.corner(after, corners);
+        let dart = self.order.len() as u16;
+        self.order.extend([dart, dart + 1]);
+        self.put_after(after, dart);
+        self.put_after(if to == after { dart } else { to }, dart + 1);
+        dart
+    }
+
+    /// Puts a new dart right after another.
+    fn put_after(&mut self, after: u16, dart: u16) {
+        self.order[usize::from(dart)] = self.order[usize::from(after)];
+        self.order[usize::from(after)] = dart;
+    }
+}
+
+/// How a random plan grows: out of ten steps so many are dead ends; the other trails go so many corners on, below a bound.
+#[derive(Clone, Copy)]
+pub struct Shape {
+    pub dead_ends: usize,
+    pub corners: usize,
+}
+
+/// The turning order of a random plan, perhaps with loops.
+pub fn random(trails: usize, shape: Shape, random: &mut Random) -> Vec<u16> {
+    let mut plan = if random.below(2) == 0 { Growing::trail() } else { Growing::one_loop() };
+    while plan.order.len() < 2 * trails {
+        let after = random.below(plan.order.len()) as u16;
+        if random.below(10) < shape.dead_ends {
+            plan.dead_end(after);
+        } else {
+            plan.across(after, random.below(shape.corners));
+        }
+    }
+    plan.order
+}
