@@ -152,7 +152,7 @@ fn random_plan_holds(round: usize) {
     let trails = if round == 0 { 200 } else { numbers.size(200) };
     let order = random(trails, SHAPES[round % SHAPES.len()], &mut numbers);
     let [start, other] = [0; 2].map(|_| numbers.below(order.len()) as u16);
-    let outside = if round % 2 == 0 { start } else { other };
+    let outside = if round.is_multiple_of(2) { start } else { other };
     holds(&format!("plan {round} of {trails} trails"), &drawn(&order, start, outside), &order, outside);
 }
 
