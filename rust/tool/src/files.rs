@@ -1,18 +1,21 @@
 //! Files read whole, and files that appear whole or not at all.
 //!
-//! A file is first written beside its place, under the name with `.new` added, and synced; then it takes its place in one step.
+//! A file is first written beside its place, under its name with [`NEW`] added, and synced; then it takes its place in one step.
 //! Whoever looks finds the old content, if any, or the new, also after a crash. While it is written it is locked, so that a
 //! second run waits for its turn; what a run that was killed has left is removed by the next one.
 
 use crate::names::shown;
 use crate::options::Word;
 use crate::report::Problem;
-use crate::stream::Source;
 use std::borrow::Cow;
 use std::fs::{self, File, Metadata};
-use std::io::{self, ErrorKind, Read as _, Write as _};
+use std::io::{self, ErrorKind, Read, Write as _};
 use std::os::unix::fs::{fchown, MetadataExt as _, OpenOptionsExt as _};
 use std::path::{Path, PathBuf};
+
+/// What is added to the name of a file while it is written: nothing that a user would choose, since what is left of such a file is
+/// removed.
+const NEW: &str = ".jurnadel-new";
 
 /// Opening doesn't wait for the other end of a pipe. Linux's number, on x86-64.
 pub const O_NONBLOCK: i32 = 0o4000;
@@ -26,6 +29,9 @@ pub fn bytes_of(path: &Word) -> Result<Vec<u8>, Problem> {
     }
     fs::read(path).map_err(|error| Problem::file(path, error))
 }
+
+/// What is read bit by bit.
+pub type Source = Box<dyn Read + Send>;
 
 /// A file to be read bit by bit, `-` for standard input.
 pub fn source_of(path: &Word) -> Result<Source, Problem> {
@@ -74,7 +80,7 @@ pub fn place(path: &Path, old: Option<&Metadata>, bytes: &[u8]) -> io::Result<()
 
 /// Removes what a run that was killed has left beside a file.
 pub fn clear_beside(path: &Path) -> io::Result<()> {
-    clear(&beside(path, ".new"))
+    clear(&beside(path, NEW))
 }
 
 fn metadata_of(input: &Word) -> Option<Metadata> {
@@ -94,7 +100,7 @@ pub struct Staged {
 impl Staged {
     /// Begins the file for this place. Waits for a run that is writing one for it.
     pub fn begin(path: &Path) -> io::Result<Staged> {
-        let new = beside(path, ".new");
+        let new = beside(path, NEW);
         loop {
             match File::create_new(&new) {
                 Ok(file) => {

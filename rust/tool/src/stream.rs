@@ -4,10 +4,11 @@
 //! in order and prints the answers at once. So whoever writes a line and waits gets its answer. A fixed number of blocks
 //! goes round, which bounds the memory.
 
+use crate::files::Source;
 use crate::lines::{Coder, Way, LONGEST};
 use crate::report::Report;
 use std::collections::BTreeMap;
-use std::io::{self, ErrorKind, Read};
+use std::io::{self, ErrorKind};
 use std::panic::{catch_unwind, AssertUnwindSafe};
 use std::sync::mpsc::{channel, Receiver, Sender};
 use std::sync::{Arc, Mutex};
@@ -21,9 +22,6 @@ const BLOCKS_EACH: usize = 2;
 
 /// The exit status of a program that Rust ends for a panic.
 const PANICKED: i32 = 101;
-
-/// Where lines come from.
-pub type Source = Box<dyn Read + Send>;
 
 /// Some lines of the stream and their answers.
 #[derive(Default)]
@@ -189,6 +187,7 @@ fn work(input: &Mutex<Input>, way: Way, done: &Sender<Block>) {
 #[cfg(test)]
 mod tests {
     use super::*;
+    use std::io::Read;
 
     /// Gives these parts one by one, then an error or the end.
     struct Parts(Vec<&'static [u8]>, Option<ErrorKind>);

@@ -1,6 +1,7 @@
 //! `jurnadel import`.
 
 use super::{counted, Command, Done};
+use crate::files::source_of;
 use crate::joining::{turning_order, Untaken};
 use crate::names::shown;
 use crate::options::{Options, Word};
@@ -8,8 +9,7 @@ use crate::plan_folder::PlanFolder;
 use crate::planar_code::{Graph, Graphs};
 use crate::report::{Problem, Report};
 use std::collections::HashSet;
-use std::fs::File;
-use std::io::{self, BufRead, BufReader};
+use std::io::BufReader;
 use std::path::{Path, PathBuf};
 
 pub const COMMAND: Command = Command { name: "import", summary: "make plan files of planar_code", help: HELP, run };
@@ -71,7 +71,8 @@ struct Source<'a> {
 impl Source<'_> {
     /// Makes the plan files of its graphs.
     fn import(&self, folder: &PlanFolder, report: &mut Report) -> Done {
-        let mut graphs = Graphs::begin(opened(self.path)?, self.header).map_err(|what| Problem::file(self.path, what))?;
+        let graphs = Graphs::begin(BufReader::new(source_of(self.path)?), self.header);
+        let mut graphs = graphs.map_err(|what| Problem::file(self.path, what))?;
         for number in 1.. {
             let place = format!("{}: graph {number}", self.path);
             let Some(graph) = graphs.next().map_err(|what| Problem::file(&place, what))? else {
@@ -96,15 +97,5 @@ impl Source<'_> {
         let (junctions, trails) = (counted(graph.len(), "junction"), counted(order.len() / 2, "trail"));
         let comment = format!("graph {number} of {}: {junctions}, {trails}", shown(&self.name));
         folder.put(&format!("{}-{number}.plan", self.name), &comment, &order)
-    }
-}
-
-fn opened(path: &Word) -> Result<Box<dyn BufRead>, Problem> {
-    match path.is_input() {
-        true => Ok(Box::new(io::stdin().lock())),
-        false => match File::open(path) {
-            Ok(file) => Ok(Box::new(BufReader::new(file))),
-            Err(error) => Err(Problem::file(path, error)),
-        },
     }
 }
