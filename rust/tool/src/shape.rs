@@ -8,19 +8,24 @@ use std::iter::successors;
 pub struct Cycles {
     /// The cycle of each dart.
     pub of: Vec<usize>,
-    pub count: usize,
+    /// The least dart of each cycle.
+    pub least: Vec<u16>,
 }
 
 impl Cycles {
     fn new(darts: usize, step: impl Fn(usize) -> usize) -> Cycles {
-        let mut cycles = Cycles { of: vec![usize::MAX; darts], count: 0 };
+        let mut cycles = Cycles { of: vec![usize::MAX; darts], least: Vec::new() };
         for dart in 0..darts {
             if cycles.of[dart] == usize::MAX {
-                cycle(dart, &step).for_each(|other| cycles.of[other] = cycles.count);
-                cycles.count += 1;
+                cycle(dart, &step).for_each(|other| cycles.of[other] = cycles.count());
+                cycles.least.push(dart as u16);
             }
         }
         cycles
+    }
+
+    pub fn count(&self) -> usize {
+        self.least.len()
     }
 }
 
@@ -57,7 +62,7 @@ pub struct Walk {
 /// The contour walk of the piece that the start is in.
 pub fn walk(order: &[u16], start: usize) -> Walk {
     let junction = junctions(order);
-    let mut arrival = vec![None; junction.count];
+    let mut arrival = vec![None; junction.count()];
     let mut met = vec![false; order.len() / 2];
     let mut walk = Walk { arrivals: vec![start], trails: Vec::new() };
     arrival[junction.of[start]] = Some(start);
@@ -86,7 +91,7 @@ mod tests {
 
     #[test]
     fn junctions_and_areas() {
-        let counts = |order: &[u16]| (junctions(order).count, areas(order).count);
+        let counts = |order: &[u16]| (junctions(order).count(), areas(order).count());
         assert_eq!(counts(&[0, 1]), (2, 1));
         assert_eq!(counts(&[1, 0]), (1, 2));
         assert_eq!(counts(&[3, 2, 1, 0]), (2, 2));

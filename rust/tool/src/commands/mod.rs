@@ -75,7 +75,7 @@ pub fn plan_text(plan: &Plan, by_junctions: bool) -> String {
 
 /// How many junctions, trails and areas a sound plan has.
 pub fn counts(order: &[u16]) -> String {
-    let (junctions, areas) = (shape::junctions(order).count, shape::areas(order).count);
+    let (junctions, areas) = (shape::junctions(order).count(), shape::areas(order).count());
     [counted(junctions, "junction"), counted(order.len() / 2, "trail"), counted(areas, "area")].join(", ")
 }
 

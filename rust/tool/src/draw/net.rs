@@ -7,6 +7,8 @@
 //! No link joins two points on trails but for the sides themselves. So a triangle has one side of a trail at most, and the
 //! triangles at a point on a trail touch other trails only in their corners at junctions.
 
+use crate::shape::{self, Cycles};
+
 /// Sides of a trail to begin with; three at least, so that loops are no loops in the net.
 const SIDES: usize = 4;
 
@@ -34,8 +36,8 @@ pub struct Net {
 
 impl Net {
     pub fn new(order: &[u16], start: u16, outside: u16) -> Net {
-        let (junctions, junction) = cycles(order.len(), |dart| order[dart].into());
-        let (areas, area) = cycles(order.len(), |dart| order[dart ^ 1].into());
+        let Cycles { least: junctions, of: junction } = shape::junctions(order);
+        let Cycles { least: areas, of: area } = shape::areas(order);
         let routes: Vec<_> = (0..order.len() / 2).map(|trail| route(trail, junctions.len(), &junction)).collect();
         let on_trails = junctions.len() + routes.len() * (SIDES - 1);
         let mut weave = Weave { points: on_trails, triangles: Vec::new() };
@@ -136,23 +138,6 @@ impl Net {
             }
         }
     }
-}
-
-/// The cycles of a permutation of the darts: the least dart of each, and the number of each dart's cycle.
-fn cycles(darts: usize, next: impl Fn(usize) -> usize) -> (Vec<u16>, Vec<usize>) {
-    let mut least = Vec::new();
-    let mut cycle = vec![usize::MAX; darts];
-    for first in 0..darts {
-        let mut dart = first;
-        while cycle[dart] == usize::MAX {
-            cycle[dart] = least.len();
-            dart = next(dart);
-        }
-        if cycle[first] == least.len() {
-            least.push(first as u16);
-        }
-    }
-    (least, cycle)
 }
 
 fn route(trail: usize, junctions: usize, junction: &[usize]) -> Vec<usize> {

@@ -66,7 +66,7 @@ fn some_random_plans_have_loops_and_some_have_none() {
     let mut random = Random(2);
     let count = (0..100).filter(|_| plan(&mut random, 4).record(None).is_ok()).count();
     assert!((10..90).contains(&count), "{count}");
-    assert!((0..100).any(|_| junctions(&plan(&mut random, 9).order).count == 4));
+    assert!((0..100).any(|_| junctions(&plan(&mut random, 9).order).count() == 4));
 }
 
 #[test]
