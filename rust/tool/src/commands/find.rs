@@ -3,7 +3,7 @@
 use super::{Command, Done};
 use crate::inputs::{self, FILES_FROM};
 use crate::options::{Options, Word};
-use crate::plan_file::Plan;
+use crate::plan_file::{Plan, KINDS};
 use crate::report::{Problem, Report};
 use crate::shelf::Shelf;
 use crate::shelf_file;
@@ -26,7 +26,7 @@ plan is not there.
 
 fn run(words: &[Word], report: &mut Report) -> Done {
     let options = Options::parse(words, &[], &["--kind", FILES_FROM])?;
-    let kinds = options.number("--kind")?.map_or(vec![1, 2], |kind: u16| vec![kind]);
+    let kinds = options.number("--kind")?.map_or(KINDS.to_vec(), |kind| vec![kind]);
     let (path, plans) = options.first_and_rest("SHELF")?;
     let plans = inputs::files(&options, plans, "PLAN", "plan")?;
     let shelf = Shelf::new(shelf_file::load(path)?, None).map_err(|refusal| shelf_file::refused(path, refusal))?;

@@ -1,10 +1,10 @@
 //! `jurnadel shelve`.
 
-use super::{counted, Command, Done};
+use super::{counted, field, Command, Done};
 use crate::files::bytes_of;
 use crate::inputs::{self, FILES_FROM};
 use crate::options::{Options, Word};
-use crate::plan_file::Plan;
+use crate::plan_file::{Plan, KINDS};
 use crate::report::{complain, Problem, Report};
 use crate::shelf_file::ShelfFile;
 use std::io::IsTerminal as _;
@@ -91,9 +91,10 @@ fn shelve_plan(shelf: &mut ShelfFile, file: &Word, kind: Option<u16>) -> Shelved
     if !new {
         return Ok((number, "already there"));
     }
-    let other = 3 - u16::from(record[2]);
-    if let Some(there) = plan.record(Some(other)).ok().and_then(|record| shelf.shelf.find(&record)) {
-        complain(format!("{file}: on the shelf in kind {other} too, as record {there}"));
+    for other in KINDS.into_iter().filter(|&other| other != field(&record, 2)) {
+        if let Some(there) = plan.record(Some(other)).ok().and_then(|record| shelf.shelf.find(&record)) {
+            complain(format!("{file}: on the shelf in kind {other} too, as record {there}"));
+        }
     }
     Ok((number, "new"))
 }

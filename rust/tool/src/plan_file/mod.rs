@@ -21,6 +21,9 @@ use names::Names;
 use std::collections::BTreeMap;
 use std::fmt::Display;
 
+/// The kinds of records.
+pub const KINDS: [u16; 2] = [1, 2];
+
 /// A line, and what is wrong there.
 type Wrong = (usize, String);
 
