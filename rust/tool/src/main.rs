@@ -49,7 +49,7 @@ use std::process::ExitCode;
 fn main() -> ExitCode {
     let words: Vec<Word> = std::env::args_os().skip(1).map(Word::from).collect();
     let Some((word, rest)) = words.split_first() else {
-        return usage("no command");
+        return usage("no command", "");
     };
     let command = word.text().unwrap_or_default();
     match command {
@@ -60,7 +60,7 @@ fn main() -> ExitCode {
     match COMMANDS.iter().find(|known| known.name == command) {
         Some(known) if asks_for_help(rest) => say(known.help),
         Some(known) => run(known, rest),
-        None => usage(&format!("no command '{word}'")),
+        None => usage(&format!("no command '{word}'"), ""),
     }
 }
 
@@ -68,7 +68,7 @@ fn run(command: &Command, words: &[Word]) -> ExitCode {
     let mut report = Report::new();
     match (command.run)(words, &mut report) {
         Ok(()) => {}
-        Err(Problem::Usage(text)) => return usage(&format!("{}: {text}", command.name)),
+        Err(Problem::Usage(text)) => return usage(&format!("{}: {text}", command.name), &format!("{} ", command.name)),
         Err(problem) => report.problem(&problem),
     }
     report.end()
@@ -85,7 +85,8 @@ fn say(text: &str) -> ExitCode {
     report.end()
 }
 
-fn usage(text: &str) -> ExitCode {
-    report::complain(format!("jurnadel: {text}; see jurnadel --help"));
+/// Tells what is wrong with the command line, and where help is: with the command, if it is known.
+fn usage(text: &str, command: &str) -> ExitCode {
+    report::complain(format!("jurnadel: {text}; see jurnadel {command}--help"));
     ExitCode::from(report::USAGE)
 }

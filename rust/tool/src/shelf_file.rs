@@ -88,6 +88,8 @@ fn another_file(bytes: &[u8]) -> Option<&'static str> {
         return None;
     } else if bytes.starts_with(b">>planar_code") {
         return Some("planar_code");
+    } else if sums::are_sums(bytes) {
+        return Some("a file of checksums");
     }
     let text = text_of(bytes)?;
     if text.lines().any(|line| line.trim_start().starts_with("start:")) {

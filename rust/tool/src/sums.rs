@@ -25,6 +25,11 @@ pub fn load(shelf: &Path) -> Result<Vec<u32>, Problem> {
     }
 }
 
+/// Whether bytes are checksums, at least one.
+pub fn are_sums(bytes: &[u8]) -> bool {
+    parse(bytes).is_ok_and(|sums| !sums.is_empty())
+}
+
 /// The checksums of a text, or the line where none stands.
 fn parse(bytes: &[u8]) -> Result<Vec<u32>, usize> {
     let lines = bytes.strip_suffix(b"\n").unwrap_or(bytes).split(|&byte| byte == b'\n');

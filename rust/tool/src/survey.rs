@@ -137,6 +137,26 @@ mod tests {
         assert_eq!(line(30, 0xFF, false), "0 1 2 3!");
     }
 
+    /// With checksums no turned bit goes unnoticed; without them some do, which make another plan's record.
+    #[test]
+    fn a_turned_bit() {
+        let valley =
+            [26, 24, 15, 4, 3, 25, 29, 0, 7, 10, 28, 27, 22, 14, 16, 20, 13, 18, 17, 19, 1, 21, 11, 23, 2, 6, 8, 12, 9, 5];
+        let valley = jurnadel::record_of(&valley, 7, 2).unwrap();
+        let shelf = [&PAIR[..], &TRIANGLE, &valley, &STICK].concat();
+        let kept: Vec<u32> = jurnadel::walk_from(&shelf, shelf.len(), 0).map(sums::crc).collect();
+        let mut unnoticed = 0;
+        for bit in 0..8 * shelf.len() {
+            let mut turned = shelf.clone();
+            turned[bit / 8] ^= 1 << (bit % 8);
+            let whole =
+                |kept: &[u32]| parts(&turned, kept).iter().all(|part| matches!(part, Part::Record(found) if found.is_whole()));
+            assert!(!whole(&kept), "bit {bit}");
+            unnoticed += usize::from(whole(&[]));
+        }
+        assert!(unnoticed > 0);
+    }
+
     #[test]
     fn no_shelf_at_all() {
         assert!(parts(&[], &[]).is_empty());

@@ -30,9 +30,11 @@ fn run(words: &[Word], report: &mut Report) -> Done {
     let records: Vec<&Found> = records(&parts).collect();
     report_doubles(path, &records, report);
     if let Err(refusal) = shelf::sound(&bytes, bytes.len()) {
-        let whole = records.iter().filter(|found| found.is_whole()).count();
-        let what = format!("{}; {} whole, which 'salvage' keeps", in_words(refusal), counted(whole, "record"));
-        return Err(Problem::Refused(format!("{path}: {what}")));
+        let advice = match records.iter().filter(|found| found.is_whole()).count() {
+            0 => String::from("no record is whole; is it a shelf at all?"),
+            whole => format!("{} whole, which 'salvage' keeps", counted(whole, "record")),
+        };
+        return Err(Problem::Refused(format!("{path}: {}; {advice}", in_words(refusal))));
     }
     let unreadable = records.iter().filter(|found| found.unreadable.is_some()).count();
     let readable = if unreadable == 0 { String::from("each is a plan's") } else { format!("{unreadable} cannot be read") };
