@@ -146,13 +146,13 @@ fn grid(side: usize) -> Vec<u16> {
     order
 }
 
-/// Draws a random plan of up to 200 trails; every other time another area is outside than the start's.
+/// Draws a random plan of up to 200 trails, every other time of up to 40; often another area is outside than the start's.
 fn random_plan_holds(round: usize) {
     let mut numbers = Random(round as u64);
-    let trails = if round == 0 { 200 } else { numbers.size(200) };
+    let trails = if round == 0 { 200 } else { numbers.size(if round.is_multiple_of(2) { 200 } else { 40 }) };
     let order = random(trails, SHAPES[round % SHAPES.len()], &mut numbers);
     let [start, other] = [0; 2].map(|_| numbers.below(order.len()) as u16);
-    let outside = if round.is_multiple_of(2) { start } else { other };
+    let outside = if round % 4 < 2 { start } else { other };
     holds(&format!("plan {round} of {trails} trails"), &drawn(&order, start, outside), &order, outside);
 }
 
