@@ -37,7 +37,10 @@ pub fn load_sums(path: &Word) -> Result<Vec<u32>, Problem> {
 pub fn unchanged(path: &Word, number: usize, sum: u32, kept: &[u32]) -> Result<(), Problem> {
     match kept.get(number) {
         Some(&kept) if kept != sum => {
-            let what = format!("its checksum is not the one that {} has", shown(sums::path_of(&led_to(path.as_ref()))));
+            let sums = shown(sums::path_of(&led_to(path.as_ref())));
+            let what = format!(
+                "its checksum is not the one that {sums} has; if another shelf was put here on purpose, remove that file"
+            );
             Err(Problem::Refused(format!("{path}: record {number} was changed since it was shelved: {what}")))
         }
         _ => Ok(()),
