@@ -151,9 +151,18 @@ impl Staged {
         self.handed_over()
     }
 
+    /// Its second name goes while it is locked: after that the name may be the next run's.
     fn handed_over(&self) -> io::Result<File> {
+        self.clear();
         self.file.unlock()?;
         self.file.try_clone()
+    }
+
+    /// Removes the name under which it was written, if it still has it.
+    fn clear(&self) {
+        if leads_to(&self.new, &self.file) {
+            let _ = fs::remove_file(&self.new);
+        }
     }
 
     fn still_ours(&self) -> io::Result<()> {
@@ -166,9 +175,7 @@ impl Staged {
 
 impl Drop for Staged {
     fn drop(&mut self) {
-        if leads_to(&self.new, &self.file) {
-            let _ = fs::remove_file(&self.new);
-        }
+        self.clear();
     }
 }
 
