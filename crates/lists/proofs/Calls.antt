@@ -2,7 +2,10 @@
 --
 --   NotRefused            the plan is fit, and the output has room for the record
 --   not-refused           where no refusal holds
+--   refused-exactly       the number of the answer is that of the first refusal; 0 if none holds
+--   accepted-where        a call is accepted where none holds
 --   accepted-fit          the plan of an accepted call is fit
+--   answer-length         the answer of an accepted call is the length for its kind and edges
 --   accepted-bytes        the bytes of an accepted call are the record of its plan
 --   refused-bytes         a refused call adds no byte
 use Prim.Native.Nat.{ℕ, _*_, _≤_}
@@ -17,7 +20,7 @@ use Rattle.model.specs.Numbers.{isPermutation}
 use Rattle.model.specs.Map.{Plan, darts, edges, isKind, dartCountFits, connected, planar, hasLoop, degreeRefused, fit}
 use Rattle.model.specs.Record.{recordLength, recordOf}
 use Rattle.model.specs.Calls.{front, earlyRefusals, lateRefusals, writeRefusal, writeAnswer, writtenOutput, numberOfWritten, lengthOfWritten}
-use Rattle.model.specs.Writings.{Writing, MeetsContract, isAccepted, bytesWritten}
+use Rattle.model.specs.Writings.{Writing, MeetsContract, refusalOf, isAccepted, bytesWritten}
 use Rattle.model.proofs.Fitness.{parts-fit}
 use Rattle.model.proofs.Refusals.{not-first}
 use Rattle.model.proofs.Answers.{number-of-written}
@@ -57,25 +60,26 @@ not-refused k p w o e =
 
 -- ---- calls
 
-refusal : Writing → ℕ
-refusal c = writeRefusal (c .kind) (c .plan) (length (c .work)) (length (c .output))
+pub refused-exactly : (c : Writing) → MeetsContract c → numberOfWritten (c .answer) ≡ refusalOf c
+refused-exactly c h = ap numberOfWritten (h .answered) ∙ number-of-written (c .kind) (c .plan) (length (c .work)) (length (c .output))
 
-accepted-refusal : (c : Writing) → MeetsContract c → isAccepted c ≡ true → refusal c ≡ 0
-unfolding refusal isAccepted
-accepted-refusal c h a =
-    sym (number-of-written (c .kind) (c .plan) (length (c .work)) (length (c .output))) ∙ ap numberOfWritten (sym (h .answered)) ∙ eqb-true _ 0 a
+accepted-refusal : (c : Writing) → MeetsContract c → isAccepted c ≡ true → refusalOf c ≡ 0
+unfolding isAccepted
+accepted-refusal c h a = sym (refused-exactly c h) ∙ eqb-true (numberOfWritten (c .answer)) 0 a
+
+pub accepted-where : (c : Writing) → MeetsContract c → refusalOf c ≡ 0 → isAccepted c ≡ true
+unfolding isAccepted
+accepted-where c h e = eq-eqb (numberOfWritten (c .answer)) 0 (refused-exactly c h ∙ e)
 
 pub accepted-fit : (c : Writing) → MeetsContract c → isAccepted c ≡ true → fit (c .kind) (c .plan) ≡ true
-unfolding refusal
-accepted-fit c h a =
-    not-refused (c .kind) (c .plan) (length (c .work)) (length (c .output)) (accepted-refusal c h a) .is-fit
+accepted-fit c h a = not-refused (c .kind) (c .plan) (length (c .work)) (length (c .output)) (accepted-refusal c h a) .is-fit
 
-answer-length : (c : Writing) → MeetsContract c → isAccepted c ≡ true → lengthOfWritten (c .answer) ≡ recordLength (c .kind) (edges (c .plan .rotation))
-unfolding writeAnswer refusal
+pub answer-length : (c : Writing) → MeetsContract c → isAccepted c ≡ true → lengthOfWritten (c .answer) ≡ recordLength (c .kind) (edges (c .plan .rotation))
+unfolding writeAnswer
 answer-length c h a = ap lengthOfWritten (h .answered) ∙ simp (eq-eqb _ 0 (accepted-refusal c h a))
 
 output-is : (c : Writing) → MeetsContract c → isAccepted c ≡ true → c .output-after ≡ front (recordOf (c .kind) (c .plan)) (c .output)
-unfolding writtenOutput refusal
+unfolding writtenOutput
 output-is c h a = h .filled ∙ simp (eq-eqb _ 0 (accepted-refusal c h a))
 
 pub accepted-bytes : (c : Writing) → MeetsContract c → isAccepted c ≡ true

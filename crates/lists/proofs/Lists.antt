@@ -1,16 +1,18 @@
 -- Demand 3, from the laws of the coding.
 --
 --   demand-3              the claim about any two lists of writing calls
-use Prim.Native.Nat.{ℕ}
+use Prim.Native.Nat.{ℕ, suc}
 use mathlib.Core.Path.{_≡_, refl, sym, ap, ap₂, subst, _∙_}
 use mathlib.Core.Bool.{Bool, true, false, cond}
 use mathlib.Core.List.{List, [], _∷_, _++_}
+use lib.ListN.{length}
 use Rattle.model.specs.Map.{fit}
 use Rattle.model.specs.Record.{recordOf}
-use Rattle.model.specs.Writings.{Writing, isAccepted, bytesWritten, laidOut, accepted, Alike, PlaceByPlace, AllMeetContract, Demand3}
+use Rattle.model.specs.Calls.{lengthOfWritten}
+use Rattle.model.specs.Writings.{Writing, MeetsContract, refusalOf, isAccepted, bytesWritten, laidOut, accepted, Alike, PlaceByPlace, AllMeetContract, Demand3}
 use Rattle.renumbering.proofs.Connected.{at-most-one}
 use Rattle.lists.specs.Coding.{Coding}
-use Rattle.lists.proofs.Calls.{accepted-fit, accepted-bytes, refused-bytes}
+use Rattle.lists.proofs.Calls.{refused-exactly, accepted-where, accepted-fit, answer-length, accepted-bytes, refused-bytes}
 use Rattle.lists.proofs.Split.{splits, framed-some}
 use Rattle.lists.proofs.Records.{record-length, record-framed, same-record, word-renumbering, renumbered-record}
 
@@ -35,7 +37,23 @@ accepted-all-fit (c ∷ cs) (h, hs) = go (isAccepted c) refl (accepted-all-fit c
     go true a rest = (accepted-fit c h a, rest)
     go false a rest = rest
 
+-- lists that match place by place are equally long
+match-length : (cs ds : List Writing) → PlaceByPlace cs ds → length cs ≡ length ds
+match-length [] [] m = refl
+match-length [] (d ∷ ds) m = absurd m
+match-length (c ∷ cs) [] m = absurd m
+match-length (c ∷ cs) (d ∷ ds) (a, m) = ap suc (match-length cs ds m)
+
 module _ (coding : Coding) where
+  -- ---- one call
+
+  gives-record : (c : Writing) → MeetsContract c → refusalOf c ≡ 0
+      → (bytesWritten c ≡ recordOf (c .kind) (c .plan)) × (lengthOfWritten (c .answer) ≡ length (recordOf (c .kind) (c .plan)))
+  gives-record c h e =
+      let a = accepted-where c h e in
+      let n = record-length coding (c .kind) (c .plan) (accepted-fit c h a) in
+      (accepted-bytes c h a n, answer-length c h a ∙ sym n)
+
   laid-records : (cs : List Writing) → AllMeetContract cs → laidOut cs ≡ records (accepted cs)
   unfolding laidOut accepted records
   laid-records [] h = refl
@@ -86,10 +104,17 @@ module _ (coding : Coding) where
 
   -- ---- two lists of calls
 
+  same-bytes-alike : (cs ds : List Writing) → AllMeetContract cs → AllMeetContract ds → laidOut cs ≡ laidOut ds
+      → PlaceByPlace (accepted cs) (accepted ds)
+  same-bytes-alike cs ds h g same = records-match (accepted cs) (accepted ds) (accepted-all-fit cs h) (accepted-all-fit ds g)
+      (sym (laid-records cs h) ∙ same ∙ laid-records ds g)
+
   pub demand-3 : Demand3
   demand-3 = record {
-    same-bytes-alike = λ cs ds h g same. records-match (accepted cs) (accepted ds) (accepted-all-fit cs h) (accepted-all-fit ds g)
-        (sym (laid-records cs h) ∙ same ∙ laid-records ds g);
+    refused-exactly = refused-exactly;
+    gives-record = gives-record;
+    equally-many = λ cs ds h g same. match-length (accepted cs) (accepted ds) (same-bytes-alike cs ds h g same);
+    same-bytes-alike = same-bytes-alike;
     alike-same-bytes = λ cs ds h g m. laid-records cs h ∙ match-records (accepted cs) (accepted ds) (accepted-all-fit cs h) (accepted-all-fit ds g) m
         ∙ sym (laid-records ds g);
     one-renumbering = λ k l p q f g e e′ r r′. at-most-one k p q f g e r r′;
