@@ -9,12 +9,17 @@ use mathlib.Core.Bool.{Bool, true, false, _&&_}
 use mathlib.Core.List.{List}
 use lib.Dec.{eqb}
 use lib.ListN.{length}
-use Rattle.model.specs.Map.{hasDegreeOne, dartCountFits, degreeRefused, fit}
+use Rattle.model.specs.Numbers.{isPermutation}
+use Rattle.model.specs.Map.{darts, dartCountFits, connected, planar, hasDeadEnd, degreeRefused, fit}
 use Rattle.model.specs.Traversal.{Letter, word, standardPlan}
 use Rattle.model.proofs.Fitness.{parts-fit, count-positive}
-use Rattle.words.specs.Word.{rootDegree, valid, rotationOf, planOf}
+use Rattle.words.specs.Word.{bareLeaf, valid, planOf}
+use Rattle.words.specs.Toured.{Toured}
 use Rattle.words.proofs.Plans.{rotation-length}
-use Rattle.words.proofs.Validity.{valid-kind, valid-fits, valid-nested, valid-plain, valid-root}
+use Rattle.words.proofs.Validity.{valid-kind, valid-fits, valid-nested, valid-plain}
+use Rattle.traversal.proofs.Toured.{walk-toured}
+use Rattle.planarity.proofs.Planar.{planar-bracketed}
+use Rattle.standard.proofs.DeadEnds.{dead-end-word}
 use Rattle.building.specs.Position.{letter, Balance}
 use Rattle.building.proofs.Machine.{balance}
 use Rattle.building.proofs.Rotation.{rotation-listed}
@@ -22,7 +27,6 @@ use Rattle.building.proofs.Walk.{walked}
 use Rattle.building.proofs.Planar.{built-planar}
 use Rattle.building.proofs.Loops.{built-no-loop}
 use Rattle.building.proofs.Connected.{built-connected}
-use Rattle.building.proofs.DegreeOne.{built-degree}
 use Rattle.building.proofs.Standard.{standard-same}
 
 module _ (k : ℕ) (w : List Letter) (v : valid k w ≡ true) where
@@ -38,23 +42,51 @@ module _ (k : ℕ) (w : List Letter) (v : valid k w ≡ true) where
   pub built-standard : standardPlan (planOf w) ≡ planOf w
   built-standard = standard-same w brackets some
 
-  degree-fits : degreeRefused k (planOf w) ≡ false
-  unfolding degreeRefused planOf
-  degree-fits = go (eqb k 1) refl (valid-root k w v)
+  -- ---- fitness, part by part
+
+  count : dartCountFits (darts (planOf w)) ≡ true
+  unfolding planOf
+  count = ap dartCountFits (rotation-length w) ∙ valid-fits k w v
+
+  root : planOf w .root < darts (planOf w)
+  unfolding planOf
+  root = subst (λ (n : ℕ). 0 < n) (sym (rotation-length w)) some
+
+  entries : isPermutation (planOf w .rotation) ≡ true
+  unfolding planOf
+  entries = rotation-listed w brackets
+
+  joined : connected (planOf w .rotation) ≡ true
+  unfolding planOf
+  joined = built-connected w brackets some
+
+  flat : planar (planOf w .rotation) ≡ true
+  unfolding planOf
+  flat = built-planar w brackets some
+
+  -- the word tells of dead ends
+  dead-ends : hasDeadEnd (planOf w) ≡ bareLeaf w
+  dead-ends =
+      let toured : Toured (planOf w) = walk-toured (planOf w) count root entries joined in
+      sym (dead-end-word (planOf w) toured (planar-bracketed (planOf w) toured count entries flat) count) ∙ ap bareLeaf built-word
+
+  degrees : degreeRefused k (planOf w) ≡ false
+  unfolding degreeRefused
+  degrees = go (eqb k 1) refl
     where
-      go : (c : Bool) → eqb k 1 ≡ c → (c && eqb (rootDegree 0 w) 1) ≡ false → (c && hasDegreeOne (rotationOf w)) ≡ false
-      go false e root = refl
-      go true e root = built-degree w brackets (valid-plain k w v e) root
+      go : (c : Bool) → eqb k 1 ≡ c → (c && hasDeadEnd (planOf w)) ≡ false
+      go false e = refl
+      go true e = dead-ends ∙ valid-plain k w v e
 
   pub built-fit : fit k (planOf w) ≡ true
   unfolding planOf
   built-fit = parts-fit k (planOf w) (record {
     kind = valid-kind k w v;
-    count = ap dartCountFits (rotation-length w) ∙ valid-fits k w v;
-    root = subst (λ (n : ℕ). 0 < n) (sym (rotation-length w)) some;
-    entries = rotation-listed w brackets;
-    joined = built-connected w brackets some;
-    flat = built-planar w brackets some;
+    count = count;
+    root = root;
+    entries = entries;
+    joined = joined;
+    flat = flat;
     loopless = built-no-loop w brackets;
-    degrees = degree-fits;
+    degrees = degrees;
   })

@@ -9,6 +9,5 @@ pub mod Walk
 pub mod Planar
 pub mod Loops
 pub mod Connected
-pub mod DegreeOne
 pub mod Standard
 pub mod Built

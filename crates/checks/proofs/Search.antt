@@ -7,19 +7,21 @@
 --   loopAt names d       dart d has the name of its opposite
 --   loop-pair            in a search for loops, a pair of darts that is no loop
 --   even-below, found, none-found   the ways of that search
+--   deadEndAt rot root d   dart d is a dead end
+--   dead-end-found, not-alone, root-alone, dead-end-none   the ways of a search for dead ends
 use Prim.Native.Nat.{ℕ, zero, suc, _+_, _%_, _≤_, _<_}
 use native.Mathlib.Omega.{arith}
 use native.Mathlib.Decide.{ℕ-discrete}
 use mathlib.Core.Path.{_≡_, refl, sym, ap, _∙_}
-use mathlib.Core.Bool.{Bool, true, false}
+use mathlib.Core.Bool.{Bool, true, false, not, _&&_}
 use mathlib.Core.List.{List}
 use lib.Dec.{eqb}
-use lib.ListN.{getD}
+use lib.ListN.{length, getD}
 use borrow.Author.Tests.{eq-eqb, ne-eqb}
 use Rattle.model.specs.Numbers.{some}
-use Rattle.model.specs.Map.{opposite}
-use Rattle.model.proofs.Booleans.{some-in}
-use Rattle.checks.specs.Checks.{loopIn}
+use Rattle.model.specs.Map.{opposite, next, degreeOne}
+use Rattle.model.proofs.Booleans.{some-in, both}
+use Rattle.checks.specs.Checks.{loopIn, deadEndIn}
 
 abbrev pub NoneBelow : (ℕ → Bool) → ℕ → Type 0
 NoneBelow f i = (j : ℕ) → j < i → f j ≡ false
@@ -62,3 +64,25 @@ found names n d h e q = sym (some-in (loopAt names) n d h (rw (opposite-even d e
 pub none-found : (names : List ℕ) (n d : ℕ) → n ≤ d → NoneBelow (loopAt names) d → false ≡ loopIn names n
 unfolding loopIn
 none-found names n d h none = sym (some-none (loopAt names) n (λ j l. none j (omega arith)))
+
+-- ---- dead ends
+
+abbrev pub deadEndAt : List ℕ → ℕ → ℕ → Bool
+deadEndAt rot root d = degreeOne rot d && not (eqb d root)
+
+module _ (rot : List ℕ) (root : ℕ) where
+  pub dead-end-found : (d : ℕ) → d < length rot → getD rot d 0 ≡ d → not (eqb d root) ≡ true → true ≡ deadEndIn rot root
+  unfolding deadEndIn degreeOne next
+  dead-end-found d h own other = sym (some-in (deadEndAt rot root) (length rot) d h (both (eq-eqb (getD rot d 0) d own) other))
+
+  pub not-alone : (d : ℕ) → (getD rot d 0 ≡ d → ⊥) → deadEndAt rot root d ≡ false
+  unfolding degreeOne next
+  not-alone d other = rw (ne-eqb (getD rot d 0) d other)
+
+  pub root-alone : (d : ℕ) → getD rot d 0 ≡ d → not (eqb d root) ≡ false → deadEndAt rot root d ≡ false
+  unfolding degreeOne next
+  root-alone d own same = rw (eq-eqb (getD rot d 0) d own, same)
+
+  pub dead-end-none : (d : ℕ) → length rot ≤ d → NoneBelow (deadEndAt rot root) d → false ≡ deadEndIn rot root
+  unfolding deadEndIn
+  dead-end-none d h none = sym (some-none (deadEndAt rot root) (length rot) (λ j l. none j (omega arith)))

@@ -1,13 +1,17 @@
 -- What the checks of a plan test.
 --
 --   loopIn names n       some dart below n has the name of its opposite
+--   deadEndIn rot root   some dart other than the root is its own entry
 use Prim.Native.Nat.{ℕ}
-use mathlib.Core.Bool.{Bool}
+use mathlib.Core.Bool.{Bool, not, _&&_}
 use mathlib.Core.List.{List}
 use lib.Dec.{eqb}
-use lib.ListN.{getD}
+use lib.ListN.{length, getD}
 use Rattle.model.specs.Numbers.{some}
-use Rattle.model.specs.Map.{opposite}
+use Rattle.model.specs.Map.{opposite, degreeOne}
 
 unfoldable pub loopIn : List ℕ → ℕ → Bool
 loopIn names n = some (λ d. eqb (getD names d 0) (getD names (opposite d) 0)) n
+
+unfoldable pub deadEndIn : List ℕ → ℕ → Bool
+deadEndIn rot root = some (λ d. degreeOne rot d && not (eqb d root)) (length rot)

@@ -1,12 +1,12 @@
-// Checks of a rotation: its entries are a permutation, no edge is a loop, no vertex has degree one; and the characteristic. It knows no traversal.
+// Checks of a rotation: its entries are a permutation, no edge is a loop, no vertex but the root's has degree one; and the characteristic. It knows no
+// traversal.
 ghost use mathlib.Core.Path.{_≡_};
 ghost use Prim.Native.Nat.{_*_, _%_, _≤_, _<_};
 ghost use lib.ListN.{length, replicate};
 ghost use lib.IntN.{pos, _+ℤ_, _-ℤ_};
 ghost use Rattle.model.specs.Numbers.{isPermutation};
-ghost use Rattle.model.specs.Map.{hasDegreeOne};
 ghost use Rattle.packing.specs.Unpack.{bits};
-ghost use Rattle.checks.specs.Checks.{loopIn};
+ghost use Rattle.checks.specs.Checks.{loopIn, deadEndIn};
 
 // Marks each entry by a bit, and stops at one that is too large or marked already.
 fn marked(order: &[u16], marks: &mut [u8]) -> bool
@@ -53,13 +53,13 @@ pub fn has_loop(names: &[u16], n: usize) -> bool
     false
 }
 
-// Some dart is alone at its vertex.
-pub fn has_degree_one(order: &[u16]) -> bool
-    ensures { λ r. ⌜ r ≡ hasDegreeOne (now (order .entry)) ⌝ }
+// Some dart other than the root is alone at its vertex.
+pub fn has_dead_end(order: &[u16], root: usize) -> bool
+    ensures { λ r. ⌜ r ≡ deadEndIn (now (order .entry)) root ⌝ }
 {
     let mut d = 0;
     while d < order.len() {
-        if order[d] as usize == d {
+        if order[d] as usize == d && d != root {
             return true;
         }
         d += 1;

@@ -1,4 +1,3 @@
 pub mod FitPlans
 pub mod Demand3
 pub mod Records
-pub mod Roots

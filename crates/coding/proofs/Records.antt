@@ -17,7 +17,7 @@ use Rattle.model.specs.Numbers.{allBelow}
 use Rattle.model.specs.Map.{Plan, darts, edges, fit}
 use Rattle.model.specs.Traversal.{Letter, word, standardPlan}
 use Rattle.model.specs.LabelledTree.{treeBits, labels}
-use Rattle.model.specs.Record.{labelBase, layOut, recordOf}
+use Rattle.model.specs.Record.{labelBase, recordOf}
 use Rattle.model.specs.Shelf.{kindOf, edgesOf, passes}
 use Rattle.model.specs.Calls.{HasRecord}
 use Rattle.model.proofs.Fitness.{Fit, fit-parts, count-parts, even-darts, parts-count}
@@ -25,7 +25,7 @@ use Rattle.words.specs.Word.{Found, found, none, valid, wordBits, wordLabels, p
 use Rattle.words.proofs.Positions.{word-length}
 use Rattle.words.proofs.Plans.{rotation-length}
 use Rattle.packing.specs.Unlay.{Laid, bitsIn, labelsIn, readable}
-use Rattle.packing.proofs.Unlay.{layOut-head, layOut-bits, layOut-labels, layOut-readable, unlay-laid, readable-layOut}
+use Rattle.packing.proofs.Unlay.{layOut-bits, layOut-labels, layOut-readable, unlay-laid, readable-layOut}
 use Rattle.decoding.proofs.Encoding.{decode-encode}
 use Rattle.decoding.proofs.Sizes.{bits-length, letters-length, labels-bound}
 use Rattle.decoding.proofs.Bounds.{bits-below}
@@ -60,9 +60,6 @@ module _ (k : ℕ) (p : Plan) (fits : fit k p ≡ true) where
   abbrev m : ℕ
   m = edges (p .rotation)
 
-  kind-field : kindOf (layOut k m (treeBits p) (labels p)) ≡ k
-  kind-field = layOut-head k m (treeBits p) (labels p) (parts .kind) (fit-laid .some-edge) (fit-laid .few-edges) .1
-
   pub record-decodes : decodeRecord (recordOf k p) ≡ found (word p)
   unfolding decodeRecord recordOf
   record-decodes =
@@ -71,7 +68,6 @@ module _ (k : ℕ) (p : Plan) (fits : fit k p ≡ true) where
         layOut-readable k m (treeBits p) (labels p) fit-laid,
         layOut-bits k m (treeBits p) (labels p) fit-laid,
         layOut-labels k m (treeBits p) (labels p) fit-laid,
-        kind-field,
         o .bits,
         o .marks,
       )
@@ -84,12 +80,12 @@ has-decodes r p (f, e) = ap decodeRecord (sym e) ∙ record-decodes (kindOf r) p
 
 module _ (r : List ℕ) (v : List Letter) where
   -- the payload is clean where a word is found
-  clean : decodeRecord r ≡ found v → (readable r ≡ true) × (decodeWord (kindOf r) (bitsIn r) (labelsIn r) ≡ found v)
+  clean : decodeRecord r ≡ found v → (readable r ≡ true) × (decodeWord (bitsIn r) (labelsIn r) ≡ found v)
   unfolding decodeRecord
   clean e = go (readable r) refl e
     where
-      go : (b : Bool) → readable r ≡ b → cond b (decodeWord (kindOf r) (bitsIn r) (labelsIn r)) none ≡ found v
-          → (readable r ≡ true) × (decodeWord (kindOf r) (bitsIn r) (labelsIn r) ≡ found v)
+      go : (b : Bool) → readable r ≡ b → cond b (decodeWord (bitsIn r) (labelsIn r)) none ≡ found v
+          → (readable r ≡ true) × (decodeWord (bitsIn r) (labelsIn r) ≡ found v)
       go true t q = (t, q)
       go false t q = none-found v q
 

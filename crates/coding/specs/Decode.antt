@@ -4,9 +4,8 @@
 use mathlib.Core.Bool.{cond}
 use mathlib.Core.List.{List}
 use Prim.Native.Nat.{ℕ}
-use Rattle.model.specs.Shelf.{kindOf}
 use Rattle.words.specs.Word.{Found, none, decodeWord}
 use Rattle.packing.specs.Unlay.{bitsIn, labelsIn, readable}
 
 unfoldable pub decodeRecord : List ℕ → Found
-decodeRecord r = cond (readable r) (decodeWord (kindOf r) (bitsIn r) (labelsIn r)) none
+decodeRecord r = cond (readable r) (decodeWord (bitsIn r) (labelsIn r)) none

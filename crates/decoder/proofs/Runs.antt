@@ -13,20 +13,18 @@
 use Prim.Native.Nat.{ℕ, _+_, _-_, _*_, _≤_, _<_}
 use native.Mathlib.Omega.{arith}
 use mathlib.Core.Path.{_≡_, refl, sym, ap, _∙_, subst}
-use mathlib.Core.Bool.{Bool, true, false, not, _&&_, cond, true≢false, false≢true}
+use mathlib.Core.Bool.{Bool, true, false, true≢false, false≢true}
 use mathlib.Core.List.{List, [], _∷_, _++_, append-nil, append-assoc}
-use lib.Dec.{eqb}
-use lib.ListN.{length, getD, set, replicate, length-append, length-drop, length-set}
+use lib.ListN.{length, set, replicate, length-append, length-drop, length-set}
 use Rattle.model.specs.Numbers.{allBelow}
 use Rattle.model.specs.Traversal.{Letter}
-use Rattle.model.specs.Shelf.{kindOf, edgesOf}
+use Rattle.model.specs.Shelf.{edgesOf}
 use Rattle.packing.specs.Unlay.{bitsIn, labelsIn, readable}
-use Rattle.words.specs.Word.{Found, found, none, after, done, stuck, turn, start, head, wordDarts, rotationOf, rootDegree, checkRoot, decodeWord}
+use Rattle.words.specs.Word.{Found, found, none, after, done, stuck, turn, start, head, wordDarts, rotationOf, decodeWord}
 use Rattle.decoding.specs.Reading.{left, run}
 use Rattle.decoding.proofs.Decoding.{wordIn}
 use Rattle.decoding.proofs.Runs.{turn-left, turn-none, run-on, run-done, run-stuck, decodeWord-run}
 use Rattle.areas.specs.Area.{region, stack}
-use Rattle.areas.proofs.Regions.{getD-region}
 use Rattle.areas.proofs.Stacks.{length-stack}
 use Rattle.decoder.specs.declared.Cursor.{Cursor}
 use Rattle.decoder.specs.declared.State.{State}
@@ -35,7 +33,7 @@ use Rattle.decoder.specs.declared.Outcome.the-variants.{Goes, Done, Stuc
 use Rattle.coding.specs.Decode.{decodeRecord}
 use Rattle.unpacker.specs.Unpacked.{Head}
 use Rattle.decoder.specs.Decoded.{Answered}
-use Rattle.decoder.specs.States.{labelsOf, machineOf, outcome, Fits, Moved, Turned, rootFits}
+use Rattle.decoder.specs.States.{labelsOf, machineOf, outcome, Fits, Moved, Turned}
 use Rattle.decoder.proofs.Linking.{linked-end, first-dart, linked-whole}
 use Rattle.decoder.proofs.Views.{seen, entered}
 
@@ -120,19 +118,15 @@ module _ (m : ℕ) (bs ls w₀ : List ℕ) where
     only-these [] = refl
     only-these (x ∷ xs) = ap (λ (r : List Letter). found (x ∷ r)) (append-nil xs)
 
-    pub answer-stuck : (k : ℕ) (w′ : List ℕ) → turn (machineOf m bs ls w s c) ≡ stuck → w′ ≡ w → Answered (decodeWord k bs ls) (2 * m) w₀ false w′
-    answer-stuck k w′ e q = record {
+    pub answer-stuck : (w′ : List ℕ) → turn (machineOf m bs ls w s c) ≡ stuck → w′ ≡ w → Answered (decodeWord bs ls) (2 * m) w₀ false w′
+    answer-stuck w′ e q = record {
       word-found = λ f. absurd (false≢true f);
-      none-found = λ f. decodeWord-run k bs ls ∙ ap (checkRoot k) nothing;
+      none-found = λ f. decodeWord-run bs ls ∙ sym (i .answer) ∙ ap (after (i .letters)) (run-stuck (machineOf m bs ls w s c) e) ∙ nothing-after (i .letters);
       kept = ap length q ∙ i .kept;
     }
-      where
-        nothing : run (start bs ls) ≡ none
-        nothing = sym (i .answer) ∙ ap (after (i .letters)) (run-stuck (machineOf m bs ls w s c) e) ∙ nothing-after (i .letters)
 
-    -- w′ has dart 0 where the last dart waits for its successor; the root has degree one where dart 0 is its own
-    module _ (k : ℕ) (w′ : List ℕ) (size : length bs ≡ 2 * m) (clear : region 0 (2 * m) w₀ ≡ replicate (2 * m) 0)
-        (alone : (v : List Letter) → decodeWord 2 bs ls ≡ found v → eqb (rootDegree 0 v) 1 ≡ eqb (getD (rotationOf v) 0 0) 0)
+    -- w′ has dart 0 where the last dart waits for its successor
+    module _ (w′ : List ℕ) (size : length bs ≡ 2 * m) (clear : region 0 (2 * m) w₀ ≡ replicate (2 * m) 0)
         (e : turn (machineOf m bs ls w s c) ≡ done) (q : w′ ≡ set w (s .place) 0) where
       whole : run (start bs ls) ≡ found (i .letters)
       whole = sym (i .answer) ∙ ap (after (i .letters)) (run-done (machineOf m bs ls w s c) e) ∙ only-these (i .letters)
@@ -154,30 +148,12 @@ module _ (m : ℕ) (bs ls w₀ : List ℕ) where
           ∙ i .built []
           ∙ rw (append-nil (i .letters), clear) (linked-whole (2 * m) (i .letters) all-read begun)
 
-      -- the root's degree, by the first entry
-      root-entry : eqb (rootDegree 0 (i .letters)) 1 ≡ eqb (getD w′ 0 0) 0
-      root-entry =
-          alone (i .letters) (decodeWord-run 2 bs ls ∙ ap (checkRoot 2) whole)
-          ∙ ap (λ (x : ℕ). eqb x 0) (ap (λ (xs : List ℕ). getD xs 0 0) (sym plan-built) ∙ getD-region 0 (2 * m) w′ 0 (omega arith))
-
-      decided : decodeWord k bs ls ≡ cond (eqb k 1 && eqb (getD w′ 0 0) 0) none (found (i .letters))
-      decided = decodeWord-run k bs ls ∙ ap (checkRoot k) whole ∙ ap (λ (b : Bool). cond (eqb k 1 && b) none (found (i .letters))) root-entry
-
-      pub answer-done : (b : Bool) → b ≡ rootFits k (getD w′ 0 0) → Answered (decodeWord k bs ls) (2 * m) w₀ b w′
-      unfolding rootFits
-      answer-done b a = record {
-        word-found = λ f. (i .letters, decided ∙ when-fit (eqb k 1 && eqb (getD w′ 0 0) 0) (sym a ∙ f), plan-built);
-        none-found = λ f. decided ∙ when-not (eqb k 1 && eqb (getD w′ 0 0) 0) (sym a ∙ f);
+      pub answer-done : Answered (decodeWord bs ls) (2 * m) w₀ true w′
+      answer-done = record {
+        word-found = λ f. (i .letters, decodeWord-run bs ls ∙ whole, plan-built);
+        none-found = λ f. absurd (true≢false f);
         kept = ap length q ∙ length-set w (s .place) 0 ∙ i .kept;
       }
-        where
-          when-fit : (x : Bool) → not x ≡ true → cond x none (found (i .letters)) ≡ found (i .letters)
-          when-fit true n = absurd (false≢true n)
-          when-fit false n = refl
-
-          when-not : (x : Bool) → not x ≡ false → cond x none (found (i .letters)) ≡ none
-          when-not true n = refl
-          when-not false n = absurd (true≢false n)
 
 -- ---- what a turn hands back
 
@@ -203,7 +179,7 @@ module _ (m : ℕ) (bs ls w : List ℕ) (s : State) (c : Cursor) (o : Outcome) (
 pub answer-kept : (f : Found) (n : ℕ) (v w : List ℕ) (b : Bool) (w′ : List ℕ) → length v ≡ length w → Answered f n v b w′ → Answered f n w b w′
 answer-kept f n v w b w′ e a = record { word-found = a .word-found; none-found = a .none-found; kept = a .kept ∙ e }
 
-read : (r : List ℕ) → readable r ≡ true → decodeRecord r ≡ decodeWord (kindOf r) (bitsIn r) (labelsIn r)
+read : (r : List ℕ) → readable r ≡ true → decodeRecord r ≡ decodeWord (bitsIn r) (labelsIn r)
 unfolding decodeRecord
 read r e = rw e
 
@@ -212,9 +188,6 @@ unfolding decodeRecord
 answer-unreadable r n w e = record { word-found = λ f. absurd (false≢true f); none-found = λ f. rw e; kept = refl }
 
 pub answer-readable : (r : List ℕ) (k m : ℕ) (w : List ℕ) (b : Bool) (w′ : List ℕ) → Head r k m → readable r ≡ true
-    → Answered (decodeWord k (bitsIn r) (labelsIn r)) (2 * m) w b w′ → Answered (decodeRecord r) (2 * edgesOf r) w b w′
+    → Answered (decodeWord (bitsIn r) (labelsIn r)) (2 * m) w b w′ → Answered (decodeRecord r) (2 * edgesOf r) w b w′
 answer-readable r k m w b w′ h e a =
-    subst (λ (n : ℕ). Answered (decodeRecord r) (2 * n) w b w′) (h .2) (subst (λ (f : Found). Answered f (2 * m) w b w′) decided a)
-  where
-    decided : decodeWord k (bitsIn r) (labelsIn r) ≡ decodeRecord r
-    decided = ap (λ (j : ℕ). decodeWord j (bitsIn r) (labelsIn r)) (h .1) ∙ sym (read r e)
+    subst (λ (n : ℕ). Answered (decodeRecord r) (2 * n) w b w′) (h .2) (subst (λ (f : Found). Answered f (2 * m) w b w′) (sym (read r e)) a)

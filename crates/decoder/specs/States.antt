@@ -17,13 +17,12 @@
 --   Moved                    a turn that goes on: its letters' darts are entered, the labels stay, and the state after it
 --   Turned                   what one turn hands back, by cases
 --   Closed                   the same for a turn that reads no bit, whichever they are
---   rootFits k x             the root is as kind k wants it, where x is the successor of dart 0
 use Prim.Native.Nat.{ℕ, _+_, _-_, _*_, _≤_, _<_}
 use mathlib.Core.Path.{_≡_}
 use mathlib.Core.Logic.{_≢_}
-use mathlib.Core.Bool.{Bool, true, not, _&&_, cond}
+use mathlib.Core.Bool.{true, cond}
 use mathlib.Core.List.{List, [], _∷_, _++_}
-use lib.Dec.{eqb, ltb}
+use lib.Dec.{ltb}
 use lib.ListN.{length, getD, set, drop}
 use Rattle.model.specs.Numbers.{allBelow}
 use Rattle.model.specs.Traversal.{Letter}
@@ -194,6 +193,3 @@ Turned m bs ls w s c Stuck w′ = (turn (machineOf m bs ls w s c) ≡ stuck) × 
 
 abbrev pub Closed : ℕ → List ℕ → State → Cursor → Outcome → List ℕ → Type 0
 Closed m w s c r w′ = (bs : List ℕ) → Turned m bs (region (18 * m) m w) w s c r w′
-
-unfoldable pub rootFits : ℕ → ℕ → Bool
-rootFits k x = not (eqb k 1 && eqb x 0)

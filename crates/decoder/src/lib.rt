@@ -5,14 +5,14 @@ ghost use mathlib.Core.Path.{_≡_};
 ghost use mathlib.Core.Logic.{_≢_};
 ghost use mathlib.Core.Bool.{true};
 ghost use Prim.Native.Nat.{_*_, _≤_, _<_};
-ghost use lib.ListN.{length, getD, set, replicate};
+ghost use lib.ListN.{length, replicate};
 ghost use Rattle.model.specs.Shelf.{edgesOf, passes};
 ghost use Rattle.words.specs.Word.{decodeWord};
 ghost use Rattle.packing.specs.Unlay.{bitsIn, labelsIn};
 ghost use Rattle.areas.specs.Area.{region};
 ghost use Rattle.unpacker.specs.Unpacked.{Head};
 ghost use Rattle.decoder.specs.Decoded.{Decoded, Answered};
-ghost use Rattle.decoder.specs.States.{nextBit, nextLabel, before, Standing, Fits, Room, Ready, Turned, Closed, rootFits};
+ghost use Rattle.decoder.specs.States.{nextBit, nextLabel, before, Standing, Fits, Room, Ready, Turned, Closed};
 ghost use Rattle.decoder.specs.States.{risenState, leafedState, backedState, enteredState, risenArea, leafedArea, backedArea, enteredArea};
 
 // Where the next tree bit and the next label stand.
@@ -316,23 +316,11 @@ fn turn(bytes: &[u8], m: usize, w: &mut [u16], s: State, c: Cursor) -> Outcome
     }
 }
 
-// The last dart's successor is dart 0; whether the root is as the kind wants it: in kind 1 dart 0 is not its own successor.
-fn finish(w: &mut [u16], kind: u16, place: usize) -> bool
-    requires { ⌜ place < length (now w) ⌝ }
-    ensures { λ r. ⌜ (now (w .exit) ≡ set (now (w .entry)) place 0) × (r ≡ rootFits kind (getD (now (w .exit)) 0 0)) ⌝ }
-{
-    w[place] = 0;
-    if kind != 1 {
-        return true;
-    }
-    w[0] != 0
-}
-
-// The machine from its start until it is done or stuck.
-fn run(bytes: &[u8], kind: u16, m: usize, w: &mut [u16]) -> bool
-    requires { ⌜ Head (now bytes) kind m ⌝ }
+// The machine from its start until it is done or stuck. The last dart's successor is dart 0.
+fn run(bytes: &[u8], m: usize, w: &mut [u16]) -> bool
+    requires { ⌜ (passes (now bytes) ≡ true) × (m ≡ edgesOf (now bytes)) ⌝ }
     requires { ⌜ (32 * m ≤ length (now w)) × (region (18 * m) m (now w) ≡ labelsIn (now bytes)) × (region 0 (2 * m) (now w) ≡ replicate (2 * m) 0) ⌝ }
-    ensures { λ r. ⌜ Answered (decodeWord kind (bitsIn (now (bytes .entry))) (labelsIn (now (bytes .entry)))) (2 * m) (now (w .entry)) r (now (w .exit)) ⌝ }
+    ensures { λ r. ⌜ Answered (decodeWord (bitsIn (now (bytes .entry))) (labelsIn (now (bytes .entry)))) (2 * m) (now (w .entry)) r (now (w .exit)) ⌝ }
 {
     let mut s = State {
         n: 1,
@@ -351,7 +339,8 @@ fn run(bytes: &[u8], kind: u16, m: usize, w: &mut [u16]) -> bool
                 c = d;
             }
             Outcome::Done => {
-                return finish(w, kind, place);
+                w[place] = 0;
+                return true;
             }
             Outcome::Stuck => {
                 return false;
@@ -372,5 +361,5 @@ pub fn decode(bytes: &[u8], kind: u16, m: usize, w: &mut [u16]) -> bool
     }
     unpacker::spread(bytes, kind, m, w);
     areas::fill(w, 0, 2 * m, 0);
-    run(bytes, kind, m, w)
+    run(bytes, m, w)
 }

@@ -9,16 +9,15 @@ use Prim.Native.Nat.{ℕ, zero, suc, _*_, _<_}
 use native.Mathlib.Omega.{arith}
 use mathlib.Core.Path.{_≡_, refl, sym, ap, ap₂, _∙_, subst}
 use mathlib.Core.Logic.{_≢_}
-use mathlib.Core.Bool.{Bool, true, false, _&&_, cond, false≢true}
+use mathlib.Core.Bool.{Bool, true, false, cond, false≢true}
 use mathlib.Core.List.{List, [], _∷_, _++_}
-use lib.Dec.{eqb}
 use lib.ListN.{length}
 use Rattle.model.specs.Numbers.{allBelow}
 use Rattle.model.specs.Map.{isKind, dartCountFits}
 use Rattle.model.specs.Traversal.{Letter, down, up, first, second}
 use Rattle.model.specs.LabelledTree.{star}
 use Rattle.model.specs.Record.{labelBase}
-use Rattle.words.specs.Word.{nested, startsUp, rootDegree, valid, startsSecond, head, tail, endsOne, ends, wordLabels, wordBits, Found, found, none, after, Machine, goes, turn, follow, decode, start, checkRoot, decodeWord, closed, risen, leafed, backed, entered}
+use Rattle.words.specs.Word.{nested, startsUp, valid, startsSecond, head, tail, endsOne, ends, wordLabels, wordBits, Found, found, none, after, Machine, goes, turn, follow, decode, start, decodeWord, closed, risen, leafed, backed, entered}
 use Rattle.words.proofs.Validity.{valid-of}
 use Rattle.decoding.specs.Reading.{Reads}
 use Rattle.decoding.proofs.Sizes.{bound-three, bound-two}
@@ -158,23 +157,11 @@ decoded (suc f) s w k e = go (step s) (λ t v. decoded f t v)
         subst (Reads s) (ap wordIn (sym (ap (follow (decode f)) (turn-done s t q p x y)) ∙ e)) (from-done s k t q p x y)
     go (halts q) ih = none-found w (sym (ap (follow (decode f)) q) ∙ e)
 
-check-root : (k : ℕ) (r : Found) (w : List Letter) → checkRoot k r ≡ found w → (r ≡ found w) × ((eqb k 1 && eqb (rootDegree 0 w) 1) ≡ false)
-check-root k none w e = none-found w e
-check-root k (found v) w e = go (eqb k 1 && eqb (rootDegree 0 v) 1) refl e
-  where
-    go : (b : Bool) → (eqb k 1 && eqb (rootDegree 0 v) 1) ≡ b → cond b none (found v) ≡ found w
-        → (found v ≡ found w) × ((eqb k 1 && eqb (rootDegree 0 w) 1) ≡ false)
-    go true t q = none-found w q
-    go false t q = (q, subst (λ (x : List Letter). (eqb k 1 && eqb (rootDegree 0 x) 1) ≡ false) (ap wordIn q) t)
-
 module _ (k : ℕ) (bits labels : List ℕ) (w : List Letter) (low : allBelow 2 bits ≡ true) (bound : allBelow (labelBase k) labels ≡ true)
-    (e : decodeWord k bits labels ≡ found w) where
-  root-checked : (decode (suc (length bits)) (start bits labels) ≡ found w) × ((eqb k 1 && eqb (rootDegree 0 w) 1) ≡ false)
-  unfolding decodeWord
-  root-checked = check-root k (decode (suc (length bits)) (start bits labels)) w e
-
+    (e : decodeWord bits labels ≡ found w) where
   from-start : Reads (start bits labels) w
-  from-start = decoded (suc (length bits)) (start bits labels) w (starts-held bits labels low (bound-three k labels bound)) (root-checked .0)
+  unfolding decodeWord
+  from-start = decoded (suc (length bits)) (start bits labels) w (starts-held bits labels low (bound-three k labels bound)) e
 
   pub decoded-bits : wordBits false w ≡ bits
   unfolding start
@@ -193,11 +180,11 @@ module _ (k : ℕ) (bits labels : List ℕ) (w : List Letter) (low : allBelow 2 
 
   pub decoded-valid : isKind k ≡ true → dartCountFits (length bits) ≡ true → valid k w ≡ true
   decoded-valid kind fits = valid-of k w kind (rw decoded-length fits) decoded-nests
-      (λ t. plain-labels w (rw decoded-labels (bound-two k labels bound t))) (root-checked .1)
+      (λ t. plain-labels w (rw decoded-labels (bound-two k labels bound t)))
 
 pub encode-decode : (k : ℕ) (bits labels : List ℕ) (w : List Letter) → isKind k ≡ true → (m : ℕ) → dartCountFits (2 * m) ≡ true
     → length bits ≡ 2 * m → length labels ≡ m → allBelow 2 bits ≡ true → allBelow (labelBase k) labels ≡ true
-    → decodeWord k bits labels ≡ found w
+    → decodeWord bits labels ≡ found w
     → (valid k w ≡ true) × (wordBits false w ≡ bits) × (wordLabels w ≡ labels) × (length w ≡ 2 * m)
 encode-decode k bits labels w kind m fits n _ low bound e = (
   decoded-valid k bits labels w low bound e kind (rw n fits),

@@ -17,8 +17,8 @@ use Rattle.model.specs.Numbers.{allBelow}
 use Rattle.model.specs.Traversal.{Letter, down, up, first, second}
 use Rattle.model.specs.LabelledTree.{star}
 use Rattle.model.proofs.Below.{below-head}
-use Rattle.words.specs.Word.{nested, startsUp, valid, startsSecond, head, tail, endsOne, ends, wordLabels, wordBits, found, none, after, Machine, goes, turn, start, checkRoot, decodeWord, closed, risen, leafed, backed, entered}
-use Rattle.words.proofs.Validity.{valid-nested, valid-root}
+use Rattle.words.specs.Word.{nested, startsUp, valid, startsSecond, head, tail, endsOne, ends, wordLabels, wordBits, found, after, Machine, goes, turn, start, decodeWord, closed, risen, leafed, backed, entered}
+use Rattle.words.proofs.Validity.{valid-nested}
 use Rattle.decoding.specs.Reading.{Reads, run}
 use Rattle.decoding.proofs.Bounds.{head-below, ups-below, seconds-below}
 use Rattle.decoding.proofs.Nesting.{nest-end, nest-up, nest-second, no-second, bits-on}
@@ -181,10 +181,9 @@ starts-reading w e = record {
   labels-are = refl;
 }
 
-pub decode-encode : (k : ℕ) (w : List Letter) → valid k w ≡ true → decodeWord k (wordBits false w) (wordLabels w) ≡ found w
+pub decode-encode : (k : ℕ) (w : List Letter) → valid k w ≡ true → decodeWord (wordBits false w) (wordLabels w) ≡ found w
 decode-encode k w v =
     let s = start (wordBits false w) (wordLabels w) in
     let m = length (wordLabels w) in
-    decodeWord-run k (wordBits false w) (wordLabels w)
-    ∙ ap (checkRoot k) (encoded m s w (starts-within m (wordBits false w) (wordLabels w) (le-refl m)) (starts-reading w (valid-nested k w v)))
-    ∙ ap (λ (b : Bool). cond b none (found w)) (valid-root k w v)
+    decodeWord-run (wordBits false w) (wordLabels w)
+    ∙ encoded m s w (starts-within m (wordBits false w) (wordLabels w) (le-refl m)) (starts-reading w (valid-nested k w v))

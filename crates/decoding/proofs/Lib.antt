@@ -1,4 +1,3 @@
-pub mod Validity
 pub mod Bounds
 pub mod Nesting
 pub mod Lengths

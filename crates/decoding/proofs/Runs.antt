@@ -16,7 +16,7 @@ use mathlib.Core.Path.{_≡_, refl, sym, ap, _∙_, subst}
 use mathlib.Core.List.{List, [], _∷_, _++_, append-nil, append-assoc}
 use lib.ListN.{length}
 use Rattle.model.specs.Traversal.{Letter}
-use Rattle.words.specs.Word.{Found, found, none, after, Machine, Turn, done, stuck, goes, turn, follow, decode, start, checkRoot, decodeWord}
+use Rattle.words.specs.Word.{Found, found, none, after, Machine, Turn, done, stuck, goes, turn, follow, decode, start, decodeWord}
 use Rattle.decoding.specs.Reading.{left, run}
 use Rattle.decoding.proofs.Turns.{Step, closes, rises, leafs, backs, enters, finishes, halts, step, turn-close, turn-up, turn-star, turn-back, turn-tree, turn-done}
 
@@ -90,6 +90,6 @@ after-after (l ∷ ls) (m ∷ ms) (found w) = ap (λ (xs : List Letter). found (
 pub run-on : (sofar : List Letter) (s t : Machine) (ls : List Letter) → turn s ≡ goes ls t → after (sofar ++ ls) (run t) ≡ after sofar (run s)
 run-on sofar s t ls e = sym (ap (after sofar) (run-goes s t ls e) ∙ after-after sofar ls (run t))
 
-pub decodeWord-run : (k : ℕ) (bits labels : List ℕ) → decodeWord k bits labels ≡ checkRoot k (run (start bits labels))
+pub decodeWord-run : (bits labels : List ℕ) → decodeWord bits labels ≡ run (start bits labels)
 unfolding decodeWord start
-decodeWord-run k bits labels = ap (checkRoot k) (run-is (suc (length bits)) (start bits labels) (omega arith))
+decodeWord-run bits labels = run-is (suc (length bits)) (start bits labels) (omega arith)

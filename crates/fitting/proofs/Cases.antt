@@ -1,9 +1,10 @@
 -- The verdict, by the way on which the checks end, at plain values.
 --
 --   loop-names           a search for loops by the names of the vertices finds the loops
+--   dead-ends            a search for darts other than the root that are alone finds the dead ends
 --   few, few-vertices    a count of cycles is small
 --   counted              the characteristic from the counts of vertices and faces
---   looped, dead-end, no-dead-end, other-kind   the ways of refusals 11 and 12
+--   Handed, looped, dead-end, no-dead-end, other-kind   the ways of refusals 11 and 12
 --   named, room-kept, room-local, surveyed   what naming the vertices and walking leave
 --   parted, curved, flat the verdict of each way
 --   still-named          the names, after the faces are counted
@@ -11,19 +12,20 @@ use Prim.Native.Nat.{ℕ, zero, suc, _+_, _*_, _/_, _≤_, _<_}
 use native.Mathlib.Nat.{suc-ne-zero}
 use native.Mathlib.Omega.{arith}
 use mathlib.Core.Path.{_≡_, refl, sym, ap, subst, _∙_}
-use mathlib.Core.Bool.{Bool, true, false, _&&_, cond}
+use mathlib.Core.Bool.{Bool, true, false, not, _&&_, cond}
 use mathlib.Core.List.{List, map}
 use lib.IntN.{ℤ, pos, _+ℤ_, _-ℤ_}
 use lib.ListN.{length}
 use lib.Dec.{eqb}
-use borrow.Author.Tests.{eq-eqb, ne-eqb}
+use borrow.Author.Tests.{eq-eqb, ne-eqb, eqb-true, eqb-false}
 use Rattle.model.specs.Numbers.{some, least, isLeast, cycles, firstRefusal, isPermutation}
-use Rattle.model.specs.Map.{Plan, darts, edges, next, faceNext, vertexOf, vertices, faces, opposite, connected, planar, characteristic, is, hasLoop, hasDegreeOne, degreeRefused, dartCountFits}
+use Rattle.model.specs.Map.{Plan, darts, edges, next, faceNext, vertexOf, vertices, faces, opposite, connected, planar, characteristic, is, degreeOne, hasLoop, hasDeadEnd, degreeRefused, dartCountFits}
 use Rattle.model.specs.Traversal.{code, visits, word}
 use Rattle.model.specs.Calls.{lateRefusals}
-use Rattle.model.proofs.Booleans.{not-intro}
-use Rattle.model.proofs.Fitness.{opposite-bound, count-parts}
+use Rattle.model.proofs.Booleans.{and-left, and-right, both, not-left, not-intro, bool-ext, some-at, some-in}
+use Rattle.model.proofs.Fitness.{opposite-bound, count-parts, dead-end-at, at-dead-end}
 use Rattle.orbits.proofs.Tally.{count-le}
+use Rattle.orbits.proofs.Maps.{next-perm, vertex-alone}
 use Rattle.traversal.proofs.Complete.{connected-long, long-connected}
 use Rattle.orbits.specs.Table.{tabulate}
 use Rattle.areas.specs.Area.{region}
@@ -34,7 +36,7 @@ use Rattle.cycles.proofs.Labels.{labelled-length, labelled-other}
 use Rattle.contour.specs.Steps.{Named}
 use Rattle.contour.specs.Walked.{Walked}
 use Rattle.contour.proofs.Steps.{name-at}
-use Rattle.checks.specs.Checks.{loopIn}
+use Rattle.checks.specs.Checks.{loopIn, deadEndIn}
 use Rattle.fitting.specs.declared.Survey.{Survey}
 use Rattle.fitting.specs.declared.Verdict.{Verdict}
 use Rattle.fitting.specs.declared.Verdict.the-variants.{Fits, Refused, NotPlanar}
@@ -52,6 +54,30 @@ module _ (rot w : List ℕ) (fits : dartCountFits (length rot) ≡ true) (names 
   unfolding loopIn hasLoop
   loop-names = some-ext _ _ (length rot) (λ d h.
       rw (name-at rot w names d h, name-at rot w names (opposite d) (opposite-bound (length rot) d (count-parts (length rot) fits .1) h)))
+
+-- ---- dead ends by their darts
+
+-- a dart that is alone is of the root's vertex exactly if it is the root
+pub dead-ends : (p : Plan) → isPermutation (p .rotation) ≡ true → p .root < darts p → deadEndIn (p .rotation) (p .root) ≡ hasDeadEnd p
+unfolding deadEndIn degreeOne
+dead-ends p entries low = bool-ext (deadEndIn rot r) (hasDeadEnd p)
+    (λ e.
+    let (d, h, a) = some-at at (darts p) e in
+    let own = eqb-true (next rot d) d (and-left (degreeOne rot d) (not (eqb d r)) a) in
+    let other = eqb-false d r (not-left (eqb d r) (and-right (degreeOne rot d) (not (eqb d r)) a)) in
+    at-dead-end p d h own (λ same. other (vertex-alone rot (next-perm rot entries) d r low own same)))
+    (λ e.
+    let (d, h, own, other) = dead-end-at p e in
+    some-in at (darts p) d h (both (eq-eqb (next rot d) d own) (ap not (ne-eqb d r (λ same. other (ap (vertexOf rot) same))))))
+  where
+    rot : List ℕ
+    rot = p .rotation
+
+    r : ℕ
+    r = p .root
+
+    at : ℕ → Bool
+    at d = degreeOne rot d && not (eqb d r)
 
 -- ---- the characteristic from the counts
 
@@ -71,26 +97,39 @@ counted rot v f hv hf = rw (hv, hf)
 
 -- ---- refusals 11 and 12
 
-module _ (k : ℕ) (rot : List ℕ) where
-  pub looped : hasLoop rot ≡ true → Refused 11 ≡ localOf k rot
+-- what the search for them is handed
+pub record Handed (p : Plan) (w : List ℕ) : Type 0 where
+  pub fits : dartCountFits (darts p) ≡ true
+  pub entries : isPermutation (p .rotation) ≡ true
+  pub low : p .root < darts p
+  pub names : Named (p .rotation) w
+
+module _ (k : ℕ) (p : Plan) (w : List ℕ) (given : Handed p w) where
+  pub looped : loopIn w (darts p) ≡ true → Refused 11 ≡ localOf k p
   unfolding localOf
-  looped e = rw e
+  looped e = let l = sym (loop-names (p .rotation) w (given .fits) (given .names)) ∙ e in rw l
 
-  module _ (loopless : hasLoop rot ≡ false) where
-    pub dead-end : k ≡ 1 → hasDegreeOne rot ≡ true → Refused 12 ≡ localOf k rot
-    unfolding localOf
-    dead-end h e = rw (loopless, eq-eqb k 1 h, e)
+  module _ (none : loopIn w (darts p) ≡ false) where
+    loopless : hasLoop (p .rotation) ≡ false
+    loopless = sym (loop-names (p .rotation) w (given .fits) (given .names)) ∙ none
 
-    pub no-dead-end : hasDegreeOne rot ≡ false → Fits ≡ localOf k rot
-    unfolding localOf
-    no-dead-end e = rw (loopless, e) (either (eqb k 1))
+    ended : (b : Bool) → deadEndIn (p .rotation) (p .root) ≡ b → hasDeadEnd p ≡ b
+    ended b e = sym (dead-ends p (given .entries) (given .low)) ∙ e
+
+    pub dead-end : k ≡ 1 → deadEndIn (p .rotation) (p .root) ≡ true → Refused 12 ≡ localOf k p
+    unfolding localOf degreeRefused
+    dead-end h e = rw (loopless, eq-eqb k 1 h, ended true e)
+
+    pub no-dead-end : deadEndIn (p .rotation) (p .root) ≡ false → Fits ≡ localOf k p
+    unfolding localOf degreeRefused
+    no-dead-end e = rw (loopless, ended false e) (either (eqb k 1))
       where
         either : (b : Bool) → Fits ≡ cond (b && false) (Refused 12) Fits
         either true = refl
         either false = refl
 
-    pub other-kind : (k ≡ 1 → ⊥) → Fits ≡ localOf k rot
-    unfolding localOf
+    pub other-kind : (k ≡ 1 → ⊥) → Fits ≡ localOf k p
+    unfolding localOf degreeRefused
     other-kind h = rw (loopless, ne-eqb k 1 h)
 
 -- ---- the names and the walk
@@ -164,12 +203,12 @@ module _ (k : ℕ) (p : Plan) (fits : dartCountFits (darts p) ≡ true) (low : p
       unfolding verdictOf lateRefusal lateRefusals firstRefusal planar
       curved u = let u′ = rw euler at u in record { answered = rw (joined, u′, euler); letters = λ z. letters-kept; kept = length-kept }
 
-      pub flat : is x 2 ≡ true → (v : Verdict) → v ≡ localOf k (p .rotation) → Judged k p w v w₃
-      unfolding verdictOf lateRefusal lateRefusals firstRefusal planar localOf degreeRefused
+      pub flat : is x 2 ≡ true → (v : Verdict) → v ≡ localOf k p → Judged k p w v w₃
+      unfolding verdictOf lateRefusal lateRefusals firstRefusal planar localOf
       flat u v q =
           let u′ = rw euler at u in
           record {
-            answered = q ∙ rw (joined, u′) (either (hasLoop (p .rotation)) (eqb k 1 && hasDegreeOne (p .rotation)));
+            answered = q ∙ rw (joined, u′) (either (hasLoop (p .rotation)) (degreeRefused k p));
             letters = λ z. letters-kept;
             kept = length-kept;
           }

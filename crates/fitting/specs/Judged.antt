@@ -1,18 +1,18 @@
 -- What the checks of a plan in the work area find: refusals 9 to 12.
 --
 --   Surveyed             the vertices named at 0, the letters by position at 3n, how many vertices and how many darts met
---   localOf k rot        the verdict of 11 and 12 alone
+--   localOf k p          the verdict of 11 and 12 alone
 --   lateRefusal k p      the first of 9, 10, 11, 12 that concerns the plan; 0 if none does
 --   verdictOf k p        the same as a verdict, 10 with the characteristic
 --   Judged               the verdict, and in the work area, at 3n, the contour word of a plan that fits
 use Prim.Native.Nat.{ℕ, _*_}
 use mathlib.Core.Path.{_≡_}
-use mathlib.Core.Bool.{_&&_, cond}
+use mathlib.Core.Bool.{cond}
 use mathlib.Core.List.{List, map}
 use lib.Dec.{eqb}
 use lib.ListN.{length}
 use Rattle.model.specs.Numbers.{firstRefusal}
-use Rattle.model.specs.Map.{Plan, darts, characteristic, vertices, hasLoop, hasDegreeOne}
+use Rattle.model.specs.Map.{Plan, darts, characteristic, vertices, hasLoop, degreeRefused}
 use Rattle.model.specs.Traversal.{code, visits, word}
 use Rattle.model.specs.Calls.{lateRefusals}
 use Rattle.areas.specs.Area.{region}
@@ -28,8 +28,8 @@ pub record Surveyed (p : Plan) (w : List ℕ) (s : Survey) (w′ : List ℕ) : T
   pub letters : region (3 * darts p) (s .met) w′ ≡ map code (word p)
   pub kept : length w′ ≡ length w
 
-unfoldable pub localOf : ℕ → List ℕ → Verdict
-localOf k rot = cond (hasLoop rot) (Refused 11) (cond (eqb k 1 && hasDegreeOne rot) (Refused 12) Fits)
+unfoldable pub localOf : ℕ → Plan → Verdict
+localOf k p = cond (hasLoop (p .rotation)) (Refused 11) (cond (degreeRefused k p) (Refused 12) Fits)
 
 unfoldable pub lateRefusal : ℕ → Plan → ℕ
 lateRefusal k p = firstRefusal (lateRefusals k p)

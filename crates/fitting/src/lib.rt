@@ -1,5 +1,5 @@
-// Refusals 9 to 12, in the work area: the plan's vertices are named at 0, it is walked, its faces are named at 4n, loops and vertices of degree one are
-// looked for. It knows no records.
+// Refusals 9 to 12, in the work area: the plan's vertices are named at 0, it is walked, its faces are named at 4n, loops and dead ends are looked for. It
+// knows no records.
 ghost use mathlib.Core.Path.{_≡_};
 ghost use mathlib.Core.Bool.{true};
 ghost use Prim.Native.Nat.{_*_, _≤_, _<_};
@@ -33,15 +33,16 @@ fn walked(order: &[u16], root: usize, w: &mut [u16]) -> Survey
 }
 
 // Refusals 11 and 12, from the names of the vertices.
-fn local(order: &[u16], kind: u16, w: &[u16]) -> Verdict
-    requires { ⌜ (dartCountFits (length (now order)) ≡ true) × (length (now order) ≤ length (now w)) × Named (now order) (now w) ⌝ }
-    ensures { λ r. ⌜ r ≡ localOf kind (now (order .entry)) ⌝ }
+fn local(order: &[u16], root: usize, kind: u16, w: &[u16]) -> Verdict
+    requires { ⌜ (dartCountFits (length (now order)) ≡ true) × (isPermutation (now order) ≡ true) × (root < length (now order)) ⌝ }
+    requires { ⌜ (length (now order) ≤ length (now w)) × Named (now order) (now w) ⌝ }
+    ensures { λ r. ⌜ r ≡ localOf kind (record { rotation = now (order .entry); root = root }) ⌝ }
 {
     if checks::has_loop(w, order.len()) {
         return Verdict::Refused(11);
     }
     if kind == 1 {
-        if checks::has_degree_one(order) {
+        if checks::has_dead_end(order, root) {
             return Verdict::Refused(12);
         }
     }
@@ -64,5 +65,5 @@ pub fn judge(order: &[u16], root: usize, kind: u16, w: &mut [u16]) -> Verdict
     if x != 2 {
         return Verdict::NotPlanar(x);
     }
-    local(order, kind, w)
+    local(order, root, kind, w)
 }

@@ -79,8 +79,7 @@ module _ (coding : Coding) where
       (sym (record-of-word k p e) ∙ same ∙ record-of-word l q f) in (
         kinds,
         found-same (word p) (word q)
-            (sym (coding .decoded k (word p) (of-fit k p e .proper)) ∙ ap₂ (decodeWord k) bits marks
-            ∙ ap (λ (j : ℕ). decodeWord j (wordBits false (word q)) (wordLabels (word q))) kinds ∙ coding .decoded l (word q) (of-fit l q f .proper)),
+            (sym (coding .decoded k (word p) (of-fit k p e .proper)) ∙ ap₂ decodeWord bits marks ∙ coding .decoded l (word q) (of-fit l q f .proper)),
       )
 
   pub word-renumbering : (k : ℕ) (p q : Plan) → fit k p ≡ true → fit k q ≡ true → word p ≡ word q → (f : List ℕ) × Renumbering p q f

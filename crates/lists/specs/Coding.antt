@@ -26,7 +26,7 @@ pub record OfFit (k : ℕ) (p : Plan) : Type 0 where
 pub record Coding : Type 0 where
   -- words
   pub words-of-fit : (k : ℕ) (p : Plan) → fit k p ≡ true → OfFit k p
-  pub decoded : (k : ℕ) (w : List Letter) → valid k w ≡ true → decodeWord k (wordBits false w) (wordLabels w) ≡ found w
+  pub decoded : (k : ℕ) (w : List Letter) → valid k w ≡ true → decodeWord (wordBits false w) (wordLabels w) ≡ found w
   pub bit-count : (k : ℕ) (w : List Letter) → valid k w ≡ true → length (wordBits false w) ≡ length w
   pub label-count : (k : ℕ) (w : List Letter) → valid k w ≡ true → length w ≡ 2 * length (wordLabels w)
   pub bits-fit : (k : ℕ) (w : List Letter) → valid k w ≡ true → allBelow 2 (wordBits false w) ≡ true

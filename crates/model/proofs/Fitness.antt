@@ -6,9 +6,10 @@
 --   even-darts                   the dart count is twice the number of edges
 --   connected-at, at-connected   every dart is reached
 --   loopless-at, at-loopless     no edge has both its darts at one vertex
+--   dead-end-at, at-dead-end     some dart is alone at its vertex, which is not the root's
 use mathlib.Core.Path.{_≡_, ap}
 use mathlib.Core.Logic.{_≢_}
-use mathlib.Core.Bool.{true, false, not}
+use mathlib.Core.Bool.{Bool, true, false, not, _&&_}
 use Prim.Native.Nat.{ℕ, _*_, _%_, _≤_, _<_}
 use native.Mathlib.Omega.{arith}
 use mathlib.Core.List.{List}
@@ -16,8 +17,8 @@ use lib.Dec.{eqb, ltb}
 use lib.ListN.{length, getD}
 use borrow.Author.Tests.{ltb-true, eqb-true, eqb-false, leb-true, lt-ltb, eq-eqb, ne-eqb, le-leb}
 use Rattle.model.specs.Numbers.{isPermutation}
-use Rattle.model.specs.Map.{Plan, darts, opposite, vertexOf, edges, isKind, dartCountFits, reached, connected, planar, hasLoop, degreeRefused, fit}
-use Rattle.model.proofs.Booleans.{and-left, and-right, not-left, some-no, no-some}
+use Rattle.model.specs.Map.{Plan, darts, opposite, next, vertexOf, edges, isKind, dartCountFits, degreeOne, reached, connected, planar, hasLoop, hasDeadEnd, degreeRefused, fit}
+use Rattle.model.proofs.Booleans.{and-left, and-right, both, not-left, some-at, some-in, some-no, no-some}
 pub use Rattle.model.proofs.Opposite.{opposite-opposite, opposite-ne, opposite-bound, opposite-edge}
 pub use Rattle.model.proofs.Permutations.{below-all, distinct-at, position-entry}
 
@@ -97,3 +98,22 @@ module _ (rot : List ℕ) where
   unfolding hasLoop
   at-loopless all = no-some (λ d. eqb (vertexOf rot d) (vertexOf rot (opposite d))) (length rot)
       (λ d h. ne-eqb (vertexOf rot d) (vertexOf rot (opposite d)) (all d h))
+
+module _ (p : Plan) where
+  abbrev vertex : ℕ → ℕ
+  vertex d = vertexOf (p .rotation) d
+
+  abbrev ends-at : ℕ → Bool
+  ends-at d = degreeOne (p .rotation) d && not (eqb (vertex d) (vertex (p .root)))
+
+  pub dead-end-at : hasDeadEnd p ≡ true → (d : ℕ) × (d < darts p) × (next (p .rotation) d ≡ d) × (vertex d ≢ vertex (p .root))
+  unfolding hasDeadEnd degreeOne
+  dead-end-at e =
+      let (d, h, a) = some-at ends-at (darts p) e in
+      let alone = eqb-true (next (p .rotation) d) d (and-left (degreeOne (p .rotation) d) _ a) in
+      (d, h, alone, eqb-false (vertex d) (vertex (p .root)) (not-left _ (and-right (degreeOne (p .rotation) d) _ a)))
+
+  pub at-dead-end : (d : ℕ) → d < darts p → next (p .rotation) d ≡ d → vertex d ≢ vertex (p .root) → hasDeadEnd p ≡ true
+  unfolding hasDeadEnd degreeOne
+  at-dead-end d h alone other =
+      some-in ends-at (darts p) d h (both (eq-eqb (next (p .rotation) d) d alone) (ap not (ne-eqb (vertex d) (vertex (p .root)) other)))

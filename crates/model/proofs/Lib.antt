@@ -10,5 +10,6 @@ pub mod Answers
 pub mod Line
 pub mod Unreadable
 pub mod Table
+pub mod Requested
 pub mod Vectors
 pub mod Stores

@@ -15,7 +15,7 @@ use borrow.Author.Tests.{le-ltb}
 use Rattle.model.specs.declared.ReadBack.{ReadBack}
 use Rattle.model.specs.declared.ReadBack.the-variants as readback
 use Rattle.model.specs.Numbers.{count, some, elem, distinct, allBelow, isPermutation, position, least, cycles, firstRefusal}
-use Rattle.model.specs.Map.{Plan, darts, opposite, next, vertexOf, faceNext, edges, vertices, faces, degreeOne, spread, spreads, reached, connected, characteristic, planar, hasLoop, hasDegreeOne, isKind, dartCountFits, degreeRefused, fit}
+use Rattle.model.specs.Map.{Plan, darts, opposite, next, vertexOf, faceNext, edges, vertices, faces, degreeOne, spread, spreads, reached, connected, characteristic, planar, hasLoop, hasDeadEnd, isKind, dartCountFits, degreeRefused, fit}
 use Rattle.model.specs.Traversal.{letterAt, onward, seenAfter, walk, visits}
 use Rattle.model.specs.LabelledTree.{codesOf, codes, unlabelled, isUpper, gone, before, labelOne, removeCut, takeLeaf, takeOne, takeLeaves, treeLabels, labelOf, bitsOf, along, labels, treeBits}
 use Rattle.model.specs.Record.{digitsFrom, pack, le16, recordLength, payload, layOut, recordOf}
@@ -55,7 +55,7 @@ abbrev plan : ℕ → ℕ → ℕ → ℕ → ℕ → Plan
 plan a b c d r = record { rotation = a ∷ b ∷ c ∷ d ∷ []; root = r }
 
 none-of-two : all 4 (λ a. all 4 (λ b. all 4 (λ c. all 4 (λ d. all 4 (λ r. without (plan a b c d r)))))) ≡ true
-unfolding without fit isKind dartCountFits isPermutation allBelow distinct elem edges recordLength connected some reached spreads spread opposite next planar characteristic vertices faces cycles count least faceNext hasLoop vertexOf degreeRefused hasDegreeOne degreeOne same recordOf layOut le16 payload pack digitsFrom treeBits labels along bitsOf labelOf treeLabels takeLeaves takeOne takeLeaf removeCut labelOne before gone isUpper unlabelled codes codesOf position visits walk letterAt onward seenAfter
+unfolding without fit isKind dartCountFits isPermutation allBelow distinct elem edges recordLength connected some reached spreads spread opposite next planar characteristic vertices faces cycles count least faceNext hasLoop vertexOf degreeRefused hasDeadEnd degreeOne same recordOf layOut le16 payload pack digitsFrom treeBits labels along bitsOf labelOf treeLabels takeLeaves takeOne takeLeaf removeCut labelOne before gone isUpper unlabelled codes codesOf position visits walk letterAt onward seenAfter
 none-of-two = refl
 
 -- ---- a plan with such a record has two edges

@@ -14,13 +14,13 @@
 --   is z n               the integer z is the number n
 --   planar rot           the characteristic is 2
 --   hasLoop rot          some edge has both darts at one vertex
---   hasDegreeOne rot     some vertex has degree one
+--   hasDeadEnd p         some vertex other than the root's has degree one
 --   isKind k             k is a kind of record: 1 or 2
 --   dartCountFits n      n is a dart count that a plan may have
---   degreeRefused k p    kind k does not take p for a vertex of degree one
+--   degreeRefused k p    kind k does not take p for its dead end
 --   fit k p              the plan p is fit for kind k
 use Prim.Native.Nat.{ℕ, zero, suc, _+_, _-_, _*_, _/_, _%_}
-use mathlib.Core.Bool.{Bool, true, false, not, _&&_, _||_, cond}
+use mathlib.Core.Bool.{Bool, false, not, _&&_, _||_, cond}
 use mathlib.Core.List.{List}
 use lib.Dec.{eqb, ltb, leb}
 use lib.IntN.{ℤ, pos, negsuc, _+ℤ_, _-ℤ_}
@@ -101,8 +101,10 @@ planar rot = is (characteristic rot) 2
 unfoldable pub hasLoop : List ℕ → Bool
 hasLoop rot = some (λ d. eqb (vertexOf rot d) (vertexOf rot (opposite d))) (length rot)
 
-unfoldable pub hasDegreeOne : List ℕ → Bool
-hasDegreeOne rot = some (degreeOne rot) (length rot)
+-- "a degree-one junction other than the start's"
+unfoldable pub hasDeadEnd : Plan → Bool
+hasDeadEnd p =
+    some (λ d. degreeOne (p .rotation) d && not (eqb (vertexOf (p .rotation) d) (vertexOf (p .rotation) (p .root)))) (darts p)
 
 -- ---- fitness
 
@@ -113,9 +115,9 @@ isKind k = eqb k 1 || eqb k 2
 unfoldable pub dartCountFits : ℕ → Bool
 dartCountFits n = ltb 0 n && (eqb (n % 2) 0 && leb n 8192)
 
--- "Kind 1 takes connected planar plans with no loop and no junction of degree one. Kind 2 takes connected planar plans with no loop."
+-- "refusal 12 is given only for a degree-one junction other than the start's"; "Kind 1 takes spur plans". "Kind 2 takes connected planar plans with no loop."
 unfoldable pub degreeRefused : ℕ → Plan → Bool
-degreeRefused k p = eqb k 1 && hasDegreeOne (p .rotation)
+degreeRefused k p = eqb k 1 && hasDeadEnd p
 
 -- "A plan as set down here, its entries all different and, like the start, below the dart count, is fit for each kind that takes it."
 unfoldable pub fit : ℕ → Plan → Bool

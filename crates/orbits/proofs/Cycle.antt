@@ -8,6 +8,7 @@
 --   least-keeps        what p keeps has one value at x and at its label
 --   least-ext, perm-ext   a function that agrees with p below N has the same labels, and is a permutation
 --   iter-out, iter-bound, iter-inj   iterates: the last step, their bound, different ones before the period
+--   iter-fixed         a fixed point has itself only
 --   Back, On, on-self, on-step   x is back after q + 1 steps; what it then runs through
 --   comes-back         every number comes back
 --   Reach, same-reach  two numbers with one label reach each other
@@ -31,6 +32,11 @@ module _ (p : ℕ → ℕ) where
   unfolding iter
   iter-out zero x = refl
   iter-out (suc j) x = iter-out j (p x)
+
+  pub iter-fixed : (j x : ℕ) → p x ≡ x → iter p j x ≡ x
+  unfolding iter
+  iter-fixed zero x e = refl
+  iter-fixed (suc j) x e = ap (iter p j) e ∙ iter-fixed j x e
 
   pub least-le : (n x : ℕ) → least p n x ≤ x
   unfolding least

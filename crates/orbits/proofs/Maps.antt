@@ -8,6 +8,7 @@
 --   face-perm              the step of the faces is a permutation
 --   vertex-turn            a dart and its entry have one vertex
 --   vertex-bound           a vertex is named by a dart
+--   vertex-alone           a dart that is its own entry is alone at its vertex
 use Prim.Native.Nat.{ℕ, _%_, _<_}
 use mathlib.Core.Path.{_≡_, sym, _∙_}
 use mathlib.Core.Bool.{true}
@@ -20,7 +21,7 @@ use Rattle.model.proofs.Permutations.{permutation-below, permutation-inj, permu
 use Rattle.model.proofs.Opposite.{opposite-opposite, opposite-ne, opposite-bound}
 use Rattle.orbits.specs.Permutation.{Perm}
 use Rattle.orbits.specs.Chord.{Involution}
-use Rattle.orbits.proofs.Cycle.{comes-back, iter-bound, iter-out, least-step, least-bound}
+use Rattle.orbits.proofs.Cycle.{comes-back, iter-bound, iter-out, iter-fixed, least-step, least-bound, same-reach}
 use Rattle.orbits.proofs.Chord.{crossed-perm}
 use Rattle.orbits.proofs.Euler.{Free}
 
@@ -60,3 +61,8 @@ module _ (rot : List ℕ) (perm : Perm (length rot) (next rot)) where
   pub vertex-bound : (d : ℕ) → d < length rot → vertexOf rot d < length rot
   unfolding vertexOf
   vertex-bound = least-bound (length rot) (next rot) perm
+
+  pub vertex-alone : (d e : ℕ) → e < length rot → next rot d ≡ d → vertexOf rot d ≡ vertexOf rot e → d ≡ e
+  unfolding vertexOf
+  vertex-alone d e h own same =
+      let (j, reached) = same-reach (length rot) (next rot) perm d e h same in sym (iter-fixed (next rot) j d own) ∙ reached

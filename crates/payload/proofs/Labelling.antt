@@ -17,7 +17,7 @@ use Rattle.words.specs.Word.{valid, Ends, endsOne, ends, startsUp, startsSecond
 use Rattle.areas.specs.Area.{region, stack}
 use Rattle.areas.proofs.Regions.{length-region}
 use Rattle.areas.proofs.Stacks.{length-stack}
-use Rattle.decoding.proofs.Validity.{valid-nested}
+use Rattle.words.proofs.Validity.{valid-nested}
 use Rattle.decoding.proofs.Sizes.{letters-length}
 use Rattle.letters.specs.Letters.{toLetter, lettersIn, workLabels}
 use Rattle.letters.proofs.Word.{is-down, is-up, is-first, is-second, length-letters, letters-set-behind}

@@ -21,7 +21,7 @@ use Rattle.model.specs.Traversal.{Letter, down, up, first, second}
 use Rattle.words.specs.Word.{valid, startsUp, startsSecond}
 use Rattle.words.specs.Entered.{isDown}
 use Rattle.orbits.proofs.Order.{eq-split}
-use Rattle.decoding.proofs.Validity.{valid-fits}
+use Rattle.words.proofs.Validity.{valid-fits}
 use Rattle.letters.specs.Letters.{toLetter, lettersIn}
 use Rattle.letters.proofs.Word.{is-down, is-up, is-first, is-second, length-letters, letters-from}
 

@@ -1,20 +1,20 @@
 -- A renumbering carries fitness. Assumes nothing.
 --
---   iso-loop, iso-degree  an isomorphism makes no loop and no vertex of degree one
+--   iso-loop, iso-dead-end   an isomorphism makes no loop, and no dead end if it sends root to root
 --   iso-connected         a map that a connected map is carried to is connected
 --   iso-characteristic, iso-planar   it has the same characteristic, so it is planar if the other is
 --   carries-fit           a plan that a fit plan is renumbered to is fit
 use Prim.Native.Nat.{ℕ, _/_, _%_, _<_}
 use native.Mathlib.Omega.{arith}
 use mathlib.Core.Path.{_≡_, refl, sym, ap, ap₂, subst, _∙_}
-use mathlib.Core.Bool.{Bool, true, false, _&&_}
+use mathlib.Core.Bool.{Bool, true, false, not, _&&_}
 use mathlib.Core.List.{List}
 use lib.Dec.{eqb}
 use lib.IntN.{ℤ, pos, _+ℤ_, _-ℤ_}
 use lib.ListN.{length, getD}
 use Rattle.model.specs.Numbers.{some, cycles, isPermutation}
 use Rattle.model.specs.Map.{Plan, darts, opposite, next, vertexOf, faceNext, edges, vertices, faces, degreeOne}
-use Rattle.model.specs.Map.{connected, characteristic, planar, hasLoop, hasDegreeOne, degreeRefused, fit}
+use Rattle.model.specs.Map.{connected, characteristic, planar, hasLoop, hasDeadEnd, degreeRefused, fit}
 use Rattle.model.specs.Renumbering.{Renumbering}
 use Rattle.model.proofs.Booleans.{some-no, no-some}
 use Rattle.model.proofs.Fitness.{count-even, fit-parts, parts-fit}
@@ -49,12 +49,25 @@ module _ {rot rot′ f : List ℕ} (two : length rot % 2 ≡ 0) (perm : isPermut
       ∙ eqb-both (vertexOf rot d) (vertexOf rot (opposite d)) (vertexOf rot′ (getD f d 0)) (vertexOf rot′ (getD f (opposite d) 0))
       (both .0) (both .1))
 
-  pub iso-degree : hasDegreeOne rot ≡ false → hasDegreeOne rot′ ≡ false
-  unfolding hasDegreeOne degreeOne
-  iso-degree = iso-some (degreeOne rot) (degreeOne rot′) (λ d h.
+  -- a dart is alone at its vertex exactly when its partner is
+  iso-degree : (d : ℕ) → d < length rot → degreeOne rot′ (getD f d 0) ≡ degreeOne rot d
+  unfolding degreeOne
+  iso-degree d h =
       ap (λ (x : ℕ). eqb x (getD f d 0)) (sym (iso .rotations d h))
       ∙ eqb-both (next rot d) d (getD f (next rot d) 0) (getD f d 0) (ap (of-list f))
-      (image-inj iso (next rot d) d (next-perm rot perm .bound d h) h))
+      (image-inj iso (next rot d) d (next-perm rot perm .bound d h) h)
+
+  pub iso-dead-end : (r r′ : ℕ) → r < length rot → getD f r 0 ≡ r′
+      → hasDeadEnd (record { rotation = rot; root = r }) ≡ false → hasDeadEnd (record { rotation = rot′; root = r′ }) ≡ false
+  unfolding hasDeadEnd
+  iso-dead-end r r′ k e =
+      iso-some
+      (λ d. degreeOne rot d && not (eqb (vertexOf rot d) (vertexOf rot r))) (λ d. degreeOne rot′ d && not (eqb (vertexOf rot′ d) (vertexOf rot′ r′)))
+      (λ d h.
+      let same = iso-vertex two perm iso d r h k in
+      ap₂ (λ (a b : Bool). a && not b) (iso-degree d h) (
+      ap (λ (x : ℕ). eqb (vertexOf rot′ (getD f d 0)) (vertexOf rot′ x)) (sym e)
+      ∙ eqb-both (vertexOf rot d) (vertexOf rot r) (vertexOf rot′ (getD f d 0)) (vertexOf rot′ (getD f r 0)) (same .0) (same .1)))
 
   pub iso-connected : 0 < length rot → connected rot ≡ true → connected rot′ ≡ true
   iso-connected some-dart e =
@@ -88,12 +101,11 @@ module _ {rot rot′ f : List ℕ} (two : length rot % 2 ≡ 0) (perm : isPermut
   unfolding planar
   iso-planar e = rw iso-characteristic e
 
-degree-carried : (k : ℕ) (p q : Plan) → (hasDegreeOne (p .rotation) ≡ false → hasDegreeOne (q .rotation) ≡ false)
-    → degreeRefused k p ≡ false → degreeRefused k q ≡ false
+degree-carried : (k : ℕ) (p q : Plan) → (hasDeadEnd p ≡ false → hasDeadEnd q ≡ false) → degreeRefused k p ≡ false → degreeRefused k q ≡ false
 unfolding degreeRefused
 degree-carried k p q on = go (eqb k 1)
   where
-    go : (b : Bool) → (b && hasDegreeOne (p .rotation)) ≡ false → (b && hasDegreeOne (q .rotation)) ≡ false
+    go : (b : Bool) → (b && hasDeadEnd p) ≡ false → (b && hasDeadEnd q) ≡ false
     go true e = on e
     go false e = refl
 
@@ -109,5 +121,5 @@ carries-fit k p q f r e =
       joined = iso-connected two (a .entries) (iso-of r) (omega (arith, a .root)) (a .joined);
       flat = iso-planar two (a .entries) (iso-of r) (a .flat);
       loopless = iso-loop two (a .entries) (iso-of r) (a .loopless);
-      degrees = degree-carried k p q (iso-degree two (a .entries) (iso-of r)) (a .degrees);
+      degrees = degree-carried k p q (iso-dead-end two (a .entries) (iso-of r) (p .root) (q .root) (a .root) (r .root-to-root)) (a .degrees);
     })

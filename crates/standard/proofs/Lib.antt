@@ -7,5 +7,5 @@ pub mod WordDarts
 pub mod Linking
 pub mod Nesting
 pub mod BareLeaf
-pub mod DegreeOne
+pub mod DeadEnds
 pub mod Valid

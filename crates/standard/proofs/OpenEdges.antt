@@ -2,27 +2,21 @@
 -- and what ends an edge finds it on top.
 --
 --   Brackets part p       the edges of the part (tree or chord) match like brackets
---   down-only             a letter that opens a tree edge is down
 --   held part p i         the positions before i at which edges of the part are opened and not ended, the last first
 --   openTrees p i, openChords p i    the same for the tree and for the other edges
 --   after-down, after-up, after-first, after-second    how they change where each letter stands
---   trees-start, trees-end, chords-end    nothing is open at the start and at the end
+--   trees-end, chords-end    nothing is open at the end
 --   trees-pending         the open tree edges are those that end at i or later
---   pending-zero          where position 0 is pending, nothing lies below it
---   pending-has           and something is pending
-use Prim.Native.Nat.{ℕ, zero, suc, _≤_, _<_}
-use native.Mathlib.Nat.{not-suc-le-zero}
+use Prim.Native.Nat.{ℕ, suc, _≤_, _<_}
 use native.Mathlib.Omega.{arith}
-use mathlib.Core.Path.{_≡_, refl, sym, ap, _∙_}
+use mathlib.Core.Path.{_≡_, refl, ap, _∙_}
 use mathlib.Core.Bool.{Bool, true, false, false≢true}
 use mathlib.Core.List.{List, [], _∷_}
-use lib.Dec.{leb}
-use borrow.Author.Tests.{le-leb}
 use Rattle.model.specs.Map.{Plan, darts, dartCountFits}
 use Rattle.model.specs.Traversal.{Letter, down, up, first, second, opens}
 use Rattle.model.proofs.Booleans.{not-left}
 use Rattle.orbits.specs.Chord.{Nested}
-use Rattle.orbits.specs.Stack.{Kind, flat, open′, kind, kindOf, push, stack, keep, pending}
+use Rattle.orbits.specs.Stack.{Kind, flat, open′, kind, kindOf, push, stack, pending}
 use Rattle.orbits.proofs.Stack.{kind-open, kind-flat, stack-pending, stack-top, stack-end}
 use Rattle.words.specs.Toured.{letterOf, mateOf, fellow, isTree, Toured, Bracketed}
 use Rattle.words.proofs.Letters.{tree-fellow}
@@ -36,7 +30,7 @@ abbrev pub Brackets : (Letter → Bool) → Plan → Type 0
 Brackets part p = (i x : ℕ) → i < darts p → part (letterOf p i) ≡ true → opening p i ≡ true → i < x → x < mateOf p i
     → part (letterOf p x) ≡ true → (i < mateOf p x) × (mateOf p x < mateOf p i)
 
-pub down-only : (l : Letter) → isTree l ≡ true → opens l ≡ true → l ≡ down
+down-only : (l : Letter) → isTree l ≡ true → opens l ≡ true → l ≡ down
 down-only down e o = refl
 down-only up e o = absurd (false≢true o)
 down-only first e o = absurd (false≢true e)
@@ -110,10 +104,6 @@ openTrees p i = held isTree p i
 abbrev pub openChords : Plan → ℕ → List ℕ
 openChords p i = held isChord p i
 
-pub trees-start : (p : Plan) → openTrees p 0 ≡ []
-unfolding held stack
-trees-start p = refl
-
 module _ (p : Plan) (t : Toured p) (b : Bracketed p) (fits : dartCountFits (darts p) ≡ true) where
   trees-stay : (i : ℕ) → isTree (letterOf p i) ≡ false → openTrees p (suc i) ≡ openTrees p i
   trees-stay = held-stays isTree tree-fellow p t fits (tree-brackets p b)
@@ -148,33 +138,3 @@ module _ (p : Plan) (t : Toured p) (b : Bracketed p) (fits : dartCountFits (dart
 
   pub trees-pending : (i : ℕ) → i ≤ darts p → openTrees p i ≡ pending (matching isTree p) i i
   trees-pending = held-pending isTree tree-fellow p t fits (tree-brackets p b)
-
--- ---- pending positions and position 0
-
--- below 0 nothing is pending
-pub pending-zero : (μ : ℕ → ℕ) (i j : ℕ) (s : List ℕ) → pending μ i j ≡ 0 ∷ s → s ≡ []
-unfolding pending
-pending-zero μ i zero s e = let z : _≡_ {A = ℕ} 0 1 = cc in absurd (omega arith)
-pending-zero μ i (suc a) s e = go (leb i (μ a)) e (pending-zero μ i a s)
-  where
-    go : (b : Bool) → keep b a (pending μ i a) ≡ 0 ∷ s → (pending μ i a ≡ 0 ∷ s → s ≡ []) → s ≡ []
-    go true f ih =
-        let z : a ≡ 0 = cc in
-        let r : pending μ i a ≡ s = cc in
-        sym r ∙ ap (pending μ i) z
-    go false f ih = ih f
-
--- where 0 is pending, something is
-pub pending-has : (μ : ℕ → ℕ) (i j : ℕ) → i ≤ μ 0 → 0 < j → pending μ i j ≡ [] → ⊥
-unfolding pending
-pending-has μ i zero h l e = not-suc-le-zero l
-pending-has μ i (suc zero) h l e = go (leb i (μ 0)) (le-leb i (μ 0) h) e
-  where
-    go : (b : Bool) → b ≡ true → keep b 0 (pending μ i 0) ≡ [] → ⊥
-    go true o f = let z : _≡_ {A = ℕ} 0 1 = cc in omega arith
-    go false o f = false≢true o
-pending-has μ i (suc (suc a)) h l e = go (leb i (μ (suc a))) e (pending-has μ i (suc a) h (omega arith))
-  where
-    go : (b : Bool) → keep b (suc a) (pending μ i (suc a)) ≡ [] → (pending μ i (suc a) ≡ [] → ⊥) → ⊥
-    go true f ih = let z : _≡_ {A = ℕ} 0 1 = cc in omega arith
-    go false f ih = ih f

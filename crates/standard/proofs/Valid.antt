@@ -14,7 +14,7 @@ use Rattle.words.specs.Toured.{letterOf, mateOf, Toured, Bracketed}
 use Rattle.words.specs.Entered.{enteredAt}
 use Rattle.words.proofs.Positions.{word-length}
 use Rattle.standard.proofs.Nesting.{word-nested}
-use Rattle.standard.proofs.DegreeOne.{degree-one-word}
+use Rattle.standard.proofs.DeadEnds.{dead-end-word}
 
 module _ (p : Plan) (t : Toured p) (b : Bracketed p)
     (descends : (j : ℕ) → j < darts p → letterOf p j ≡ second → enteredAt p j < enteredAt p (mateOf p j)) where
@@ -23,4 +23,4 @@ module _ (p : Plan) (t : Toured p) (b : Bracketed p)
   word-valid k e =
       let parts = fit-parts k p e in
       both (parts .kind) (both (ap dartCountFits (word-length p t) ∙ parts .count) (both (word-nested p t b (parts .count) descends)
-      (ap (λ (c : Bool). not (eqb k 1 && c)) (degree-one-word p t b (parts .count)) ∙ ap not (parts .degrees))))
+      (ap (λ (c : Bool). not (eqb k 1 && c)) (dead-end-word p t b (parts .count)) ∙ ap not (parts .degrees))))

@@ -5,13 +5,13 @@
 --   lists b n          all lists of n numbers below b
 --   one r              1 for a word, 0 for none
 --   readWith, readAll  how many of some labels are read with these bits; with some bits
---   readable k b m     how many pairs of 2m tree bits and m labels below b are read in kind k
---   counts             in kind 1, with labels below 2, none, 1 and 2; in kind 2, with labels below 3, 1, 3 and 13
+--   readable b m       how many pairs of 2m tree bits and m labels below b are read
+--   counts             none, 1 and 3 with labels below 2, as in kind 1; 1, 3 and 13 with labels below 3, as in kind 2
 --   label-left         with a label more than edges nothing is read
 use Prim.Native.Nat.{ℕ, zero, suc, _+_, _*_}
 use mathlib.Core.Path.{_≡_, refl}
 use mathlib.Core.List.{List, [], _∷_, _++_, map}
-use Rattle.words.specs.Word.{Found, found, none, rootDegree, closeEdge, finish, goUp, goDown, readBit, turn, decode, start, decodeWord}
+use Rattle.words.specs.Word.{Found, found, none, closeEdge, finish, goUp, goDown, readBit, turn, decode, start, decodeWord}
 
 unfoldable pub countdown : ℕ → List ℕ
 countdown zero = []
@@ -29,22 +29,22 @@ unfoldable pub one : Found → ℕ
 one none = 0
 one (found w) = 1
 
-unfoldable pub readWith : ℕ → List ℕ → List (List ℕ) → ℕ
-readWith k bits [] = 0
-readWith k bits (labels ∷ rest) = one (decodeWord k bits labels) + readWith k bits rest
+unfoldable pub readWith : List ℕ → List (List ℕ) → ℕ
+readWith bits [] = 0
+readWith bits (labels ∷ rest) = one (decodeWord bits labels) + readWith bits rest
 
-unfoldable pub readAll : ℕ → List (List ℕ) → List (List ℕ) → ℕ
-readAll k [] labels = 0
-readAll k (bits ∷ rest) labels = readWith k bits labels + readAll k rest labels
+unfoldable pub readAll : List (List ℕ) → List (List ℕ) → ℕ
+readAll [] labels = 0
+readAll (bits ∷ rest) labels = readWith bits labels + readAll rest labels
 
-unfoldable pub readable : ℕ → ℕ → ℕ → ℕ
-readable k b m = readAll k (lists 2 (2 * m)) (lists b m)
+unfoldable pub readable : ℕ → ℕ → ℕ
+readable b m = readAll (lists 2 (2 * m)) (lists b m)
 
-pub counts : map (readable 1 2) (1 ∷ 2 ∷ 3 ∷ []) ++ map (readable 2 3) (1 ∷ 2 ∷ 3 ∷ []) ≡ 0 ∷ 1 ∷ 2 ∷ 1 ∷ 3 ∷ 13 ∷ []
-unfolding readable readAll readWith one lists prefixed countdown decodeWord start decode turn readBit goDown goUp finish closeEdge rootDegree
+pub counts : map (readable 2) (1 ∷ 2 ∷ 3 ∷ []) ++ map (readable 3) (1 ∷ 2 ∷ 3 ∷ []) ≡ 0 ∷ 1 ∷ 3 ∷ 1 ∷ 3 ∷ 13 ∷ []
+unfolding readable readAll readWith one lists prefixed countdown decodeWord start decode turn readBit goDown goUp finish closeEdge
 counts = refl
 
 -- one star, and a label that no edge takes
-pub label-left : decodeWord 2 (1 ∷ 0 ∷ []) (2 ∷ 0 ∷ []) ≡ none
+pub label-left : decodeWord (1 ∷ 0 ∷ []) (2 ∷ 0 ∷ []) ≡ none
 unfolding decodeWord start decode turn readBit goDown finish
 label-left = refl

@@ -4,7 +4,6 @@
 --                         `opens` the vertices where edges outside the tree are open, the last opened first
 --   startsUp w            w begins with up
 --   bareLeaf w            some vertex but the root has degree one: a down stands right before an up
---   rootDegree n w        how many darts the root has, where the traversal stands n tree edges below it; `atRoot` counts one there, `pred n` is n - 1
 --   valid k w             w is the word of a plan that is fit for kind k
 --   startsSecond w        1 if w begins with second, else 0
 --   head, tail            the first entry of a list, 0 if there is none; the others
@@ -26,8 +25,7 @@
 --   follow go t           the letters of the turn t before the word that `go` reads from there on
 --   decode f s            the word that the machine reads in at most f turns
 --   start bits labels     the state at the beginning
---   checkRoot k r         what is found, unless the root has degree one in kind 1
---   decodeWord k          the word for the tree bits and labels of kind k
+--   decodeWord            the word for these tree bits and labels
 use Prim.Native.Nat.{ℕ, zero, suc, _+_, _*_}
 use mathlib.Core.Bool.{Bool, true, false, not, _&&_, _||_, cond}
 use mathlib.Core.List.{List, [], _∷_, _++_}
@@ -65,25 +63,8 @@ bareLeaf (up ∷ w) = bareLeaf w
 bareLeaf (first ∷ w) = bareLeaf w
 bareLeaf (second ∷ w) = bareLeaf w
 
--- one more where the traversal stands at the root
-abbrev pub atRoot : ℕ → ℕ → ℕ
-atRoot zero c = suc c
-atRoot (suc n) c = c
-
-abbrev pub pred : ℕ → ℕ
-pred zero = zero
-pred (suc n) = n
-
-unfoldable pub rootDegree : ℕ → List Letter → ℕ
-rootDegree n [] = 0
-rootDegree n (down ∷ w) = atRoot n (rootDegree (suc n) w)
-rootDegree n (up ∷ w) = rootDegree (pred n) w
-rootDegree n (first ∷ w) = atRoot n (rootDegree n w)
-rootDegree n (second ∷ w) = atRoot n (rootDegree n w)
-
 unfoldable pub valid : ℕ → List Letter → Bool
-valid k w =
-    isKind k && (dartCountFits (length w) && (nested 1 0 [] [] w && not (eqb k 1 && (bareLeaf w || eqb (rootDegree 0 w) 1))))
+valid k w = isKind k && (dartCountFits (length w) && (nested 1 0 [] [] w && not (eqb k 1 && bareLeaf w)))
 
 -- ---- labels and bits
 
@@ -313,10 +294,5 @@ start bits labels = record {
   labels = labels;
 }
 
--- in kind 1 the root has not degree one
-abbrev pub checkRoot : ℕ → Found → Found
-checkRoot k none = none
-checkRoot k (found w) = cond (eqb k 1 && eqb (rootDegree 0 w) 1) none (found w)
-
-unfoldable pub decodeWord : ℕ → List ℕ → List ℕ → Found
-decodeWord k bits labels = checkRoot k (decode (suc (length bits)) (start bits labels))
+unfoldable pub decodeWord : List ℕ → List ℕ → Found
+decodeWord bits labels = decode (suc (length bits)) (start bits labels)

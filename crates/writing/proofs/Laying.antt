@@ -5,19 +5,18 @@
 --   laid                 what they leave
 use Prim.Native.Nat.{ℕ, _*_, _/_, _%_, _≤_, _<_}
 use native.Mathlib.Omega.{arith}
-use mathlib.Core.Path.{_≡_, ap, subst, _∙_}
-use mathlib.Core.Bool.{true, false, not, _&&_, _||_}
-use mathlib.Core.List.{List, []}
-use lib.Dec.{eqb}
+use mathlib.Core.Path.{_≡_, refl, ap, subst, _∙_}
+use mathlib.Core.Bool.{true, false, false≢true}
+use mathlib.Core.List.{List}
 use lib.ListN.{length}
 use Rattle.model.specs.Numbers.{allBelow}
-use Rattle.model.specs.Map.{isKind, dartCountFits}
+use Rattle.model.specs.Map.{isKind}
 use Rattle.model.specs.Traversal.{Letter}
 use Rattle.model.specs.Record.{recordLength, labelBase, layOut}
 use Rattle.model.specs.Calls.{front}
-use Rattle.model.proofs.Booleans.{and-left, and-right}
 use Rattle.model.proofs.Fitness.{count-parts}
-use Rattle.words.specs.Word.{nested, bareLeaf, rootDegree, valid, wordLabels}
+use Rattle.words.specs.Word.{valid}
+use Rattle.words.proofs.Validity.{valid-fits, valid-nested, valid-of}
 use Rattle.decoding.proofs.Sizes.{labels-bound}
 use Rattle.decoding.proofs.Bounds.{bits-below}
 use Rattle.letters.proofs.Word.{length-letters}
@@ -27,14 +26,8 @@ use Rattle.laying.specs.Laying.{LaidOut}
 use Rattle.writing.specs.Early.{Ready, Recorded}
 
 pub valid-two : (k : ℕ) (v : List Letter) → valid k v ≡ true → valid 2 v ≡ true
-unfolding valid isKind
-valid-two k v e =
-    let r = and-right (isKind k) (dartCountFits (length v) && (nested 1 0 [] [] v && not (eqb k 1 && (bareLeaf v || eqb (rootDegree 0 v) 1)))) e in
-    let s = and-right (dartCountFits (length v)) (nested 1 0 [] [] v && not (eqb k 1 && (bareLeaf v || eqb (rootDegree 0 v) 1))) r in
-    rw (
-      and-left (dartCountFits (length v)) (nested 1 0 [] [] v && not (eqb k 1 && (bareLeaf v || eqb (rootDegree 0 v) 1))) r,
-      and-left (nested 1 0 [] [] v) (not (eqb k 1 && (bareLeaf v || eqb (rootDegree 0 v) 1))) s,
-    )
+unfolding isKind
+valid-two k v e = valid-of 2 v refl (valid-fits k v e) (valid-nested k v e) (λ one. absurd (false≢true one))
 
 module _ (n k : ℕ) (w out : List ℕ) (r : Ready n k w out) where
   size : length (lettersIn n w) ≡ n
@@ -44,10 +37,8 @@ module _ (n k : ℕ) (w out : List ℕ) (r : Ready n k w out) where
   v = lettersIn n w
 
   counts : (0 < n) × (n % 2 ≡ 0) × (n ≤ 8192)
-  unfolding valid
   counts =
-      let e = and-right (isKind k) (dartCountFits (length v) && (nested 1 0 [] [] v && not (eqb k 1 && (bareLeaf v || eqb (rootDegree 0 v) 1)))) (r .proper) in
-      let c = count-parts (length v) (and-left (dartCountFits (length v)) (nested 1 0 [] [] v && not (eqb k 1 && (bareLeaf v || eqb (rootDegree 0 v) 1))) e) in
+      let c = count-parts (length v) (valid-fits k v (r .proper)) in
       let s = size in
       (omega arith, subst (λ (m : ℕ). m % 2 ≡ 0) s (c .1), omega arith)
 

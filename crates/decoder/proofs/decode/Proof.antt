@@ -48,7 +48,7 @@ run-requires c κs =
     let s = c .before .before .before .before .before .before .before .spread in
     let k = s .kept .1 .1 .1 .0 in
     let h = p .1 in
-    (p .0, cleared _ _ _ _ (omega arith) (s .ensures) (c .before .before .before .fill .ensures))
+    ((p .0 .0, p .0 .2), cleared _ _ _ _ (omega arith) (s .ensures) (c .before .before .before .fill .ensures))
 
 same-length : tie.Need-same-length
 same-length c = search needs

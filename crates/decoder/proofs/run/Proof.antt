@@ -1,11 +1,13 @@
 -- `run`: the machine from its start until it is done or stuck. Assumes nothing.
-use Prim.Native.Nat.{ℕ, _+_, _-_}
+use Prim.Native.Nat.{ℕ, _+_, _-_, _<_}
 use native.Mathlib.Omega.{arith}
-use mathlib.Core.Path.{ap, _∙_}
+use mathlib.Core.Path.{_≡_, refl, ap, _∙_}
+use mathlib.Core.Bool.{true}
 use mathlib.Core.List.{List}
-use lib.ListN.{length, set}
+use lib.ListN.{length, set, length-set}
+use Rattle.model.specs.Shelf.{kindOf, edgesOf, passes}
 use Rattle.packing.specs.Unlay.{bitsIn, labelsIn}
-use Rattle.coding.proofs.Roots.{root-read}
+use Rattle.unpacker.specs.Unpacked.{Head}
 use Rattle.unpacker.proofs.Payload.{sizes}
 use Rattle.decoder.specs.States.{Moved}
 use Rattle.decoder.proofs.Runs.{Running, running-start, running-on, running-less, turned-goes, turned-done, turned-stuck}
@@ -15,10 +17,14 @@ use Rattle.decoder.proofs.run.Statement.{statement}
 use Rattle.decoder.proofs.run.Tie as tie
 
 abbrev Inv-loop : tie.InvT-loop
-Inv-loop bytes kind m w₀ s₀ c₀ w s c = Running m (bitsIn bytes) (labelsIn bytes) w₀ w s c
+Inv-loop bytes m w₀ s₀ c₀ w s c = Running m (bitsIn bytes) (labelsIn bytes) w₀ w s c
 
 abbrev μ-loop : tie.MeasureT-loop
-μ-loop bytes kind m w₀ s₀ c₀ w s c = length (bitsIn bytes) - c .bits + s .opens
+μ-loop bytes m w₀ s₀ c₀ w s c = length (bitsIn bytes) - c .bits + s .opens
+
+-- the kind is not looked at
+headed : (r : List ℕ) (m : ℕ) → (passes r ≡ true) × (m ≡ edgesOf r) → Head r (kindOf r) m
+headed r m h = (h .0, refl, h .1)
 
 moved : (c : tie.After-known-told Inv-loop μ-loop) →
     let a = c .before .before .before .before .before .before .before .before .before .before .args in
@@ -34,11 +40,11 @@ moved c =
 loop-holds : tie.Need-loop-holds Inv-loop μ-loop
 loop-holds c =
     let p = c .before .before .pre in
-    let z = sizes _ _ _ (p .0) in
+    let z = sizes _ _ _ (headed _ _ (p .0)) in
     running-start _ _ _ _ (z .some-edge) (z .few-edges) (p .1 .0) (p .1 .1)
 
 turn-requires : tie.Need-turn-requires Inv-loop μ-loop
-turn-requires c κs = let h = c .before .before .before .before .pre .0 in ((h .0, h .2), c .before .loop .inv .fits)
+turn-requires c κs = let h = c .before .before .before .before .pre .0 in (h, c .before .loop .inv .fits)
 
 enum-known-t : tie.Need-enum-known-t Inv-loop μ-loop
 enum-known-t c = search needs
@@ -52,26 +58,34 @@ loop-again c = running-on _ _ _ _ _ _ _ (c .before .before .before .before .befo
 enum-told : tie.Need-enum-told Inv-loop μ-loop
 enum-told c = search needs
 
-finish-requires : tie.Need-finish-requires Inv-loop μ-loop
-finish-requires c κs =
-    let g = c .before .before .before .before .before .before .before .loop .inv .fits .stands in
+-- the place that waits for dart 0 is in the work area
+place-in : (c : tie.After-enum-told Inv-loop μ-loop) →
+    c .before .before .before .before .before .before .loop .s .place < length (c .before .before .before .before .turn .last .1 .1 .0)
+place-in c =
+    let g = c .before .before .before .before .before .before .loop .inv .fits .stands in
     let p = g .place-in in let r = g .room in
-    let k = c .before .before .before .before .before .turn .kept .1 .1 .0 in
+    let k = c .before .before .before .before .turn .kept .1 .1 .0 in
     omega arith
 
+mul-w : tie.Need-mul-w Inv-loop μ-loop
+mul-w c = let f = place-in c in omega arith
+
+slice-write-w : tie.Need-slice-write-w Inv-loop μ-loop
+slice-write-w c = place-in c
+
 same-length : tie.Need-same-length Inv-loop μ-loop
-same-length c = search needs
+same-length c =
+    let at = c .before .before .before .before .before .before .loop in
+    simp length-set (c .before .before .before .before .turn .kept .1 .1 .0 ∙ at .inv .kept)
 
 returns : tie.Need-returns Inv-loop μ-loop
 returns c =
-    let p = c .before .before .before .before .before .before .before .before .before .before .before .before .before .pre in
-    let v = c .before .before .before .before .before .before .before .before .turn in
-    let at = c .before .before .before .before .before .before .before .before .before .before .loop in
+    let p = c .before .before .before .before .before .before .before .before .before .pre in
+    let v = c .before .before .before .before .turn in
+    let at = c .before .before .before .before .before .before .loop in
     let i = at .inv in
-    let d = turned-done _ _ _ _ _ _ (v .result) _ (i .labelled) (v .ensures) (c .before .before .before .before .enum-told .given .1) in
-    let f = c .before .before .finish .ensures in
-    answer-done _ _ _ _ _ _ _ i _ _ (sizes _ _ _ (p .0) .bit-count) (p .1 .2) (root-read _ (p .0 .0)) (d .0)
-    (f .0 ∙ ap (λ (x : List ℕ). set x (at .s .place) 0) (d .1)) _ (f .1)
+    let d = turned-done _ _ _ _ _ _ (v .result) _ (i .labelled) (v .ensures) (c .enum-told .given .1) in
+    answer-done _ _ _ _ _ _ _ i _ (sizes _ _ _ (headed _ _ (p .0)) .bit-count) (p .1 .2) (d .0) (ap (λ (x : List ℕ). set x (at .s .place) 0) (d .1))
 
 enum-told-2 : tie.Need-enum-told-2 Inv-loop μ-loop
 enum-told-2 c = search needs
@@ -84,7 +98,7 @@ returns-2 c =
     let v = c .before .before .before .before .turn in
     let i = c .before .before .before .before .before .before .loop .inv in
     let d = turned-stuck _ _ _ _ _ _ (v .result) _ (i .labelled) (v .ensures) (c .enum-told2 .given .1) in
-    answer-stuck _ _ _ _ _ _ _ i _ _ (d .0) (d .1)
+    answer-stuck _ _ _ _ _ _ _ i _ (d .0) (d .1)
 
 pub run-spec : {M : Type 1} → statement M
 run-spec =
@@ -98,7 +112,8 @@ run-spec =
     loop-less
     loop-again
     enum-told
-    finish-requires
+    mul-w
+    slice-write-w
     same-length
     returns
     enum-told-2

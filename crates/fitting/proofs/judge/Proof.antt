@@ -48,10 +48,12 @@ local-requires : tie.Need-local-requires
 local-requires c κs = let st = c .before .before .before .before .before .before .before .before .before .before .before .before .before .before in
     let s = c .before .before .before .before .before .before .before .before .before .before .walked in
     let l = c .before .before .before .before .before .label in (
-      st .pre .0,
-      room-local _ (st .args .w .now) (s .last .1 .1 .0) (l .last .1 .1 .0) (s .kept .1 .1 .0) (l .kept .1 .1 .0) (st .pre .3),
-      still-named (st .args .kind) _ (st .pre .0) (st .pre .2) (st .pre .1) (st .args .w .now) (s .result) _ (st .pre .3) (s .ensures)
-          (c .before .before .before .before .before .before .before .if1 .left) (l .result) _ (l .ensures),
+      (st .pre .0, st .pre .1, st .pre .2),
+      (
+        room-local _ (st .args .w .now) (s .last .1 .1 .0) (l .last .1 .1 .0) (s .kept .1 .1 .0) (l .kept .1 .1 .0) (st .pre .3),
+        still-named (st .args .kind) _ (st .pre .0) (st .pre .2) (st .pre .1) (st .args .w .now) (s .result) _ (st .pre .3) (s .ensures)
+            (c .before .before .before .before .before .before .before .if1 .left) (l .result) _ (l .ensures),
+      ),
     )
 
 same-length-3 : tie.Need-same-length-3

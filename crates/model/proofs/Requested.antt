@@ -1,0 +1,31 @@
+-- The lines of document 02's requests that have landed: a proof over this table shows that the definitions yield them.
+--
+--   requested            the lines, request by request
+--   requested-hold       the definitions yield every line
+use mathlib.Core.List.{List, [], _∷_}
+use lib.Dec.{T}
+use Rattle.model.specs.Numbers.{count, some, elem, distinct, allBelow, isPermutation, position, least, cycles, firstRefusal}
+use Rattle.model.specs.Map.{opposite, next, vertexOf, faceNext, edges, vertices, faces, degreeOne, spread, spreads, reached, connected, characteristic, planar, hasLoop, hasDeadEnd, isKind, dartCountFits, degreeRefused}
+use Rattle.model.specs.Traversal.{letterAt, onward, seenAfter, walk, visits}
+use Rattle.model.specs.LabelledTree.{codesOf, codes, unlabelled, isUpper, gone, before, labelOne, removeCut, takeLeaf, takeOne, takeLeaves, treeLabels, labelOf, bitsOf, along, labels, treeBits}
+use Rattle.model.specs.Record.{digitsFrom, pack, le16, recordLength, payload, layOut, recordOf}
+use Rattle.model.specs.Shelf.{same}
+use Rattle.model.specs.Calls.{front, earlyRefusals, lateRefusals, writeRefusal, writeAnswer, writtenOutput}
+use Rattle.model.proofs.Line.{Writes, record-is, refused, answer, output, writes, refuses, agrees, holds, allHold}
+
+-- (a) "Order 0 2 5 4 3 1, start 0, is then 08 00 01 00 03 00 E1 00": from any other start its dead end is not the start's. One trail has two dead ends.
+unfoldable pub requested : List Writes
+requested =
+    record { kind = 1; root = 0; rotation = 0 ∷ 2 ∷ 5 ∷ 4 ∷ 3 ∷ 1 ∷ []; says = record-is (0x08 ∷ 0x00 ∷ 0x01 ∷ 0x00 ∷ 0x03 ∷ 0x00 ∷ 0xE1 ∷ 0x00 ∷ []) }
+    ∷ record { kind = 1; root = 1; rotation = 0 ∷ 2 ∷ 5 ∷ 4 ∷ 3 ∷ 1 ∷ []; says = refused 12 }
+    ∷ record { kind = 1; root = 2; rotation = 0 ∷ 2 ∷ 5 ∷ 4 ∷ 3 ∷ 1 ∷ []; says = refused 12 }
+    ∷ record { kind = 1; root = 3; rotation = 0 ∷ 2 ∷ 5 ∷ 4 ∷ 3 ∷ 1 ∷ []; says = refused 12 }
+    ∷ record { kind = 1; root = 4; rotation = 0 ∷ 2 ∷ 5 ∷ 4 ∷ 3 ∷ 1 ∷ []; says = refused 12 }
+    ∷ record { kind = 1; root = 5; rotation = 0 ∷ 2 ∷ 5 ∷ 4 ∷ 3 ∷ 1 ∷ []; says = refused 12 }
+    ∷ record { kind = 1; root = 0; rotation = 0 ∷ 1 ∷ []; says = refused 12 }
+    ∷ record { kind = 1; root = 1; rotation = 0 ∷ 1 ∷ []; says = refused 12 }
+    ∷ []
+
+pub requested-hold : T (allHold requested)
+unfolding requested allHold holds agrees writes refuses answer output writeAnswer writtenOutput front writeRefusal earlyRefusals lateRefusals firstRefusal isKind dartCountFits isPermutation allBelow distinct elem edges recordLength connected some reached spreads spread opposite next planar characteristic vertices faces cycles count least faceNext hasLoop vertexOf degreeRefused hasDeadEnd degreeOne same recordOf layOut le16 payload pack digitsFrom treeBits labels along bitsOf labelOf treeLabels takeLeaves takeOne takeLeaf removeCut labelOne before gone isUpper unlabelled codes codesOf position visits walk letterAt onward seenAfter
+requested-hold = tt
