@@ -1,5 +1,5 @@
-// Writes the plans that document 01 leaves to a run, plans at its limits and plans that are refused, and prints each answer on a line: the refusal, or the
-// record's length and its bytes, of a long record a checksum. The file stdout has what it must write; tests/cases.py holds it to the second coder.
+// Writes the plans that documents 01 and 02 leave to a run, plans at their limits and plans that are refused, and prints each answer on a line: the
+// refusal, or the record's length and its bytes, of a long record a checksum. The file stdout has what it must write; tests/cases.py holds it to the second coder.
 ghost use Prim.Native.Nat.{_≤_, _<_};
 ghost use lib.ListN.{length};
 use model::Written;
@@ -181,8 +181,20 @@ fn large() {
     one(b"star of 4096 trails", &order, 0, 2, 131072, 1850);
 }
 
+// The car-park spur, from each of its starts.
+fn spur() {
+    let order = [0u16, 2, 5, 4, 3, 1];
+    one(b"order 0 2 5 4 3 1", &order, 0, 1, 96, 1850);
+    one(b"order 0 2 5 4 3 1, start 1", &order, 1, 1, 96, 1850);
+    one(b"order 0 2 5 4 3 1, start 2", &order, 2, 1, 96, 1850);
+    one(b"order 0 2 5 4 3 1, start 3", &order, 3, 1, 96, 1850);
+    one(b"order 0 2 5 4 3 1, start 4", &order, 4, 1, 96, 1850);
+    one(b"order 0 2 5 4 3 1, start 5", &order, 5, 1, 96, 1850);
+}
+
 fn main() {
     small();
+    spur();
     refused();
     short();
     counts();

@@ -80,6 +80,10 @@ vectors =
     ∷ record { kind = 2; root = 6; rotation = 4 ∷ 2 ∷ 0 ∷ 7 ∷ 6 ∷ 3 ∷ 0 ∷ 5 ∷ []; says = refused 6 }
     ∷ record { kind = 1; root = 4; rotation = 8 ∷ 4 ∷ 9 ∷ 5 ∷ 0 ∷ 7 ∷ 1 ∷ 2 ∷ 3 ∷ 6 ∷ []; says = not-planar (negsuc 1) }
     ∷ record { kind = 1; root = 7; rotation = 2 ∷ 7 ∷ 4 ∷ 6 ∷ 9 ∷ 8 ∷ 5 ∷ 1 ∷ 3 ∷ []; says = refused 3 }
+    ∷ record { kind = 1; root = 6; rotation = 4 ∷ 3 ∷ 5 ∷ 1 ∷ 0 ∷ 7 ∷ 6 ∷ 2 ∷ []; says = standard-is (8 ∷ 0 ∷ 1 ∷ 0 ∷ 4 ∷ 0 ∷ 240 ∷ 64 ∷ []) (0 ∷ 2 ∷ 7 ∷ 4 ∷ 3 ∷ 6 ∷ 5 ∷ 1 ∷ []) }
+    ∷ record { kind = 1; root = 3; rotation = 9 ∷ 4 ∷ 8 ∷ 3 ∷ 7 ∷ 0 ∷ 5 ∷ 2 ∷ 1 ∷ 6 ∷ []; says = standard-is (8 ∷ 0 ∷ 1 ∷ 0 ∷ 5 ∷ 0 ∷ 234 ∷ 22 ∷ []) (0 ∷ 2 ∷ 9 ∷ 4 ∷ 6 ∷ 1 ∷ 8 ∷ 5 ∷ 3 ∷ 7 ∷ []) }
+    ∷ record { kind = 1; root = 9; rotation = 7 ∷ 4 ∷ 5 ∷ 6 ∷ 8 ∷ 2 ∷ 1 ∷ 0 ∷ 3 ∷ 9 ∷ []; says = standard-is (8 ∷ 0 ∷ 1 ∷ 0 ∷ 5 ∷ 0 ∷ 230 ∷ 6 ∷ []) (0 ∷ 2 ∷ 6 ∷ 4 ∷ 3 ∷ 1 ∷ 9 ∷ 8 ∷ 7 ∷ 5 ∷ []) }
+    ∷ record { kind = 1; root = 2; rotation = 6 ∷ 1 ∷ 2 ∷ 7 ∷ 3 ∷ 5 ∷ 0 ∷ 4 ∷ []; says = refused 12 }
     ∷ []
 
 pub vectors-hold : T (allHold vectors)
