@@ -53,9 +53,9 @@ extern "C" {
 /* ---- Version ---------------------------------------------------------------------- */
 
 #define JURNADEL_VERSION_MAJOR 0
-#define JURNADEL_VERSION_MINOR 2
+#define JURNADEL_VERSION_MINOR 3
 #define JURNADEL_VERSION_PATCH 0
-#define JURNADEL_VERSION "0.2.0"
+#define JURNADEL_VERSION "0.3.0"
 
 /* ---- Sizes ------------------------------------------------------------------------ */
 
@@ -103,7 +103,7 @@ enum {
     JURNADEL_NOT_CONNECTED = 9,   /* The plan is not connected. */
     JURNADEL_NOT_PLANAR = 10,     /* It is not planar; this answer also gives the characteristic, as a signed number. */
     JURNADEL_HAS_LOOP = 11,       /* It has a loop. */
-    JURNADEL_HAS_DEGREE_ONE = 12, /* Kind 1, and a junction has degree one. */
+    JURNADEL_HAS_DEGREE_ONE = 12, /* Kind 1, and a junction other than the start's has degree one. */
     JURNADEL_NO_FIT_PLAN = 13,    /* No fit plan of this kind has this record. */
     JURNADEL_SHELF_BROKEN = 14,   /* The used length exceeds the shelf, or the used bytes are not records end to end that each pass 1, 2, 3 and 5. */
     JURNADEL_NO_SUCH_RECORD = 15, /* The shelf holds no record with this number, counting from 0. */
@@ -117,7 +117,7 @@ enum {
  *
  *   order, darts         the turning order, darts = 2m entries
  *   start                the start dart
- *   kind                 1: no loop, no junction of degree one; 2: no loop
+ *   kind                 1: no loop, no junction of degree one but the start's; 2: no loop
  *   work, work_len       JURNADEL_WORK_LEN(m) numbers or more, any content; zeros on return
  *   output, output_len   JURNADEL_RECORD_LEN(kind, m) bytes or more; the first *length are filled
  *   length               the record's length; 0 if refused

@@ -1,4 +1,4 @@
-/* Writes three plans, reads one back, shelves them, fetches one and walks the shelf.
+/* Writes plans, reads one back, shelves them, fetches one and walks the shelf.
    Memory: three lent buffers, sized by the header's macros for plans of at most 8 trails. */
 #include "jurnadel.h"
 #include <stdio.h>
@@ -22,6 +22,7 @@ int main(void) {
         {"three parallel trails", 1, 6, {5, 2, 4, 0, 1, 3}},
         {"dead end inside a pair", 2, 6, {4, 2, 1, 0, 3, 5}},
         {"triangle, numbered otherwise", 1, 6, {3, 4, 5, 0, 1, 2}},
+        {"one trail in from the start", 1, 6, {0, 2, 5, 4, 3, 1}},
         {"trails that cross", 2, 6, {3, 2, 4, 5, 1, 0}},
     };
     size_t used = 0, number, at, length;

@@ -1,4 +1,4 @@
-/* Every exported call, through the header as a C compiler sees it: the starred table of document 01, one case of each
+/* Every exported call, through the header as a C compiler sees it: the records that the documents give, one case of each
    refusal, the out-numbers that are set and the entries that are not. Prints each check that fails. */
 #include "jurnadel.h"
 #include <stdio.h>
@@ -52,7 +52,8 @@ static uint16_t refusal_of(const uint16_t *rotation, size_t darts, uint16_t star
     return refusal;
 }
 
-static void starred(void) {
+/* The starred table of document 01, and the lines of document 02. */
+static void records(void) {
     static const struct { uint16_t kind, m, order[6], length; uint8_t record[8]; } table[] = {
         {1, 2, {3, 2, 1, 0}, 7, {0x07, 0, 1, 0, 2, 0, 0xC8}},
         {1, 3, {5, 2, 1, 4, 3, 0}, 8, {0x08, 0, 1, 0, 3, 0, 0xE2, 0x00}},
@@ -62,6 +63,7 @@ static void starred(void) {
         {2, 2, {2, 1, 0, 3}, 8, {0x08, 0, 2, 0, 2, 0, 0xA0, 0xD8}},
         {2, 2, {3, 2, 1, 0}, 8, {0x08, 0, 2, 0, 2, 0, 0xC0, 0x51}},
         {2, 3, {4, 2, 1, 0, 3, 5}, 8, {0x08, 0, 2, 0, 3, 0, 0xCC, 0x12}},
+        {1, 3, {0, 2, 5, 4, 3, 1}, 8, {0x08, 0, 1, 0, 3, 0, 0xE1, 0x00}},
     };
     static uint8_t again[8];
     size_t i;
@@ -80,7 +82,7 @@ static void starred(void) {
 
 static void writing(void) {
     static const uint16_t pair[] = {3, 2, 1, 0}, apart[] = {0, 1, 2, 3}, crossing[] = {3, 2, 4, 5, 1, 0}, ring[] = {1, 0}, stick[] = {0, 1},
-                          twice[] = {3, 3, 1, 0};
+                          twice[] = {3, 3, 1, 0}, spur[] = {0, 2, 5, 4, 3, 1};
     CHECK(refusal_of(pair, 4, 0, 3, 64, 8) == JURNADEL_BAD_KIND);
     CHECK(refusal_of(pair, 3, 0, 1, 64, 8) == JURNADEL_BAD_COUNT);
     CHECK(refusal_of(pair, 0, 0, 1, 64, 8) == JURNADEL_BAD_COUNT);
@@ -92,6 +94,8 @@ static void writing(void) {
     CHECK(refusal_of(crossing, 6, 0, 2, 96, 8) == JURNADEL_NOT_PLANAR && characteristic == 0);
     CHECK(refusal_of(ring, 2, 0, 2, 32, 8) == JURNADEL_HAS_LOOP);
     CHECK(refusal_of(stick, 2, 0, 1, 32, 8) == JURNADEL_HAS_DEGREE_ONE);
+    CHECK(refusal_of(spur, 6, 0, 1, 96, 8) == JURNADEL_DONE);
+    CHECK(refusal_of(spur, 6, 1, 1, 96, 8) == JURNADEL_HAS_DEGREE_ONE);
 }
 
 /* A round of 4,096 trails, the longest plan: dart 2e+1 and dart 2e+2 share a junction. */
@@ -184,7 +188,7 @@ static void version(void) {
 }
 
 int main(void) {
-    starred();
+    records();
     writing();
     longest();
     reading();

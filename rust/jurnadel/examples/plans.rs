@@ -1,4 +1,4 @@
-//! Writes three plans, reads one back, shelves them, fetches one and walks the shelf; prints what `examples/c/plans.c` does.
+//! Writes plans, reads one back, shelves them, fetches one and walks the shelf; prints what `examples/c/plans.c` does.
 
 use jurnadel::{fetch, plan_of, record_of, shelve, walk, Refusal};
 
@@ -7,11 +7,12 @@ fn hex(bytes: &[u8]) -> String {
 }
 
 fn main() -> Result<(), Refusal> {
-    let plans: [(&str, u16, [u16; 6]); 5] = [
+    let plans: [(&str, u16, [u16; 6]); 6] = [
         ("triangle", 1, [5, 2, 1, 4, 3, 0]),
         ("three parallel trails", 1, [5, 2, 4, 0, 1, 3]),
         ("dead end inside a pair", 2, [4, 2, 1, 0, 3, 5]),
         ("triangle, numbered otherwise", 1, [3, 4, 5, 0, 1, 2]),
+        ("one trail in from the start", 1, [0, 2, 5, 4, 3, 1]),
         ("trails that cross", 2, [3, 2, 4, 5, 1, 0]),
     ];
     let mut shelf = [0; 64];

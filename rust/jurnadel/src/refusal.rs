@@ -35,7 +35,7 @@ refusals! {
     NOT_CONNECTED = 9: "The plan is not connected.",
     NOT_PLANAR = 10: "It is not planar.",
     HAS_LOOP = 11: "It has a loop.",
-    HAS_DEGREE_ONE = 12: "Kind 1, and a junction has degree one.",
+    HAS_DEGREE_ONE = 12: "Kind 1, and a junction other than the start's has degree one.",
     NO_FIT_PLAN = 13: "No fit plan of this kind has this record.",
     SHELF_BROKEN = 14: "The used length exceeds the shelf, or the used bytes are not records end to end that each pass 1, 2, 3 and 5.",
     NO_SUCH_RECORD = 15: "The shelf holds no record with this number, counting from 0.",
