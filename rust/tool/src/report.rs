@@ -48,7 +48,7 @@ pub fn in_words(refusal: Refusal) -> String {
         Refusal::NOT_CONNECTED => "the plan is in pieces: some trails cannot be reached from the others",
         Refusal::NOT_PLANAR => "in this turning order the plan cannot be drawn without crossings",
         Refusal::HAS_LOOP => "a trail leads back to the junction that it comes from; no kind takes such a loop",
-        Refusal::HAS_DEGREE_ONE => "the plan has a dead end, which kind 1 doesn't take; kind 2 does",
+        Refusal::HAS_DEGREE_ONE => "the plan has a dead end other than its start, which kind 1 doesn't take; kind 2 does",
         Refusal::NO_FIT_PLAN => "no plan has this record; it may have been damaged",
         Refusal::SHELF_BROKEN => "the shelf is damaged: its bytes are not records end to end",
         Refusal::NO_SUCH_RECORD => "the shelf has no record with this number; numbers count from 0",

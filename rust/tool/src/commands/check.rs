@@ -13,7 +13,8 @@ const HELP: &str = "\
 usage: jurnadel check [--kind KIND] [--files-from LIST] PLAN..
 
 Says of each plan file how many junctions, trails and areas it has, and the kind
-and length of its record: kind 1, or 2 for a plan with a dead end.
+and length of its record: kind 1, or 2 for a plan with a dead end other than its
+start.
 
   --kind KIND         the record in this kind
   --files-from LIST   also the files that LIST names, a line each or

@@ -22,7 +22,8 @@ name. A plan that is refused is reported, and the others are shelved. A SHELF
 that isn't there is made. PLAN is a plan file, or a folder: the .plan files in
 it.
 
-  --kind KIND         1 or 2; else 1, or 2 for a plan with a dead end
+  --kind KIND         1 or 2; else 1, or 2 for a plan with a dead end other than
+                      its start
   --size BYTES        the shelf's whole length; a record that exceeds it is
                       refused (16). Else the shelf grows
   --raw               the files are records, as bytes; of a folder, the .record
@@ -32,8 +33,8 @@ it.
   --progress          say how far the run is, also where standard error is no
                       terminal
 
-A plan that is new in its kind but on the shelf in the other one is reported
-too.
+Without --kind a plan that is on the shelf in whatever kind is already there.
+With it, one that is there in the other kind alone is new, and reported.
 
 What is printed is in the file: the shelf file is replaced, in one step, before
 its numbers are printed. Runs on one shelf wait for each other (SHELF.lock).
@@ -78,23 +79,31 @@ fn run(words: &[Word], report: &mut Report) -> Done {
 /// The number of a record that was put on the shelf or found there, and which of the two.
 type Shelved = Result<(usize, &'static str), Problem>;
 
+const NEW: &str = "new";
+const THERE: &str = "already there";
+
 fn shelve_record(shelf: &mut ShelfFile, file: &Word) -> Shelved {
     let shelved = shelf.shelf.shelve(&bytes_of(file)?);
     let (number, new) = shelved.map_err(|refusal| Problem::refused(file, refusal))?;
-    Ok((number, if new { "new" } else { "already there" }))
+    Ok((number, if new { NEW } else { THERE }))
 }
 
 fn shelve_plan(shelf: &mut ShelfFile, file: &Word, kind: Option<u16>) -> Shelved {
     let plan = Plan::load(file)?;
     let record = plan.record(kind).map_err(|refusal| plan.problem(file, refusal))?;
-    let (number, new) = shelf.shelf.shelve(&record).map_err(|refusal| Problem::refused(file, refusal))?;
-    if !new {
-        return Ok((number, "already there"));
+    if let Some(number) = shelf.shelf.find(&record) {
+        return Ok((number, THERE));
     }
-    for other in KINDS.into_iter().filter(|&other| other != field(&record, 2)) {
-        if let Some(there) = plan.record(Some(other)).ok().and_then(|record| shelf.shelf.find(&record)) {
-            complain(format!("{file}: on the shelf in kind {other} too, as record {there}"));
-        }
+    let others = KINDS.into_iter().filter(|&other| other != field(&record, 2));
+    let found = |other| Some((other, shelf.shelf.find(&plan.record(Some(other)).ok()?)?));
+    let elsewhere: Vec<(u16, usize)> = others.filter_map(found).collect();
+    // The tool's own choice of a kind makes no plan new: an earlier version chose kind 2 for more plans.
+    if let (None, Some(&(_, number))) = (kind, elsewhere.first()) {
+        return Ok((number, THERE));
     }
-    Ok((number, "new"))
+    let (number, _) = shelf.shelf.shelve(&record).map_err(|refusal| Problem::refused(file, refusal))?;
+    for (other, there) in elsewhere {
+        complain(format!("{file}: on the shelf in kind {other} too, as record {there}"));
+    }
+    Ok((number, NEW))
 }

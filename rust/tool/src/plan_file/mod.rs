@@ -141,7 +141,7 @@ impl Plan {
     }
 }
 
-/// Writes a plan in this kind; with none given in kind 1, or in kind 2 where a dead end keeps it from kind 1.
+/// Writes a plan in this kind; with none given in kind 1, or in kind 2 where a dead end other than the start keeps it from kind 1.
 pub fn in_kind<T>(kind: Option<u16>, mut write: impl FnMut(u16) -> Result<T, Refusal>) -> Result<T, Refusal> {
     match kind {
         Some(kind) => write(kind),

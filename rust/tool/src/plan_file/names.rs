@@ -62,7 +62,7 @@ impl Names {
             Refusal::BAD_COUNT => return (self.too_many_or_none(), in_words(refusal)),
             Refusal::NOT_CONNECTED => self.in_pieces(plan),
             Refusal::HAS_LOOP => self.loops(),
-            Refusal::HAS_DEGREE_ONE => self.dead_end(),
+            Refusal::HAS_DEGREE_ONE => self.dead_end(plan),
             _ => None,
         };
         match found {
@@ -97,8 +97,10 @@ impl Names {
         Some((name.line, words))
     }
 
-    fn dead_end(&self) -> Option<Wrong> {
-        let name = &self.junctions.iter().find(|junction| junction.darts.len() == 1)?.name;
+    /// The first junction with one trail that is not the start's.
+    fn dead_end(&self, plan: &Plan) -> Option<Wrong> {
+        let ends = |junction: &&Junction| junction.darts.len() == 1 && junction.darts[0] != usize::from(plan.start);
+        let name = &self.junctions.iter().find(ends)?.name;
         Some((name.line, format!("junction {} is a dead end, which kind 1 doesn't take; kind 2 does", name.shown())))
     }
 }
@@ -129,6 +131,7 @@ mod tests {
         assert_eq!(refusal(None, "A: a b\nB: b d d a\nstart: A b\n"), back);
         let dead = "x:3: junction C is a dead end, which kind 1 doesn't take; kind 2 does (refusal 12)";
         assert_eq!(refusal(Some(1), "A: a b\nB: b a c\nC: c\nstart: A b\n"), dead);
+        assert_eq!(refusal(Some(1), "A: a\nB: a b\nC: b\nstart: A a\n"), dead);
         assert_eq!(
             refusal(Some(3), "A: a\nB: a\nstart: A a\n"),
             "x: there is no such kind of record; the kinds are 1 and 2 (refusal 2)"
