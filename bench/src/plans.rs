@@ -6,16 +6,17 @@ use second_coder::grow::{grow, Growth, Rng, Shape};
 pub type Maker = fn(usize, &mut Rng) -> Growth;
 
 /// What a plan looks like: its name in the table and its maker.
-pub const SHAPES: [(&str, Maker); 6] = [
+pub const SHAPES: [(&str, Maker); 7] = [
     ("tree, few more", tree),
     ("triangles", triangles),
     ("parallel", parallel),
     ("long path", path),
     ("mixed", |m, rng| grow(Shape::Mixed, m, rng)),
     ("two-connected", |m, rng| grow(Shape::TwoConnected, m, rng)),
+    ("spur", spur),
 ];
 
-/// A plan: its turning order, renumbered at random, and the kinds that take it.
+/// A plan: its turning order, renumbered at random, and the kinds that it is timed in. With one dead end it starts there.
 pub struct Plan {
     pub order: Vec<u16>,
     pub start: u16,
@@ -28,10 +29,21 @@ pub fn plan(shape: Maker, m: usize, rng: &mut Rng) -> Plan {
     while growth.trails() < m {
         growth.divide(rng.below(growth.trails()));
     }
-    let kinds: &[u16] = if growth.has_dead_end() { &[2] } else { &[1, 2] };
+    let order = growth.renumbered(rng);
+    let start = rng.below(2 * m) as u16;
+    let ends: Vec<u16> = (0..)
+        .zip(&order)
+        .filter(|(dart, next)| dart == *next)
+        .map(|(dart, _)| dart)
+        .collect();
+    let (start, kinds): (u16, &[u16]) = match ends[..] {
+        [] => (start, &[1, 2]),
+        [end] => (end, &[1]),
+        _ => (start, &[2]),
+    };
     Plan {
-        order: growth.renumbered(rng),
-        start: rng.below(2 * m) as u16,
+        order,
+        start,
         kinds,
     }
 }
@@ -46,6 +58,13 @@ fn tree(m: usize, rng: &mut Rng) -> Growth {
         let reach = 1 + rng.below(20);
         growth.join_on(rng.below(growth.darts()), reach);
     }
+    growth
+}
+
+/// Two-connected, and one trail that leads in.
+fn spur(m: usize, rng: &mut Rng) -> Growth {
+    let mut growth = grow(Shape::TwoConnected, m - 1, rng);
+    growth.hang(rng.below(growth.darts()));
     growth
 }
 
