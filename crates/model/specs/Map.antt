@@ -101,7 +101,7 @@ planar rot = is (characteristic rot) 2
 unfoldable pub hasLoop : List ℕ → Bool
 hasLoop rot = some (λ d. eqb (vertexOf rot d) (vertexOf rot (opposite d))) (length rot)
 
--- "a degree-one junction other than the start's"
+-- document 02 (a): "a degree-one junction other than the start's"
 unfoldable pub hasDeadEnd : Plan → Bool
 hasDeadEnd p =
     some (λ d. degreeOne (p .rotation) d && not (eqb (vertexOf (p .rotation) d) (vertexOf (p .rotation) (p .root)))) (darts p)
@@ -115,7 +115,8 @@ isKind k = eqb k 1 || eqb k 2
 unfoldable pub dartCountFits : ℕ → Bool
 dartCountFits n = ltb 0 n && (eqb (n % 2) 0 && leb n 8192)
 
--- "refusal 12 is given only for a degree-one junction other than the start's"; "Kind 1 takes spur plans". "Kind 2 takes connected planar plans with no loop."
+-- "Kind 1 takes connected planar plans with no loop and no junction of degree one", by document 02 (a) none "other than the start's". "Kind 2 takes
+-- connected planar plans with no loop."
 unfoldable pub degreeRefused : ℕ → Plan → Bool
 degreeRefused k p = eqb k 1 && hasDeadEnd p
 
