@@ -7,13 +7,12 @@
 --   loopAt names d       dart d has the name of its opposite
 --   loop-pair            in a search for loops, a pair of darts that is no loop
 --   even-below, found, none-found   the ways of that search
---   deadEndAt rot root d   dart d is a dead end
 --   dead-end-found, not-alone, root-alone, dead-end-none   the ways of a search for dead ends
 use Prim.Native.Nat.{ℕ, zero, suc, _+_, _%_, _≤_, _<_}
 use native.Mathlib.Omega.{arith}
 use native.Mathlib.Decide.{ℕ-discrete}
 use mathlib.Core.Path.{_≡_, refl, sym, ap, _∙_}
-use mathlib.Core.Bool.{Bool, true, false, not, _&&_}
+use mathlib.Core.Bool.{Bool, true, false, not}
 use mathlib.Core.List.{List}
 use lib.Dec.{eqb}
 use lib.ListN.{length, getD}
@@ -21,7 +20,7 @@ use borrow.Author.Tests.{eq-eqb, ne-eqb}
 use Rattle.model.specs.Numbers.{some}
 use Rattle.model.specs.Map.{opposite, next, degreeOne}
 use Rattle.model.proofs.Booleans.{some-in, both}
-use Rattle.checks.specs.Checks.{loopIn, deadEndIn}
+use Rattle.checks.specs.Checks.{loopIn, deadEndAt, deadEndIn}
 
 abbrev pub NoneBelow : (ℕ → Bool) → ℕ → Type 0
 NoneBelow f i = (j : ℕ) → j < i → f j ≡ false
@@ -66,9 +65,6 @@ unfolding loopIn
 none-found names n d h none = sym (some-none (loopAt names) n (λ j l. none j (omega arith)))
 
 -- ---- dead ends
-
-abbrev pub deadEndAt : List ℕ → ℕ → ℕ → Bool
-deadEndAt rot root d = degreeOne rot d && not (eqb d root)
 
 module _ (rot : List ℕ) (root : ℕ) where
   pub dead-end-found : (d : ℕ) → d < length rot → getD rot d 0 ≡ d → not (eqb d root) ≡ true → true ≡ deadEndIn rot root

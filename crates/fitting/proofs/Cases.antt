@@ -36,7 +36,7 @@ use Rattle.cycles.proofs.Labels.{labelled-length, labelled-other}
 use Rattle.contour.specs.Steps.{Named}
 use Rattle.contour.specs.Walked.{Walked}
 use Rattle.contour.proofs.Steps.{name-at}
-use Rattle.checks.specs.Checks.{loopIn, deadEndIn}
+use Rattle.checks.specs.Checks.{loopIn, deadEndAt, deadEndIn}
 use Rattle.fitting.specs.declared.Survey.{Survey}
 use Rattle.fitting.specs.declared.Verdict.{Verdict}
 use Rattle.fitting.specs.declared.Verdict.the-variants.{Fits, Refused, NotPlanar}
@@ -62,22 +62,19 @@ pub dead-ends : (p : Plan) → isPermutation (p .rotation) ≡ true → p .root 
 unfolding deadEndIn degreeOne
 dead-ends p entries low = bool-ext (deadEndIn rot r) (hasDeadEnd p)
     (λ e.
-    let (d, h, a) = some-at at (darts p) e in
+    let (d, h, a) = some-at (deadEndAt rot r) (darts p) e in
     let own = eqb-true (next rot d) d (and-left (degreeOne rot d) (not (eqb d r)) a) in
     let other = eqb-false d r (not-left (eqb d r) (and-right (degreeOne rot d) (not (eqb d r)) a)) in
     at-dead-end p d h own (λ same. other (vertex-alone rot (next-perm rot entries) d r low own same)))
     (λ e.
     let (d, h, own, other) = dead-end-at p e in
-    some-in at (darts p) d h (both (eq-eqb (next rot d) d own) (ap not (ne-eqb d r (λ same. other (ap (vertexOf rot) same))))))
+    some-in (deadEndAt rot r) (darts p) d h (both (eq-eqb (next rot d) d own) (ap not (ne-eqb d r (λ same. other (ap (vertexOf rot) same))))))
   where
     rot : List ℕ
     rot = p .rotation
 
     r : ℕ
     r = p .root
-
-    at : ℕ → Bool
-    at d = degreeOne rot d && not (eqb d r)
 
 -- ---- the characteristic from the counts
 

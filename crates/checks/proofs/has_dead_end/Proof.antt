@@ -1,9 +1,9 @@
 use Prim.Native.Nat.{_-_, _≤_}
 use native.Mathlib.Omega.{arith}
-use mathlib.Core.Path.{sym}
 use mathlib.Core.Logic.{⊎-elim}
 use lib.ListN.{length}
-use Rattle.checks.proofs.Search.{NoneBelow, none-more, deadEndAt, dead-end-found, not-alone, root-alone, dead-end-none}
+use Rattle.checks.specs.Checks.{deadEndAt}
+use Rattle.checks.proofs.Search.{NoneBelow, none-more, dead-end-found, not-alone, root-alone, dead-end-none}
 use borrow.Author.Needs.{needs}
 use Rattle.checks.proofs.has_dead_end.Statement.{statement}
 use Rattle.checks.proofs.has_dead_end.Tie as tie
