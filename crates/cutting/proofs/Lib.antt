@@ -1,4 +1,3 @@
 pub mod Stands
 pub mod Cut
-pub mod Equality
 pub mod Turn

@@ -5,7 +5,6 @@
 --   some-here                      bytes stand where a record does
 --   room, next-fits, next-end, next-records              the record at a place of bytes that are records end to end, and what follows it
 --   place-turn, place-fewer, place-ends    going to the place of a record
---   find-turn, find-stops, find-ends                     the first equal record
 use mathlib.Core.Path.{_≡_, refl, sym, ap, _∙_}
 use mathlib.Core.Bool.{Bool, true, false, cond}
 use mathlib.Core.List.{List, _∷_}
@@ -16,7 +15,7 @@ use lib.ListN.{length, take, drop, length-drop}
 use lib.Seq.{drop-drop, drop-length, length-take-le}
 use Rattle.cutting.specs.declared.Counted.{Counted}
 use Rattle.cutting.specs.declared.Counted.the-variants.{Records, Broken}
-use Rattle.model.specs.Shelf.{word16, passes, allPass, recordsIn, endToEnd, same, firstEqual}
+use Rattle.model.specs.Shelf.{word16, passes, allPass, recordsIn, endToEnd}
 use Rattle.model.specs.Walk.{firstRecord, recordAt, placeOfRecord}
 use Rattle.cutting.specs.Count.{countOf}
 use Rattle.cutting.proofs.Stands.{head-whole, field-at, stands, stands-length, stands-not}
@@ -114,22 +113,6 @@ module _ (bs : List ℕ) (at : ℕ) (t : endToEnd (drop at bs) ≡ true) (h : at
     pub place-fewer : (k : ℕ) → 0 < k → k < length (recordsIn (drop at bs)) → k - 1 < length (recordsIn (drop (at + l) bs))
     place-fewer k m b = let e = ap length next-records in omega arith
 
-    -- ---- the first equal record
-
-    module _ (r : List ℕ) (n : ℕ) where
-      pub find-turn : same r (take l (drop at bs)) ≡ false
-          → n + firstEqual r (recordsIn (drop at bs)) ≡ n + 1 + firstEqual r (recordsIn (drop (at + l) bs))
-      unfolding firstEqual
-      find-turn e = rw (next-records, e) (omega arith)
-
-      pub find-stops : same r (take l (drop at bs)) ≡ true → n + firstEqual r (recordsIn (drop at bs)) ≡ n
-      unfolding firstEqual
-      find-stops e = rw (next-records, e) (omega arith)
-
 pub place-ends : (rs : List (List ℕ)) (at k : ℕ) → k ≡ 0 → at + placeOfRecord rs k ≡ at
 unfolding placeOfRecord
 place-ends rs at k e = rw e (omega arith)
-
-pub find-ends : (bs : List ℕ) (at : ℕ) (r : List ℕ) (n : ℕ) → at ≡ length bs → n + firstEqual r (recordsIn (drop at bs)) ≡ n
-unfolding firstEqual
-find-ends bs at r n e = rw (e, drop-length bs, end-nil) (omega arith)

@@ -1,10 +1,10 @@
-// Bytes that are records end to end: where each stands, how many there are, which is equal to given bytes. Only the heads are looked at; a record is
-// known by two laws alone (heads, `Head.antt`): it is as long as its length field says, and 6 bytes or longer.
+// Bytes that are records end to end: where each stands and how many there are. Only the heads are looked at; a record is known by two laws alone
+// (heads, `Head.antt`): it is as long as its length field says, and 6 bytes or longer.
 ghost use mathlib.Core.Path.{_≡_};
 ghost use mathlib.Core.Bool.{true};
-ghost use Prim.Native.Nat.{ℕ, _+_, _-_, _<_, _≤_};
-ghost use lib.ListN.{length, take, drop};
-ghost use Rattle.model.specs.Shelf.{recordsIn, endToEnd, same, firstEqual};
+ghost use Prim.Native.Nat.{_<_};
+ghost use lib.ListN.{length};
+ghost use Rattle.model.specs.Shelf.{recordsIn, endToEnd};
 ghost use Rattle.model.specs.Walk.{recordAt, placeOfRecord};
 ghost use Rattle.cutting.specs.Count.{countOf};
 ghost use Rattle.model.specs.Parts.{CutOut};
@@ -77,51 +77,4 @@ pub fn place(bytes: &[u8], n: usize) -> usize
         left -= 1;
     }
     at
-}
-
-// From the end on: records of one kind and size begin alike.
-fn same(a: &[u8], b: &[u8]) -> bool
-    ensures { λ r. ⌜ r ≡ same (now (a .entry)) (now (b .entry)) ⌝ }
-{
-    if a.len() != b.len() {
-        return false;
-    }
-    let mut i = a.len();
-    while 0 < i {
-        i -= 1;
-        if a[i] != b[i] {
-            return false;
-        }
-    }
-    true
-}
-
-// The bytes at this place, as many as size, are the record's. They are compared only if the lengths agree.
-fn equal_at(record: &[u8], bytes: &[u8], at: usize, size: usize) -> bool
-    requires { ⌜ at + size ≤ length (now bytes) ⌝ }
-    ensures { λ r. ⌜ r ≡ same (now («record» .entry)) (take size (drop at (now (bytes .entry)))) ⌝ }
-{
-    if record.len() != size {
-        return false;
-    }
-    let end = at + size;
-    same(record, &bytes[at..end])
-}
-
-// The number of the first record that is equal to the given one; how many records there are if none is.
-pub fn first_equal(record: &[u8], bytes: &[u8]) -> usize
-    requires { ⌜ endToEnd (now bytes) ≡ true ⌝ }
-    ensures { λ r. ⌜ r ≡ firstEqual (now («record» .entry)) (recordsIn (now (bytes .entry))) ⌝ }
-{
-    let mut at = 0;
-    let mut n = 0;
-    while at < bytes.len() {
-        let size = heads::field(bytes, at) as usize;
-        if equal_at(record, bytes, at, size) {
-            return n;
-        }
-        at += size;
-        n += 1;
-    }
-    n
 }

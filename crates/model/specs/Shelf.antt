@@ -9,13 +9,16 @@
 --   endToEnd bs           the bytes are records end to end that each pass
 --   same r s              equal bytes
 --   firstEqual r rs       the number of the first record equal to r; how many there are if none is
+--   met r rs              the records that a search for r meets: up to the first equal one, that one included; all if none is equal
+--   asLong n rs           how many of the records have n bytes
+--   compared r rs         of how many records a search for r compares more than the length
 --   shelfRefused s u      refusal 14 concerns the shelf s with used length u
 use Prim.Native.Nat.{ℕ, zero, suc, _+_, _*_}
 use mathlib.Core.Bool.{Bool, true, false, not, _&&_, _||_, cond}
 use mathlib.Core.List.{List, [], _∷_}
 use lib.Dec.{eqb, ltb}
 use lib.ListN.{length, getD, take, drop}
-use Rattle.model.specs.Numbers.{firstRefusal, refuse}
+use Rattle.model.specs.Numbers.{tick, firstRefusal, refuse}
 use Rattle.model.specs.Map.{isKind}
 use Rattle.model.specs.Record.{recordLength}
 
@@ -69,6 +72,18 @@ same (x ∷ xs) (y ∷ ys) = eqb x y && same xs ys
 unfoldable pub firstEqual : List ℕ → List (List ℕ) → ℕ
 firstEqual r [] = 0
 firstEqual r (s ∷ ss) = let rest = suc (firstEqual r ss) in cond (same r s) 0 rest
+
+-- Document 02 (g): "The search counts the records of which it compares more than the length; these are proved to be as many as those it meets of the new one's
+-- length, an equal one included."
+unfoldable pub met : List ℕ → List (List ℕ) → List (List ℕ)
+met r rs = take (suc (firstEqual r rs)) rs
+
+unfoldable pub asLong : ℕ → List (List ℕ) → ℕ
+asLong n [] = 0
+asLong n (r ∷ rs) = tick (eqb (length r) n) (asLong n rs)
+
+unfoldable pub compared : List ℕ → List (List ℕ) → ℕ
+compared r rs = asLong (length r) (met r rs)
 
 -- 14. "The used length exceeds the shelf, or the used bytes are not records end to end that each pass 1, 2, 3 and 5."
 unfoldable pub shelfRefused : List ℕ → ℕ → Bool

@@ -1,7 +1,7 @@
 -- Shelving at plain values: r is the record, s the shelf, u its used length.
 --
---   spot-refused, spot-broken, spot-there, spot-full, spot-new    the spot of a record, way by way
---   spot-requires         what the search needs
+--   spot-refused, spot-over, spot-broken, spot-there, spot-full, spot-new    the spot of a record, way by way
+--   spot-head             the record has a head, which the search needs
 --   stored-refused, stored-there, stored-new    what shelving promises, by the spot
 --   new-fits              a new record has room
 --   put-turn, put-ends    the loop that puts a record into the shelf
@@ -15,17 +15,20 @@ use lib.Dec.{eqb, ltb}
 use lib.ListN.{length, getD, set, take, drop}
 use lib.Seq.{paste, paste-suc, take-length, drop-drop}
 use borrow.Author.Tests.{lt-ltb, le-ltb, eq-eqb, ne-eqb, ltb-false, eqb-true}
-use Rattle.cutting.specs.declared.Counted.the-variants.{Records, Broken}
+use Rattle.searching.specs.declared.Searched.{Searched}
+use Rattle.searching.specs.declared.Searched.the-variants as searched
+use Rattle.searching.specs.Search.{searchOf}
+use Rattle.searching.proofs.Told.{told-broken, told-there, told-missing}
 use Rattle.model.specs.declared.Shelved.the-variants as shelved
 use Rattle.shelf.specs.declared.Spot.{Spot}
 use Rattle.shelf.specs.declared.Spot.the-variants.{There, New, Refused}
 use Rattle.model.specs.Numbers.{firstRefusal}
-use Rattle.model.specs.Shelf.{headRefusal, recordsIn, endToEnd, firstEqual, shelfRefused}
+use Rattle.model.specs.Shelf.{headRefusal, passes, recordsIn, endToEnd, firstEqual, shelfRefused}
 use Rattle.model.specs.Calls.{front, shelveRefusal, shelveAnswer, shelvedBytes, Stored}
 use Rattle.model.proofs.Refusals.{not-met}
-use Rattle.shelf.specs.Count.{shelfCount}
+use Rattle.heads.proofs.Head.{passes-long}
 use Rattle.shelf.specs.Spot.{spotOf}
-use Rattle.shelf.proofs.Refusals.{used-part, count-broken, count-records}
+use Rattle.shelf.proofs.Refusals.{used-part}
 use Rattle.shelf.proofs.Walking.{used-fine}
 
 -- the rest of the checks, where the first is not met
@@ -50,37 +53,42 @@ module _ (r s : List ℕ) (u : ℕ) where
       zero-head : headRefusal r ≡ 0
       zero-head = sym x-is ∙ fine
 
-      pub spot-broken : Broken ≡ shelfCount s u → Refused 14 ≡ spotOf r s u
-      unfolding spotOf shelveRefusal firstRefusal
-      spot-broken e = rw (zero-head, count-broken s u e)
+      pub spot-head : 6 ≤ length r
+      unfolding passes
+      spot-head = passes-long r (eq-eqb (headRefusal r) 0 zero-head)
 
-      module _ (k : ℕ) (k-is : Records k ≡ shelfCount s u) (n : ℕ) (n-is : n ≡ firstEqual r (recordsIn (take (u - 0) (drop 0 s)))) where
-        first : n ≡ firstEqual r rs
-        first = n-is ∙ ap (λ (bs : List ℕ). firstEqual r (recordsIn bs)) (used-part s u)
+      pub spot-over : length s < u → Refused 14 ≡ spotOf r s u
+      unfolding spotOf shelveRefusal firstRefusal shelfRefused
+      spot-over h = rw (zero-head, lt-ltb (length s) u h)
 
-        pub spot-there : (n ≡ k → ⊥) → There n ≡ spotOf r s u
+      module _ (h : u ≤ length s) where
+        -- 14, by the search
+        fourteen : (b : Bool) → endToEnd (take (u - 0) (drop 0 s)) ≡ b → shelfRefused s u ≡ not b
+        unfolding shelfRefused
+        fourteen b e = rw (le-ltb (length s) u h, sym (ap endToEnd (used-part s u)) ∙ e)
+
+        abbrev answer : Searched
+        answer = searchOf r (take (u - 0) (drop 0 s))
+
+        pub spot-broken : searched.Broken ≡ answer → Refused 14 ≡ spotOf r s u
         unfolding spotOf shelveRefusal firstRefusal
-        spot-there d =
-            let c = count-records s u k k-is in
-            let z = ne-eqb n (length rs) (λ e. d (e ∙ sym (c .1))) in
-            rw (zero-head, c .0, sym first, z)
+        spot-broken e = rw (zero-head, fourteen false (told-broken r _ e))
 
-        pub spot-full : n ≡ k → length s - u < length r → Refused 16 ≡ spotOf r s u
-        unfolding spotOf shelveRefusal firstRefusal
-        spot-full e h =
-            let c = count-records s u k k-is in
-            let z = eq-eqb n (length rs) (e ∙ c .1) in
-            rw (zero-head, c .0, sym first, z, lt-ltb _ _ h)
+        module _ (n c : ℕ) where
+          pub spot-there : searched.There n c ≡ answer → There n ≡ spotOf r s u
+          unfolding spotOf shelveRefusal firstRefusal
+          spot-there e = let t = told-there r _ n c e in rw (zero-head, fourteen true (t .0), sym (used-part s u), t .2, t .1)
 
-        pub spot-new : n ≡ k → length r ≤ length s - u → New n ≡ spotOf r s u
-        unfolding spotOf shelveRefusal firstRefusal
-        spot-new e h =
-            let c = count-records s u k k-is in
-            let z = eq-eqb n (length rs) (e ∙ c .1) in
-            rw (zero-head, c .0, sym first, z, le-ltb (length s - u) (length r) h)
+          module _ (e : searched.Missing n c ≡ answer) where
+            pub spot-full : length s - u < length r → Refused 16 ≡ spotOf r s u
+            unfolding spotOf shelveRefusal firstRefusal
+            spot-full l = let t = told-missing r _ n c e in rw (zero-head, fourteen true (t .0), sym (used-part s u), t .2, lt-ltb (length s - u) (length r) l)
 
-pub spot-requires : (s : List ℕ) (u k : ℕ) → Records k ≡ shelfCount s u → (u ≤ length s) × (endToEnd (take (u - 0) (drop 0 s)) ≡ true)
-spot-requires s u k e = let f = used-fine s u (count-records s u k e .0) in (f .0, rw (used-part s u) (f .1))
+            pub spot-new : length r ≤ length s - u → New n ≡ spotOf r s u
+            unfolding spotOf shelveRefusal firstRefusal
+            spot-new l =
+                let t = told-missing r _ n c e in
+                rw (zero-head, fourteen true (t .0), sym (used-part s u), t .2, le-ltb (length s - u) (length r) l, t .1)
 
 -- ---- shelving, by the spot
 

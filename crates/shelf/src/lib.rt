@@ -107,13 +107,13 @@ fn spot_of(record: &[u8], shelf: &[u8], used: usize) -> Spot
     if number != 0 {
         return Spot::Refused(number);
     }
-    match count(shelf, used) {
-        cutting::Counted::Broken => Spot::Refused(14),
-        cutting::Counted::Records(records) => {
-            let n = cutting::first_equal(record, &shelf[0..used]);
-            if n != records {
-                return Spot::There(n);
-            }
+    if used > shelf.len() {
+        return Spot::Refused(14);
+    }
+    match searching::search(record, &shelf[0..used]) {
+        searching::Searched::Broken => Spot::Refused(14),
+        searching::Searched::There(n, _) => Spot::There(n),
+        searching::Searched::Missing(n, _) => {
             if shelf.len() - used < record.len() {
                 return Spot::Refused(16);
             }

@@ -1,9 +1,11 @@
--- The number of the first equal record.
+-- The number of the first equal record, and the records that a search for it meets.
 --
 --   first-bound           it is at most how many records there are
 --   first-there           if it is less, that record is the equal one
 --   first-least           no record before it is equal
 --   first-behind          put behind records that are all unlike, a record has the next number
+--   met-there             an equal record is met, after those before it
+--   met-all               where none is equal all are met
 use mathlib.Core.Path.{_≡_, refl, sym, ap, _∙_}
 use mathlib.Core.Logic.{_≢_}
 use mathlib.Core.Bool.{Bool, true, false, cond, false≢true}
@@ -11,9 +13,10 @@ use mathlib.Core.List.{List, [], _∷_, _++_}
 use Prim.Native.Nat.{ℕ, zero, suc, _≤_, _<_}
 use native.Mathlib.Nat.{not-suc-le-zero, le-of-suc-le-suc}
 use native.Mathlib.Omega.{arith}
-use lib.ListN.{length, getD}
-use Rattle.model.specs.Shelf.{same, firstEqual}
-use Rattle.cutting.proofs.Equality.{same-refl, same-eq}
+use lib.ListN.{length, getD, take}
+use lib.Seq.{take-suc, take-all}
+use Rattle.model.specs.Shelf.{same, firstEqual, met}
+use Rattle.searching.proofs.Equality.{same-refl, same-eq}
 
 pub first-bound : (r : List ℕ) (rs : List (List ℕ)) → firstEqual r rs ≤ length rs
 unfolding firstEqual
@@ -59,3 +62,12 @@ first-behind r (s ∷ rs) e = go (same r s) e (first-behind r rs)
         → cond b 0 (suc (firstEqual r (rs ++ (r ∷ [])))) ≡ suc (length rs)
     go true e ih = absurd (omega arith)
     go false e ih = ap suc (ih (omega arith))
+
+module _ (r : List ℕ) (rs : List (List ℕ)) where
+  pub met-there : firstEqual r rs < length rs → met r rs ≡ take (firstEqual r rs) rs ++ (r ∷ [])
+  unfolding met
+  met-there h = take-suc rs (firstEqual r rs) [] h ∙ ap (λ (s : List ℕ). take (firstEqual r rs) rs ++ (s ∷ [])) (first-there r rs h)
+
+  pub met-all : firstEqual r rs ≡ length rs → met r rs ≡ rs
+  unfolding met
+  met-all e = take-all (suc (firstEqual r rs)) rs (omega arith)

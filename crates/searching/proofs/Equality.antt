@@ -3,17 +3,17 @@
 --   same-refl, same-eq            it is passed by equal lists alone
 --   same-unlike                   lists of two lengths fail
 --   same-turn, same-stops, same-ends    one turn of its loop
---   part-unlike, part-same        a part of bytes beside a list
+--   kinds-unlike                  records of two kinds fail
 use mathlib.Core.Path.{_≡_, refl, sym, ap, _∙_, subst}
 use mathlib.Core.Bool.{true, false, false≢true}
 use mathlib.Core.List.{List, [], _∷_}
-use Prim.Native.Nat.{ℕ, suc, _+_, _-_, _≤_, _<_}
+use Prim.Native.Nat.{ℕ, suc, _≤_, _<_}
 use native.Mathlib.Omega.{arith}
 use lib.Dec.{eqb}
-use lib.ListN.{length, getD, take, drop, length-drop}
-use lib.Seq.{drop-cons, drop-length, length-take-le}
+use lib.ListN.{length, getD, drop}
+use lib.Seq.{drop-cons, drop-length}
 use borrow.Author.Tests.{eq-eqb, eqb-true}
-use Rattle.model.specs.Shelf.{same}
+use Rattle.model.specs.Shelf.{word16, kindOf, same}
 use Rattle.model.proofs.Booleans.{and-left, and-right, not-intro}
 
 pub same-refl : (xs : List ℕ) → same xs xs ≡ true
@@ -47,12 +47,5 @@ module _ (xs ys : List ℕ) (i : ℕ) where
   unfolding same
   same-ends e f = rw (ap (λ (k : ℕ). drop k xs) e, ap (λ (k : ℕ). drop k ys) f, drop-length xs, drop-length ys)
 
--- a part of the bytes, as the code lends it
-module _ (r bs : List ℕ) (at size : ℕ) where
-  pub part-unlike : (length r ≡ size → ⊥) → at + size ≤ length bs → false ≡ same r (take size (drop at bs))
-  part-unlike d h =
-      let l = length-drop at bs in
-      sym (same-unlike r (take size (drop at bs)) (λ e. d (e ∙ length-take-le size (drop at bs) (omega arith))))
-
-  pub part-same : same r (take (at + size - at) (drop at bs)) ≡ same r (take size (drop at bs))
-  part-same = let e : at + size - at ≡ size = omega arith in ap (λ (k : ℕ). same r (take k (drop at bs))) e
+pub kinds-unlike : (r s : List ℕ) (k : ℕ) → k ≡ kindOf r → (word16 s 2 ≡ k → ⊥) → same r s ≡ false
+kinds-unlike r s k e d = not-intro _ (λ t. d (sym (e ∙ ap kindOf (same-eq r s t))))
