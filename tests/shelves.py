@@ -2,7 +2,8 @@
 """Holds the lines that program `shelves` must write to the answers of the second coder, whose command is the arguments.
 
 The cases stand here as in the program, so that a line with another case is seen too. The second coder is asked all but
-steps from a place that no walk comes to; those follow document 01.
+steps from a place that no walk comes to, which follow document 01, and how many records a search compares, which follows
+document 02 (g) from the number that the second coder gives.
 """
 import difflib
 import struct
@@ -23,6 +24,7 @@ STARRED = [
 ON_FULL = [
     STARRED[0],
     STARRED[3],
+    STARRED[4],
     STARRED[7],
     "05 00 01 00 02",
     "08 00 03 00 00 00 C8",
@@ -59,6 +61,16 @@ def shown(record):
     return record.hex(" ").upper() or "none"
 
 
+def compared(used_bytes, record, number):
+    """Of how many records the search compared more than the length: those of this length up to the number that it found."""
+    records = []
+    while used_bytes:
+        length = struct.unpack("<H", used_bytes[:2])[0]
+        records.append(used_bytes[:length])
+        used_bytes = used_bytes[length:]
+    return sum(len(met) == len(record) for met in records[: number + 1])
+
+
 def shelve(shelf, used, record):
     """The line; shelf and used length after it."""
     asked = f"shelve {record}, used {used} of {len(shelf)}"
@@ -66,7 +78,8 @@ def shelve(shelf, used, record):
     if refusal:
         return f"{asked}: refusal {refusal}", shelf, used
     number, end, after = rest
-    return f"{asked}: record {number}, used {end}", bytes.fromhex(after), int(end)
+    looked = compared(shelf[:used], bytes.fromhex(record), int(number))
+    return f"{asked}: record {number}, used {end}, compared {looked}", bytes.fromhex(after), int(end)
 
 
 def fetch(shelf, number, used):

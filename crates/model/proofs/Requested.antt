@@ -2,14 +2,18 @@
 --
 --   requested            the lines, request by request
 --   requested-hold       the definitions yield every line
+--   compared-hold        how many records a search compares
+use mathlib.Core.Path.{_≡_, refl}
 use mathlib.Core.List.{List, [], _∷_}
+use Prim.Native.Nat.{ℕ}
 use lib.Dec.{T}
+use lib.ListN.{getD, take}
 use Rattle.model.specs.Numbers.{count, some, elem, distinct, allBelow, isPermutation, position, least, cycles, firstRefusal}
 use Rattle.model.specs.Map.{opposite, next, vertexOf, faceNext, edges, vertices, faces, degreeOne, spread, spreads, reached, connected, characteristic, planar, hasLoop, hasDeadEnd, isKind, dartCountFits, degreeRefused}
 use Rattle.model.specs.Traversal.{letterAt, onward, seenAfter, walk, visits}
 use Rattle.model.specs.LabelledTree.{codesOf, codes, unlabelled, isUpper, gone, before, labelOne, removeCut, takeLeaf, takeOne, takeLeaves, treeLabels, labelOf, bitsOf, along, labels, treeBits}
 use Rattle.model.specs.Record.{digitsFrom, pack, le16, recordLength, payload, layOut, recordOf}
-use Rattle.model.specs.Shelf.{same}
+use Rattle.model.specs.Shelf.{same, firstEqual, met, asLong, compared}
 use Rattle.model.specs.Calls.{front, earlyRefusals, lateRefusals, writeRefusal, writeAnswer, writtenOutput}
 use Rattle.model.proofs.Line.{Writes, record-is, refused, answer, output, writes, refuses, agrees, holds, allHold}
 
@@ -29,3 +33,23 @@ requested =
 pub requested-hold : T (allHold requested)
 unfolding requested allHold holds agrees writes refuses answer output writeAnswer writtenOutput front writeRefusal earlyRefusals lateRefusals firstRefusal isKind dartCountFits isPermutation allBelow distinct elem edges recordLength connected some reached spreads spread opposite next planar characteristic vertices faces cycles count least faceNext hasLoop vertexOf degreeRefused hasDeadEnd degreeOne same recordOf layOut le16 payload pack digitsFrom treeBits labels along bitsOf labelOf treeLabels takeLeaves takeOne takeLeaf removeCut labelOne before gone isUpper unlabelled codes codesOf position visits walk letterAt onward seenAfter
 requested-hold = tt
+
+-- (g) "as many as those it meets of the new one's length, an equal one included"
+unfoldable pub shelved : List (List ℕ)
+shelved =
+    (0x07 ∷ 0x00 ∷ 0x01 ∷ 0x00 ∷ 0x02 ∷ 0x00 ∷ 0xC8 ∷ [])
+    ∷ (0x08 ∷ 0x00 ∷ 0x01 ∷ 0x00 ∷ 0x03 ∷ 0x00 ∷ 0xE2 ∷ 0x00 ∷ [])
+    ∷ (0x08 ∷ 0x00 ∷ 0x01 ∷ 0x00 ∷ 0x03 ∷ 0x00 ∷ 0xD2 ∷ 0x80 ∷ [])
+    ∷ (0x08 ∷ 0x00 ∷ 0x02 ∷ 0x00 ∷ 0x01 ∷ 0x00 ∷ 0x80 ∷ 0xA2 ∷ [])
+    ∷ (0x08 ∷ 0x00 ∷ 0x02 ∷ 0x00 ∷ 0x02 ∷ 0x00 ∷ 0xC0 ∷ 0x36 ∷ [])
+    ∷ []
+
+-- the search for record k among the first n of them
+abbrev pub comparedAmong : ℕ → ℕ → ℕ
+comparedAmong n k = compared (getD shelved k []) (take n shelved)
+
+-- each among those before it; then the last and the first among all
+pub compared-hold : (comparedAmong 0 0 ≡ 0) × (comparedAmong 1 1 ≡ 0) × (comparedAmong 2 2 ≡ 1) × (comparedAmong 3 3 ≡ 2) × (comparedAmong 4 4 ≡ 3)
+    × (comparedAmong 5 4 ≡ 4) × (comparedAmong 5 0 ≡ 1)
+unfolding shelved compared met asLong firstEqual same
+compared-hold = (refl, refl, refl, refl, refl, refl, refl)

@@ -1,9 +1,11 @@
 // Shelves the starred records of document 01, fetches them and walks over them, and meets each refusal of shelving, fetching and walking. Each answer is a
-// line: numbers and places in decimal, bytes in hexadecimal. The file stdout has what it must write; tests/shelves.py holds it to the second coder.
+// line: numbers and places in decimal, bytes in hexadecimal; where a record was searched for, the line ends with how many were compared beyond the length
+// (document 02, request (g)). The file stdout has what it must write; tests/shelves.py holds it to the second coder.
 ghost use mathlib.Core.Path.{_≡_};
 ghost use Rattle.model.specs.Parts.{CutOut};
 ghost use Rattle.model.specs.Walk.{nextPlace};
 use model::Shelved;
+use searching::Searched;
 use walker::Walker;
 
 // ---- printing
@@ -45,6 +47,18 @@ fn show_record(record: &[u8]) {
 
 // ---- shelving and fetching
 
+// Of how many records among these bytes the search for the record compares more than the length.
+fn show_compared(record: &[u8], bytes: &[u8]) {
+    if record.len() < 6 {
+        return;
+    }
+    match searching::search(record, bytes) {
+        Searched::There(_, compared) => show(b", compared ", compared),
+        Searched::Missing(_, compared) => show(b", compared ", compared),
+        Searched::Broken => {}
+    }
+}
+
 // The record is shelved. The used length after that is returned.
 fn shelve(record: &[u8], shelf: &mut [u8], used: usize) -> usize {
     io::write_all(1, b"shelve");
@@ -55,6 +69,7 @@ fn shelve(record: &[u8], shelf: &mut [u8], used: usize) -> usize {
         Shelved::At(n, end) => {
             show(b": record ", n);
             show(b", used ", end);
+            show_compared(record, shelf::used_part(shelf, used));
             io::write_all(1, b"\n");
             end
         }
@@ -163,6 +178,7 @@ fn shelve_kind_2(shelf: &mut [u8], used: usize) -> usize {
 fn shelve_again(shelf: &mut [u8], used: usize) {
     shelve(&[7, 0, 1, 0, 2, 0, 0xC8], shelf, used);
     shelve(&[8, 0, 2, 0, 1, 0, 0x80, 0xA2], shelf, used);
+    shelve(&[8, 0, 2, 0, 2, 0, 0xC0, 0x36], shelf, used);
     shelve(&[8, 0, 2, 0, 3, 0, 0xCC, 0x12], shelf, used);
 }
 
