@@ -218,15 +218,19 @@ fn time_coders() -> Vec<Row> {
     rows
 }
 
+/// The record of kind 2 of a random plan.
+fn random_record(edges: usize, rng: &mut Rng) -> Vec<u8> {
+    let order = grow(Shape::Mixed, edges, rng).renumbered(rng);
+    jurnadel::record_of(&order, 0, 2).expect("a fit plan")
+}
+
 /// So many different records.
 fn different_records(count: usize) -> Vec<Vec<u8>> {
     let mut rng = Rng::new(SHELVED as u64);
     let mut seen = HashSet::new();
     let mut records = Vec::new();
     while records.len() < count {
-        let growth = grow(Shape::Mixed, SHELVED_TRAILS, &mut rng);
-        let order = growth.renumbered(&mut rng);
-        let record = jurnadel::record_of(&order, 0, 2).expect("a fit plan");
+        let record = random_record(SHELVED_TRAILS, &mut rng);
         if seen.insert(record.clone()) {
             records.push(record);
         }
@@ -286,9 +290,10 @@ fn time_walk(name: &str, shelf: &[u8], used: usize) {
 fn time_shelf() {
     let mut records = different_records(SHELVED + 1);
     let new = records.pop().unwrap_or_default();
+    let longer = random_record(SHELVED_TRAILS + 1, &mut Rng::new(0));
     let mut shelf = records.concat();
     let used = shelf.len();
-    shelf.resize(used + new.len(), 0);
+    shelf.resize(used + longer.len(), 0);
     let last = SHELVED - 1;
     assert_eq!(jurnadel::fetch(&shelf, used, last), Ok(&records[last][..]));
 
@@ -297,6 +302,7 @@ fn time_shelf() {
     println!();
     println!("{:<34}{:>10}{:>10}{:>7}", "", "proved", "second", "/sec.");
     time_shelve("shelve, new", &new, &shelf, used);
+    time_shelve("shelve, new and of another length", &longer, &shelf, used);
     time_shelve("shelve, the last one again", &records[last], &shelf, used);
     time_shelve("shelve, the first one again", &records[0], &shelf, used);
     time_fetch("fetch the last", last, &shelf, used);

@@ -18,29 +18,26 @@ fn passes(record: &[u8]) -> bool {
     (1..=4096).contains(&m) && record.len() == length
 }
 
-/// The record's number and the new used length, if it can be shelved: one pass over the heads, then the search.
+/// The record's number and the new used length, if it can be shelved: one pass over the heads, lengths compared first.
 pub fn shelve(record: &[u8], shelf: &mut [u8], used: usize) -> Option<(usize, usize)> {
     if !passes(record) {
         return None;
     }
-    let (mut place, mut count) = (0, 0);
+    let (mut place, mut count, mut found) = (0, 0, None);
     while place < used {
         let rest = shelf.get(place..used).filter(|rest| rest.len() >= 6)?;
         let here = rest.get(..field(rest, 0))?;
         if !passes(here) {
             return None;
         }
+        if found.is_none() && here.len() == record.len() && here == record {
+            found = Some(count);
+        }
         place += here.len();
         count += 1;
     }
-    let (mut place, mut number) = (0, 0);
-    while place < used {
-        let length = field(&shelf[place..], 0);
-        if length == record.len() && shelf[place..place + length] == *record {
-            return Some((number, used));
-        }
-        place += length;
-        number += 1;
+    if let Some(number) = found {
+        return Some((number, used));
     }
     shelf
         .get_mut(used..used + record.len())?
