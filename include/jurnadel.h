@@ -54,8 +54,8 @@ extern "C" {
 
 #define JURNADEL_VERSION_MAJOR 0
 #define JURNADEL_VERSION_MINOR 3
-#define JURNADEL_VERSION_PATCH 0
-#define JURNADEL_VERSION "0.3.0"
+#define JURNADEL_VERSION_PATCH 1
+#define JURNADEL_VERSION "0.3.1"
 
 /* ---- Sizes ------------------------------------------------------------------------ */
 
@@ -155,7 +155,8 @@ uint16_t jurnadel_read(const uint8_t *record, size_t record_len,
 
 /*
  * Shelves a record. If equal bytes are on the shelf, *number is the first such record's
- * and nothing is stored; else the record is put just past the used bytes.
+ * and nothing is stored; else the record is put just past the used bytes. It goes over the
+ * heads of all records once, and compares only those that are as long as the new one.
  *
  *   record, record_len   the record
  *   shelf, shelf_len     the whole shelf

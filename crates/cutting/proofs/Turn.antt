@@ -3,7 +3,7 @@
 --   plus n x                       a count, n records on
 --   count-begins, count-turn, count-stops, count-ends    counting
 --   some-here                      bytes stand where a record does
---   room, next-fits, next-end, next-records              the record at a place of bytes that are records end to end, and what follows it
+--   room, next-fits, next-end      the record at a place of bytes that are records end to end, and what follows it
 --   place-turn, place-fewer, place-ends    going to the place of a record
 use mathlib.Core.Path.{_≡_, refl, sym, ap, _∙_}
 use mathlib.Core.Bool.{Bool, true, false, cond}
@@ -96,7 +96,7 @@ module _ (bs : List ℕ) (at : ℕ) (t : endToEnd (drop at bs) ≡ true) (h : at
     pub next-end : endToEnd (drop (at + l) bs) ≡ true
     next-end = let d = length-drop at bs in sym (ap endToEnd next-rest) ∙ end-rest (drop at bs) t (omega arith)
 
-    pub next-records : recordsIn (drop at bs) ≡ take l (drop at bs) ∷ recordsIn (drop (at + l) bs)
+    next-records : recordsIn (drop at bs) ≡ take l (drop at bs) ∷ recordsIn (drop (at + l) bs)
     next-records = let d = length-drop at bs in end-records (drop at bs) t (omega arith) ∙ rw (next-rest, field-is)
 
     -- ---- the place of a record

@@ -1,13 +1,19 @@
 -- The search for the record r, at plain values: one turn of its loop. `at` is the place that the loop has come to, n how many records it has passed, c how many
 -- of them it compared.
 --
---   further n c x         what a search gives, n records and c comparisons on
---   past-broken, past-whole       what the bytes past an equal record make of it
---   search-begins, search-passes, search-goes-on, search-finds, search-stops, search-ends
+--   further n c x             what a search gives, n records and c comparisons on
+--   past-broken, past-whole   the bytes past an equal record
+--   part-length               the record that stands at a place, as the code lends it
+--   search-begins             the whole search is left
+--   search-stops              no record stands here
+--   search-passes             a record of another length
+--   search-goes-on            another record of this length
+--   search-finds              the equal one
+--   search-ends               nothing is left
 use mathlib.Core.Path.{_≡_, refl, sym, ap, _∙_}
 use mathlib.Core.Bool.{Bool, true, false, cond}
 use mathlib.Core.List.{List, _∷_}
-use Prim.Native.Nat.{ℕ, suc, _+_, _-_, _≤_, _<_}
+use Prim.Native.Nat.{ℕ, suc, _+_, _-_, _<_}
 use native.Mathlib.Nat.{zero-add, add-zero}
 use native.Mathlib.Omega.{arith}
 use lib.Dec.{eqb}
@@ -60,16 +66,19 @@ module _ (bs : List ℕ) (n c : ℕ) where
 abbrev made : ℕ → ℕ → ℕ → Searched
 made k d l = cond (eqb k l) (Missing k d) (There k d)
 
-made-next : (k d l n c t : ℕ) → further n c (made (suc k) (t + d) (suc l)) ≡ further (n + 1) (c + t) (made k d l)
-made-next k d l n c t = go (eqb k l) refl
-  where
-    go : (b : Bool) → eqb k l ≡ b → further n c (made (suc k) (t + d) (suc l)) ≡ further (n + 1) (c + t) (cond b (Missing k d) (There k d))
-    go true e =
-        rw (eq-eqb (suc k) (suc l) (ap suc (eqb-true k l e)))
-        (let x : n + suc k ≡ n + 1 + k = omega arith in let y : c + (t + d) ≡ c + t + d = omega arith in rw (x, y))
-    go false e =
-        rw (ne-eqb (suc k) (suc l) (λ s. eqb-false k l e (omega arith)))
-        (let x : n + suc k ≡ n + 1 + k = omega arith in let y : c + (t + d) ≡ c + t + d = omega arith in rw (x, y))
+module _ (k d l n c t : ℕ) where
+  one-further : n + suc k ≡ n + 1 + k
+  one-further = omega arith
+
+  so-many-further : c + (t + d) ≡ c + t + d
+  so-many-further = omega arith
+
+  made-next : further n c (made (suc k) (t + d) (suc l)) ≡ further (n + 1) (c + t) (made k d l)
+  made-next = go (eqb k l) refl
+    where
+      go : (b : Bool) → eqb k l ≡ b → further n c (made (suc k) (t + d) (suc l)) ≡ further (n + 1) (c + t) (cond b (Missing k d) (There k d))
+      go true e = rw (eq-eqb (suc k) (suc l) (ap suc (eqb-true k l e)), one-further, so-many-further)
+      go false e = rw (ne-eqb (suc k) (suc l) (λ s. eqb-false k l e (omega arith)), one-further, so-many-further)
 
 module _ (r s : List ℕ) (ss : List (List ℕ)) where
   compared-next : (t : ℕ) → same r s ≡ false → tick (eqb (length s) (length r)) 0 ≡ t → compared r (s ∷ ss) ≡ t + compared r ss

@@ -1,14 +1,15 @@
-// The search for a record among bytes that should be records end to end: one walk over the heads. Lengths are compared first; the search counts the records
-// of which it compares more.
+// The search for a record among bytes that should be records end to end: one walk over the heads. Lengths are compared first, and the records of which more is
+// compared are counted.
 ghost use mathlib.Core.Path.{_≡_};
 ghost use mathlib.Core.Bool.{cond};
-ghost use Prim.Native.Nat.{ℕ, _≤_};
+ghost use Prim.Native.Nat.{_≤_};
 ghost use lib.ListN.{length};
 ghost use Rattle.model.specs.Shelf.{kindOf, endToEnd, same};
 ghost use Rattle.searching.specs.Search.{searchOf};
 ghost use Rattle.searching.specs.declared.Searched.the-variants.{There, Broken};
 
-// The number of the first equal record, or how many records there are if none is equal; each with the number of records compared beyond the length.
+// The number of the first equal record, or, where none is equal, how many records there are; then how many were compared beyond the length. Broken: the bytes
+// are not records end to end.
 pub enum Searched {
     There(usize, usize),
     Missing(usize, usize),
@@ -41,7 +42,7 @@ fn equal(record: &[u8], kind: u16, other: &[u8]) -> bool
     same(record, other)
 }
 
-// Record n is equal, and these bytes are past it: they must be records end to end too.
+// Record n is the equal one. The bytes past it must be records end to end too.
 fn there(past: &[u8], n: usize, compared: usize) -> Searched
     ensures { λ r. ⌜ r ≡ cond (endToEnd (now (past .entry))) (There n compared) Broken ⌝ }
 {
@@ -51,6 +52,7 @@ fn there(past: &[u8], n: usize, compared: usize) -> Searched
     }
 }
 
+// The record's length and kind are fetched before the walk begins.
 pub fn search(record: &[u8], bytes: &[u8]) -> Searched
     requires { ⌜ 6 ≤ length (now «record») ⌝ }
     ensures { λ r. ⌜ r ≡ searchOf (now («record» .entry)) (now (bytes .entry)) ⌝ }

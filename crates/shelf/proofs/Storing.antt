@@ -77,18 +77,18 @@ module _ (r s : List ℕ) (u : ℕ) where
         module _ (n c : ℕ) where
           pub spot-there : searched.There n c ≡ answer → There n ≡ spotOf r s u
           unfolding spotOf shelveRefusal firstRefusal
-          spot-there e = let t = told-there r _ n c e in rw (zero-head, fourteen true (t .0), sym (used-part s u), t .2, t .1)
+          spot-there e = let t = told-there r _ n c e in rw (zero-head, fourteen true (t .0), sym (used-part s u), t .3, t .1)
 
           module _ (e : searched.Missing n c ≡ answer) where
             pub spot-full : length s - u < length r → Refused 16 ≡ spotOf r s u
             unfolding spotOf shelveRefusal firstRefusal
-            spot-full l = let t = told-missing r _ n c e in rw (zero-head, fourteen true (t .0), sym (used-part s u), t .2, lt-ltb (length s - u) (length r) l)
+            spot-full l = let t = told-missing r _ n c e in rw (zero-head, fourteen true (t .0), sym (used-part s u), t .3, lt-ltb (length s - u) (length r) l)
 
             pub spot-new : length r ≤ length s - u → New n ≡ spotOf r s u
             unfolding spotOf shelveRefusal firstRefusal
             spot-new l =
                 let t = told-missing r _ n c e in
-                rw (zero-head, fourteen true (t .0), sym (used-part s u), t .2, le-ltb (length s - u) (length r) l, t .1)
+                rw (zero-head, fourteen true (t .0), sym (used-part s u), t .3, le-ltb (length s - u) (length r) l, t .1)
 
 -- ---- shelving, by the spot
 

@@ -3,7 +3,7 @@
 // `requires`.
 ghost use mathlib.Core.Path.{_≡_};
 ghost use mathlib.Core.List.{_++_};
-ghost use Prim.Native.Nat.{ℕ, _+_, _≤_};
+ghost use Prim.Native.Nat.{_+_, _≤_};
 ghost use lib.ListN.{length, take, drop};
 ghost use Rattle.model.specs.Calls.{front, fetchRefusal, Stored};
 ghost use Rattle.model.specs.Walk.{recordAt, nextPlace, Begun};

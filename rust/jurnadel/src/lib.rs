@@ -168,7 +168,7 @@ pub struct Shelved {
 }
 
 /// Shelves a record on the shelf whose first `used` bytes are used: finds the first equal one, or puts it just past the
-/// used bytes.
+/// used bytes. It goes over the heads of all records once, and compares only those that are as long as the new one.
 ///
 /// # Errors
 ///
