@@ -1,7 +1,7 @@
 -- Shelving at plain values: r is the record, s the shelf, u its used length.
 --
+--   headed                a record that is not refused has a head
 --   spot-refused, spot-over, spot-broken, spot-there, spot-full, spot-new    the spot of a record, way by way
---   spot-head             the record has a head, which the search needs
 --   stored-refused, stored-there, stored-new    what shelving promises, by the spot
 --   new-fits              a new record has room
 --   put-turn, put-ends    the loop that puts a record into the shelf
@@ -40,55 +40,49 @@ and-false : (a b : Bool) → a ≡ true → (a && b) ≡ false → b ≡ false
 and-false true b t e = e
 and-false false b t e = absurd (false≢true t)
 
+-- a record that is not refused has a head
+pub headed : (r : List ℕ) → headRefusal r ≡ 0 → 6 ≤ length r
+unfolding passes
+headed r e = passes-long r (eq-eqb (headRefusal r) 0 e)
+
 module _ (r s : List ℕ) (u : ℕ) where
-  abbrev rs : List (List ℕ)
-  rs = recordsIn (take u s)
+  pub spot-refused : (x : ℕ) → x ≡ headRefusal r → (x ≡ 0 → ⊥) → Refused x ≡ spotOf r s u
+  unfolding spotOf shelveRefusal firstRefusal
+  spot-refused x e d = rw (sym e, ne-eqb x 0 d, ne-eqb x 0 d)
 
-  module _ (x : ℕ) (x-is : x ≡ headRefusal r) where
-    pub spot-refused : (x ≡ 0 → ⊥) → Refused x ≡ spotOf r s u
-    unfolding spotOf shelveRefusal firstRefusal
-    spot-refused d = rw (sym x-is, ne-eqb x 0 d, ne-eqb x 0 d)
+  module _ (fine : headRefusal r ≡ 0) where
+    pub spot-over : length s < u → Refused 14 ≡ spotOf r s u
+    unfolding spotOf shelveRefusal firstRefusal shelfRefused
+    spot-over h = rw (fine, lt-ltb (length s) u h)
 
-    module _ (fine : x ≡ 0) where
-      zero-head : headRefusal r ≡ 0
-      zero-head = sym x-is ∙ fine
+    module _ (h : u ≤ length s) where
+      abbrev answer : Searched
+      answer = searchOf r (take (u - 0) (drop 0 s))
 
-      pub spot-head : 6 ≤ length r
-      unfolding passes
-      spot-head = passes-long r (eq-eqb (headRefusal r) 0 zero-head)
+      -- 14, by the search
+      fourteen : (b : Bool) → endToEnd (take (u - 0) (drop 0 s)) ≡ b → shelfRefused s u ≡ not b
+      unfolding shelfRefused
+      fourteen b e = rw (le-ltb (length s) u h, sym (ap endToEnd (used-part s u)) ∙ e)
 
-      pub spot-over : length s < u → Refused 14 ≡ spotOf r s u
-      unfolding spotOf shelveRefusal firstRefusal shelfRefused
-      spot-over h = rw (zero-head, lt-ltb (length s) u h)
+      pub spot-broken : searched.Broken ≡ answer → Refused 14 ≡ spotOf r s u
+      unfolding spotOf shelveRefusal firstRefusal
+      spot-broken e = rw (fine, fourteen false (told-broken r _ e))
 
-      module _ (h : u ≤ length s) where
-        -- 14, by the search
-        fourteen : (b : Bool) → endToEnd (take (u - 0) (drop 0 s)) ≡ b → shelfRefused s u ≡ not b
-        unfolding shelfRefused
-        fourteen b e = rw (le-ltb (length s) u h, sym (ap endToEnd (used-part s u)) ∙ e)
-
-        abbrev answer : Searched
-        answer = searchOf r (take (u - 0) (drop 0 s))
-
-        pub spot-broken : searched.Broken ≡ answer → Refused 14 ≡ spotOf r s u
+      module _ (n c : ℕ) where
+        pub spot-there : searched.There n c ≡ answer → There n ≡ spotOf r s u
         unfolding spotOf shelveRefusal firstRefusal
-        spot-broken e = rw (zero-head, fourteen false (told-broken r _ e))
+        spot-there e = let t = told-there r _ n c e in rw (fine, fourteen true (t .0), sym (used-part s u), t .3, t .1)
 
-        module _ (n c : ℕ) where
-          pub spot-there : searched.There n c ≡ answer → There n ≡ spotOf r s u
+        module _ (e : searched.Missing n c ≡ answer) where
+          pub spot-full : length s - u < length r → Refused 16 ≡ spotOf r s u
           unfolding spotOf shelveRefusal firstRefusal
-          spot-there e = let t = told-there r _ n c e in rw (zero-head, fourteen true (t .0), sym (used-part s u), t .3, t .1)
+          spot-full l = let t = told-missing r _ n c e in rw (fine, fourteen true (t .0), sym (used-part s u), t .3, lt-ltb (length s - u) (length r) l)
 
-          module _ (e : searched.Missing n c ≡ answer) where
-            pub spot-full : length s - u < length r → Refused 16 ≡ spotOf r s u
-            unfolding spotOf shelveRefusal firstRefusal
-            spot-full l = let t = told-missing r _ n c e in rw (zero-head, fourteen true (t .0), sym (used-part s u), t .3, lt-ltb (length s - u) (length r) l)
-
-            pub spot-new : length r ≤ length s - u → New n ≡ spotOf r s u
-            unfolding spotOf shelveRefusal firstRefusal
-            spot-new l =
-                let t = told-missing r _ n c e in
-                rw (zero-head, fourteen true (t .0), sym (used-part s u), t .3, le-ltb (length s - u) (length r) l, t .1)
+          pub spot-new : length r ≤ length s - u → New n ≡ spotOf r s u
+          unfolding spotOf shelveRefusal firstRefusal
+          spot-new l =
+              let t = told-missing r _ n c e in
+              rw (fine, fourteen true (t .0), sym (used-part s u), t .3, le-ltb (length s - u) (length r) l, t .1)
 
 -- ---- shelving, by the spot
 
