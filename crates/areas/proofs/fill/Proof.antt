@@ -34,31 +34,13 @@ Inv-loop w₀ a n x e i₀ w i = (a ≤ i) × (i ≤ e) × (e ≡ a + n) × (w �
 abbrev μ-loop : tie.MeasureT-loop
 μ-loop w₀ a n x e i₀ w i = e - i
 
-add-e : tie.Need-add-e Inv-loop μ-loop
-add-e c = search needs
-
 loop-holds : tie.Need-loop-holds Inv-loop μ-loop
 loop-holds c = (search needs, search needs, search needs, none _ _ _, search needs)
-
-mul-w : tie.Need-mul-w Inv-loop μ-loop
-mul-w c = search needs
-
-slice-write-w : tie.Need-slice-write-w Inv-loop μ-loop
-slice-write-w c = search needs
-
-add-i : tie.Need-add-i Inv-loop μ-loop
-add-i c = search needs
-
-loop-less : tie.Need-loop-less Inv-loop μ-loop
-loop-less c = search needs
 
 loop-again : tie.Need-loop-again Inv-loop μ-loop
 loop-again c =
     let at = c .before .loop in
     (search needs, search needs, search needs, more _ (at .i) _ _ _ (at .inv .0) (omega arith) (at .inv .3), search needs)
-
-same-length : tie.Need-same-length Inv-loop μ-loop
-same-length c = search needs
 
 returns : tie.Need-returns Inv-loop μ-loop
 returns c =
@@ -72,12 +54,12 @@ fill-spec =
     (tie.spec
     Inv-loop
     μ-loop
-    add-e
+    (λ c. search needs)
     loop-holds
-    mul-w
-    slice-write-w
-    add-i
-    loop-less
+    (λ c. search needs)
+    (λ c. search needs)
+    (λ c. search needs)
+    (λ c. search needs)
     loop-again
-    same-length
+    (λ c. search needs)
     returns)

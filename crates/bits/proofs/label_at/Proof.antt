@@ -6,15 +6,6 @@ use borrow.Author.Needs.{needs}
 use Rattle.bits.proofs.label_at.Statement.{statement}
 use Rattle.bits.proofs.label_at.Tie as tie
 
-add-q : tie.Need-add-q
-add-q c = search needs
-
-shared-slice-read-b : tie.Need-shared-slice-read-b
-shared-slice-read-b c = search needs
-
-place-value-requires : tie.Need-place-value-requires
-place-value-requires c κs = search needs
-
 div-result : tie.Need-div-result
 div-result c = rw (c .place-value .ensures) (one-le-pow _ 3 (omega arith))
 
@@ -23,4 +14,4 @@ returns c = let p = c .before .before .before .pre in rw (c .place-value .ensure
 
 pub label-at-spec : {M : Type 1} → statement M
 label-at-spec =
-    tie.close (tie.spec add-q shared-slice-read-b place-value-requires div-result returns)
+    tie.close (tie.spec (λ c. search needs) (λ c. search needs) (λ c κs. search needs) div-result returns)

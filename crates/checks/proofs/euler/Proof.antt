@@ -6,17 +6,8 @@ use borrow.Author.Needs.{needs}
 use Rattle.checks.proofs.euler.Statement.{statement}
 use Rattle.checks.proofs.euler.Tie as tie
 
-cast-result : tie.Need-cast-result
-cast-result c = search needs
-
-cast-result-2 : tie.Need-cast-result-2
-cast-result-2 c = search needs
-
 sub-result : tie.Need-sub-result
 sub-result c = fits-less (c .args .v) (c .args .e) (c .args .f) (omega arith) (omega arith) (omega arith)
-
-cast-result-3 : tie.Need-cast-result-3
-cast-result-3 c = search needs
 
 add-result : tie.Need-add-result
 add-result c =
@@ -30,4 +21,4 @@ returns c =
 
 pub euler-spec : {M : Type 1} → statement M
 euler-spec =
-    tie.close (tie.spec cast-result cast-result-2 sub-result cast-result-3 add-result returns)
+    tie.close (tie.spec (λ c. search needs) (λ c. search needs) sub-result (λ c. search needs) add-result returns)

@@ -3,14 +3,8 @@ use borrow.Author.Needs.{needs}
 use Rattle.checks.proofs.is_permutation.Statement.{statement}
 use Rattle.checks.proofs.is_permutation.Tie as tie
 
-slice-aggregate-marked : tie.Need-slice-aggregate-marked
-slice-aggregate-marked c = search needs
-
 marked-requires : tie.Need-marked-requires
 marked-requires c κs = (c .before .before .pre, zero-bits 1024)
 
-returns : tie.Need-returns
-returns c = search needs
-
 pub is-permutation-spec : {M : Type 1} → statement M
-is-permutation-spec = tie.close (tie.spec slice-aggregate-marked marked-requires returns)
+is-permutation-spec = tie.close (tie.spec (λ c. search needs) marked-requires (λ c. search needs))

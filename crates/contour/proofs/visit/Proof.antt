@@ -86,9 +86,6 @@ shared-slice-read-result-2 c = let f = at (c .before .before .before .before .be
 cast-result-2 : tie.Need-cast-result-2
 cast-result-2 c = let f = at (c .before .before .before .before .before .before .before .before .before .before) in omega arith
 
-same-length-2 : tie.Need-same-length-2
-same-length-2 c = search needs
-
 returns-2 : tie.Need-returns-2
 returns-2 c =
     is-noted (at (c .before .before .before .before .before .before .before .before .before .before)) _
@@ -107,9 +104,6 @@ shared-slice-read-result-3 c = let f = at (c .before .before .before .before .be
 cast-result-3 : tie.Need-cast-result-3
 cast-result-3 c = let f = at (c .before .before .before .before .before .before .before .before) in omega arith
 
-same-length-3 : tie.Need-same-length-3
-same-length-3 c = search needs
-
 returns-3 : tie.Need-returns-3
 returns-3 c =
     comes-up (at (c .before .before .before .before .before .before .before .before)) _ (c .before .before .before .before .before .if3 .taken)
@@ -126,9 +120,6 @@ shared-slice-read-result-4 c = let f = at (c .before .before .before .before .be
 
 cast-result-4 : tie.Need-cast-result-4
 cast-result-4 c = let f = at (c .before .before .before .before .before .before .before .before) in omega arith
-
-same-length-4 : tie.Need-same-length-4
-same-length-4 c = search needs
 
 returns-4 : tie.Need-returns-4
 returns-4 c =
@@ -163,17 +154,17 @@ visit-spec =
     mul-result-2
     shared-slice-read-result-2
     cast-result-2
-    same-length-2
+    (λ c. search needs)
     returns-2
     note-requires-3
     mul-result-3
     shared-slice-read-result-3
     cast-result-3
-    same-length-3
+    (λ c. search needs)
     returns-3
     note-requires-4
     mul-result-4
     shared-slice-read-result-4
     cast-result-4
-    same-length-4
+    (λ c. search needs)
     returns-4)

@@ -22,9 +22,6 @@ fits c = let l = c .before .before .before .loop in step-fits _ (l .at) (l .n) _
 loop-holds : tie.Need-loop-holds Inv-loop μ-loop
 loop-holds c = (search needs, search needs, count-begins _)
 
-length-at-requires : tie.Need-length-at-requires Inv-loop μ-loop
-length-at-requires c κs = search needs
-
 returns : tie.Need-returns Inv-loop μ-loop
 returns c = let l = c .before .before .before .loop in
     sym (count-stops _ (l .at) (l .n) _ (c .before .length-at .ensures) (c .if1 .taken) (omega arith)) ∙ l .inv .2
@@ -53,7 +50,7 @@ count-spec =
     Inv-loop
     μ-loop
     loop-holds
-    length-at-requires
+    (λ c κs. search needs)
     returns
     add-at
     add-n

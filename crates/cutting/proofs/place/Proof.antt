@@ -29,17 +29,8 @@ loop-holds c = (c .before .pre .0, c .before .pre .1, zero-add _)
 field-requires : tie.Need-field-requires Inv-loop μ-loop
 field-requires c κs = let l = c .before .loop in let r = room _ (l .at) (l .inv .0) (some-here _ (l .at) (l .left) (l .inv .1)) in omega arith
 
-cast-at : tie.Need-cast-at Inv-loop μ-loop
-cast-at c = search needs
-
 add-at : tie.Need-add-at Inv-loop μ-loop
 add-at c = let f = fits c in omega arith
-
-sub-left : tie.Need-sub-left Inv-loop μ-loop
-sub-left c = search needs
-
-loop-less : tie.Need-loop-less Inv-loop μ-loop
-loop-less c = search needs
 
 loop-again : tie.Need-loop-again Inv-loop μ-loop
 loop-again c = let l = c .before .before .loop in
@@ -59,9 +50,9 @@ place-spec =
     μ-loop
     loop-holds
     field-requires
-    cast-at
+    (λ c. search needs)
     add-at
-    sub-left
-    loop-less
+    (λ c. search needs)
+    (λ c. search needs)
     loop-again
     returns)

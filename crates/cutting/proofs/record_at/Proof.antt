@@ -14,18 +14,6 @@ fits : (c : tie.Else1)
     (6 ≤ l) × (a .at + l ≤ length (a .bytes .now))
 fits c = step-fits _ _ 0 _ (c .before .length-at .ensures) (c .if1 .left)
 
-length-at-requires : tie.Need-length-at-requires
-length-at-requires c κs = search needs
-
-sub-result : tie.Need-sub-result
-sub-result c = search needs
-
-part-result-start : tie.Need-part-result-start
-part-result-start c = search needs
-
-part-result-end : tie.Need-part-result-end
-part-result-end c = search needs
-
 returns : tie.Need-returns
 returns c = let l = c .before .before .length-at .ensures in
     let s = c .before .before .before .before .args .bytes in
@@ -58,10 +46,10 @@ pub record-at-spec : {M : Type 1} → statement M
 record-at-spec =
     tie.close
     (tie.spec
-    length-at-requires
-    sub-result
-    part-result-start
-    part-result-end
+    (λ c κs. search needs)
+    (λ c. search needs)
+    (λ c. search needs)
+    (λ c. search needs)
     returns
     add-end
     sub-result-2

@@ -30,27 +30,6 @@ loop-holds c =
     let perm = step-perm (st .args .order .now) (st .pre .entries) (st .args .across) (st .pre .size) in
     (search needs, search needs, following-start _ _ perm (n .2) _ (st .pre .below) _ _ (st .pre .fits) (st .pre .names) (st .pre .own))
 
-add-if1 : tie.Need-add-if1 Inv-loop μ-loop
-add-if1 c = search needs
-
-mul-if1 : tie.Need-mul-if1 Inv-loop μ-loop
-mul-if1 c = search needs
-
-slice-read-if1 : tie.Need-slice-read-if1 Inv-loop μ-loop
-slice-read-if1 c = search needs
-
-add-w : tie.Need-add-w Inv-loop μ-loop
-add-w c = search needs
-
-mul-w : tie.Need-mul-w Inv-loop μ-loop
-mul-w c = search needs
-
-slice-write-w : tie.Need-slice-write-w Inv-loop μ-loop
-slice-write-w c = search needs
-
-step-requires : tie.Need-step-requires Inv-loop μ-loop
-step-requires c κs = search needs
-
 loop-less : tie.Need-loop-less Inv-loop μ-loop
 loop-less c =
     let at = c .before .before .before .loop in
@@ -68,9 +47,6 @@ loop-again c =
     let s = following-step _ _ perm (n .2) _ (st .pre .below) _ _ (st .pre .fits) _ _ (at .inv .2) in
     rw (c .step .ensures) (s .naming .here, s .as-long, s)
 
-same-length : tie.Need-same-length Inv-loop μ-loop
-same-length c = search needs
-
 returns : tie.Need-returns Inv-loop μ-loop
 returns c =
     let at = c .before .before .loop in
@@ -87,14 +63,14 @@ follow-spec =
     μ-loop
     cast-name
     loop-holds
-    add-if1
-    mul-if1
-    slice-read-if1
-    add-w
-    mul-w
-    slice-write-w
-    step-requires
+    (λ c. search needs)
+    (λ c. search needs)
+    (λ c. search needs)
+    (λ c. search needs)
+    (λ c. search needs)
+    (λ c. search needs)
+    (λ c κs. search needs)
     loop-less
     loop-again
-    same-length
+    (λ c. search needs)
     returns)

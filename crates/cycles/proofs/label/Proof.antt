@@ -18,22 +18,10 @@ Inv-loop order across w₀ a n count₀ d₀ w count d =
 abbrev μ-loop : tie.MeasureT-loop
 μ-loop order across w₀ a n count₀ d₀ w count d = length order - d
 
-fill-requires : tie.Need-fill-requires Inv-loop μ-loop
-fill-requires c κs = search needs
-
 loop-holds : tie.Need-loop-holds Inv-loop μ-loop
 loop-holds c =
     let st = c .before .before .before .before .before .before in
     (search needs, search needs, half-start _ _ _ (st .args .w .now) (st .pre .2) _ (c .before .before .fill .ensures))
-
-add-if1 : tie.Need-add-if1 Inv-loop μ-loop
-add-if1 c = search needs
-
-mul-if1 : tie.Need-mul-if1 Inv-loop μ-loop
-mul-if1 c = search needs
-
-slice-read-if1 : tie.Need-slice-read-if1 Inv-loop μ-loop
-slice-read-if1 c = search needs
 
 follow-requires : tie.Need-follow-requires Inv-loop μ-loop
 follow-requires c κs =
@@ -55,12 +43,6 @@ add-count c =
     let k = half-count _ _ _ _ _ _ _ (c .before .before .before .before .before .before .before .loop .inv .2) in
     omega arith
 
-add-d : tie.Need-add-d Inv-loop μ-loop
-add-d c = search needs
-
-loop-less : tie.Need-loop-less Inv-loop μ-loop
-loop-less c = search needs
-
 loop-again : tie.Need-loop-again Inv-loop μ-loop
 loop-again c =
     let at = c .before .before .before .loop in
@@ -80,9 +62,6 @@ loop-again c =
     ))
     (c .if1 .came)
 
-same-length : tie.Need-same-length Inv-loop μ-loop
-same-length c = search needs
-
 returns : tie.Need-returns Inv-loop μ-loop
 returns c =
     let at = c .before .loop in
@@ -95,15 +74,15 @@ label-spec =
     (tie.spec
     Inv-loop
     μ-loop
-    fill-requires
+    (λ c κs. search needs)
     loop-holds
-    add-if1
-    mul-if1
-    slice-read-if1
+    (λ c. search needs)
+    (λ c. search needs)
+    (λ c. search needs)
     follow-requires
     add-count
-    add-d
-    loop-less
+    (λ c. search needs)
+    (λ c. search needs)
     loop-again
-    same-length
+    (λ c. search needs)
     returns)

@@ -31,12 +31,6 @@ cast-result c = omega (arith, c .shared-slice-known2 .given (c .before .other .r
 returns : tie.Need-returns
 returns c = step-across _ _ _ _ (c .before .before .if1 .taken) (c .before .other .ensures)
 
-mul-result-2 : tie.Need-mul-result-2
-mul-result-2 c = search needs
-
-shared-slice-read-result-2 : tie.Need-shared-slice-read-result-2
-shared-slice-read-result-2 c = search needs
-
 cast-result-2 : tie.Need-cast-result-2
 cast-result-2 c = omega (arith, c .shared-slice-known3 .given (c .before .before .before .args .d))
 
@@ -52,7 +46,7 @@ step-spec =
     shared-slice-read-result
     cast-result
     returns
-    mul-result-2
-    shared-slice-read-result-2
+    (λ c. search needs)
+    (λ c. search needs)
     cast-result-2
     returns-2)

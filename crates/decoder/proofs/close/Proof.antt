@@ -10,14 +10,5 @@ returns : tie.Need-returns
 unfolding Turned
 returns c = λ bs. (empty _ bs _ _ _ _ (c .before .before .pre .1) (c .if1 .taken), refl)
 
-close-last-requires : tie.Need-close-last-requires
-close-last-requires c κs = search needs
-
-same-length : tie.Need-same-length
-same-length c = search needs
-
-returns-2 : tie.Need-returns-2
-returns-2 c = search needs
-
 pub close-spec : {M : Type 1} → statement M
-close-spec = tie.close (tie.spec returns close-last-requires same-length returns-2)
+close-spec = tie.close (tie.spec returns (λ c κs. search needs) (λ c. search needs) (λ c. search needs))

@@ -12,42 +12,12 @@ use Rattle.decoder.proofs.close_last.Tie as tie
 small : (c : tie.Start) → lastOpen (c .args .m) (c .args .w .now) (c .args .s) < c .args .m
 small c = all-first _ _ _ _ (c .pre .2) (c .pre .0 .stands .seconds-in)
 
-sub-top : tie.Need-sub-top
-sub-top c = search needs
-
-mul-v : tie.Need-mul-v
-mul-v c = search needs
-
-add-v : tie.Need-add-v
-add-v c = search needs
-
-mul-v-2 : tie.Need-mul-v-2
-mul-v-2 c = search needs
-
-slice-read-v : tie.Need-slice-read-v
-slice-read-v c = search needs
-
 returns : tie.Need-returns
 unfolding Turned
 returns c = λ bs. (early _ bs _ _ _ _ (c .before .before .before .pre .1) (c .before .before .before .pre .2) (c .if1 .taken), refl)
 
-mul-e : tie.Need-mul-e
-mul-e c = search needs
-
-add-e : tie.Need-add-e
-add-e c = search needs
-
-mul-e-2 : tie.Need-mul-e-2
-mul-e-2 c = search needs
-
-slice-read-e : tie.Need-slice-read-e
-slice-read-e c = search needs
-
 cast-e : tie.Need-cast-e
 cast-e c = let k = small (c .before .before .before .before) in omega arith
-
-mul-label : tie.Need-mul-label
-mul-label c = search needs
 
 add-label : tie.Need-add-label
 add-label c = let k = small (c .before .before .before .before) in omega arith
@@ -67,15 +37,6 @@ add-place c = let k = small (c .before .before .before .before .before) in omega
 cast-w : tie.Need-cast-w
 cast-w c = let k = small (c .before .before .before .before .before) in omega arith
 
-mul-w : tie.Need-mul-w
-mul-w c = search needs
-
-slice-write-w : tie.Need-slice-write-w
-slice-write-w c = search needs
-
-same-length : tie.Need-same-length
-same-length c = search needs
-
 returns-2 : tie.Need-returns-2
 unfolding Turned
 returns-2 c = λ bs.
@@ -86,25 +47,25 @@ pub close-last-spec : {M : Type 1} → statement M
 close-last-spec =
     tie.close
     (tie.spec
-    sub-top
-    mul-v
-    add-v
-    mul-v-2
-    slice-read-v
+    (λ c. search needs)
+    (λ c. search needs)
+    (λ c. search needs)
+    (λ c. search needs)
+    (λ c. search needs)
     returns
-    mul-e
-    add-e
-    mul-e-2
-    slice-read-e
+    (λ c. search needs)
+    (λ c. search needs)
+    (λ c. search needs)
+    (λ c. search needs)
     cast-e
-    mul-label
+    (λ c. search needs)
     add-label
     mul-label-2
     slice-read-label
     mul-place
     add-place
     cast-w
-    mul-w
-    slice-write-w
-    same-length
+    (λ c. search needs)
+    (λ c. search needs)
+    (λ c. search needs)
     returns-2)

@@ -24,17 +24,8 @@ cleared m w w′ ls h l e =
       rw e (region-placed 0 blank w fits (2 * m) (sym n)),
     )
 
-clean-requires : tie.Need-clean-requires
-clean-requires c κs = search needs
-
 returns : tie.Need-returns
 returns c = answer-unreadable _ _ _ (sym (c .before .clean .ensures) ∙ not-true _ (c .if1 .taken))
-
-spread-requires : tie.Need-spread-requires
-spread-requires c κs = search needs
-
-mul-fill : tie.Need-mul-fill
-mul-fill c = search needs
 
 fill-requires : tie.Need-fill-requires
 fill-requires c κs =
@@ -50,9 +41,6 @@ run-requires c κs =
     let h = p .1 in
     ((p .0 .0, p .0 .2), cleared _ _ _ _ (omega arith) (s .ensures) (c .before .before .before .fill .ensures))
 
-same-length : tie.Need-same-length
-same-length c = search needs
-
 returns-2 : tie.Need-returns-2
 returns-2 c =
     let e = sym (c .before .before .before .before .before .before .before .before .before .before .before .before .before .clean .ensures) ∙ not-false _ (c .before .before .before .before .before .before .before .before .before .before .before .before .if1 .left) in
@@ -61,4 +49,14 @@ returns-2 c =
     answer-readable _ _ _ _ _ _ (c .before .before .before .before .before .before .before .before .before .before .before .before .before .before .before .before .pre .0) e (answer-kept _ _ _ _ _ _ (l ∙ k) (c .before .before .run .ensures))
 
 pub decode-spec : {M : Type 1} → statement M
-decode-spec = tie.close (tie.spec clean-requires returns spread-requires mul-fill fill-requires run-requires same-length returns-2)
+decode-spec =
+    tie.close
+    (tie.spec
+    (λ c κs. search needs)
+    returns
+    (λ c κs. search needs)
+    (λ c. search needs)
+    fill-requires
+    run-requires
+    (λ c. search needs)
+    returns-2)

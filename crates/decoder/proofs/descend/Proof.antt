@@ -43,30 +43,12 @@ room c =
     let ls = region (18 * st .args .m) (st .args .m) (st .args .w .now) in
     room-left _ _ ls _ _ _ (p .1) (p .0) (bit-count st) (r .bit-left) (label-count st) (r .label-left)
 
-bit-requires : tie.Need-bit-requires
-bit-requires c κs = search needs
-
-enum-told : tie.Need-enum-told
-enum-told c = search needs
-
 returns : tie.Need-returns
 unfolding Turned
 returns c =
     let st = c .before .before .before .before .before in
     let b = c .before .before .bit in
     (no-bit _ _ _ _ _ _ (st .pre .1 .1) (st .pre .1 .0) (bit-count st) (bit-end _ _ (b .result) (b .ensures) (c .enum-told .given .1)), refl)
-
-enum-known-b : tie.Need-enum-known-b
-enum-known-b c = search needs
-
-label-requires : tie.Need-label-requires
-label-requires c κs = search needs
-
-enum-told-2 : tie.Need-enum-told-2
-enum-told-2 c = search needs
-
-same-length : tie.Need-same-length
-same-length c = search needs
 
 returns-2 : tie.Need-returns-2
 unfolding Turned
@@ -78,14 +60,8 @@ returns-2 c =
     let r = label-missing _ _ _ (b .result) _ _ (b .ensures) g (l .result) (l .ensures) (c .enum-told2 .given .1) in
     (no-label _ _ _ _ _ _ (st .pre .1 .1) (st .pre .1 .0) (bit-count st) (r .0) (r .1), refl)
 
-enum-known-l : tie.Need-enum-known-l
-enum-known-l c = search needs
-
 leaf-requires : tie.Need-leaf-requires
 leaf-requires c κs = room (c .before .before)
-
-same-length-2 : tie.Need-same-length-2
-same-length-2 c = search needs
 
 returns-3 : tie.Need-returns-3
 unfolding Turned
@@ -98,9 +74,6 @@ returns-3 c =
 back-requires : tie.Need-back-requires
 back-requires c κs = room (c .before .before .before)
 
-same-length-3 : tie.Need-same-length-3
-same-length-3 c = search needs
-
 returns-4 : tie.Need-returns-4
 unfolding Turned
 returns-4 c =
@@ -111,9 +84,6 @@ returns-4 c =
 
 enter-requires : tie.Need-enter-requires
 enter-requires c κs = room (c .before .before .before)
-
-same-length-4 : tie.Need-same-length-4
-same-length-4 c = search needs
 
 returns-5 : tie.Need-returns-5
 unfolding Turned
@@ -127,21 +97,21 @@ pub descend-spec : {M : Type 1} → statement M
 descend-spec =
     tie.close
     (tie.spec
-    bit-requires
-    enum-told
+    (λ c κs. search needs)
+    (λ c. search needs)
     returns
-    enum-known-b
-    label-requires
-    enum-told-2
-    same-length
+    (λ c. search needs)
+    (λ c κs. search needs)
+    (λ c. search needs)
+    (λ c. search needs)
     returns-2
-    enum-known-l
+    (λ c. search needs)
     leaf-requires
-    same-length-2
+    (λ c. search needs)
     returns-3
     back-requires
-    same-length-3
+    (λ c. search needs)
     returns-4
     enter-requires
-    same-length-4
+    (λ c. search needs)
     returns-5)

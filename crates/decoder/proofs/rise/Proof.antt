@@ -10,38 +10,8 @@ use Rattle.decoder.proofs.rise.Tie as tie
 small : (c : tie.Start) → lastTree (c .args .m) (c .args .w .now) (c .args .s) < c .args .m
 small c = all-first _ _ _ _ (c .pre .1) (c .pre .0 .trees-in)
 
-sub-top : tie.Need-sub-top
-sub-top c = search needs
-
-mul-here : tie.Need-mul-here
-mul-here c = search needs
-
-add-here : tie.Need-add-here
-add-here c = search needs
-
-mul-here-2 : tie.Need-mul-here-2
-mul-here-2 c = search needs
-
-slice-read-here : tie.Need-slice-read-here
-slice-read-here c = search needs
-
-mul-e : tie.Need-mul-e
-mul-e c = search needs
-
-add-e : tie.Need-add-e
-add-e c = search needs
-
-mul-e-2 : tie.Need-mul-e-2
-mul-e-2 c = search needs
-
-slice-read-e : tie.Need-slice-read-e
-slice-read-e c = search needs
-
 cast-e : tie.Need-cast-e
 cast-e c = let k = small (c .before .before) in omega arith
-
-mul-label : tie.Need-mul-label
-mul-label c = search needs
 
 add-label : tie.Need-add-label
 add-label c = let k = small (c .before .before) in omega arith
@@ -61,40 +31,28 @@ add-w c = let k = small (c .before .before .before) in omega arith
 cast-w : tie.Need-cast-w
 cast-w c = let k = small (c .before .before .before) in omega arith
 
-mul-w : tie.Need-mul-w
-mul-w c = search needs
-
-slice-write-w : tie.Need-slice-write-w
-slice-write-w c = search needs
-
-same-length : tie.Need-same-length
-same-length c = search needs
-
-returns : tie.Need-returns
-returns c = search needs
-
 pub rise-spec : {M : Type 1} → statement M
 rise-spec =
     tie.close
     (tie.spec
-    sub-top
-    mul-here
-    add-here
-    mul-here-2
-    slice-read-here
-    mul-e
-    add-e
-    mul-e-2
-    slice-read-e
+    (λ c. search needs)
+    (λ c. search needs)
+    (λ c. search needs)
+    (λ c. search needs)
+    (λ c. search needs)
+    (λ c. search needs)
+    (λ c. search needs)
+    (λ c. search needs)
+    (λ c. search needs)
     cast-e
-    mul-label
+    (λ c. search needs)
     add-label
     mul-label-2
     slice-read-label
     mul-place
     add-w
     cast-w
-    mul-w
-    slice-write-w
-    same-length
-    returns)
+    (λ c. search needs)
+    (λ c. search needs)
+    (λ c. search needs)
+    (λ c. search needs))

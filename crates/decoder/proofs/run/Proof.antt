@@ -46,17 +46,11 @@ loop-holds c =
 turn-requires : tie.Need-turn-requires Inv-loop μ-loop
 turn-requires c κs = let h = c .before .before .before .before .pre .0 in (h, c .before .loop .inv .fits)
 
-enum-known-t : tie.Need-enum-known-t Inv-loop μ-loop
-enum-known-t c = search needs
-
 loop-less : tie.Need-loop-less Inv-loop μ-loop
 loop-less c = running-less _ _ _ _ _ _ _ (c .before .before .before .before .before .before .before .loop .inv) _ _ _ (moved c)
 
 loop-again : tie.Need-loop-again Inv-loop μ-loop
 loop-again c = running-on _ _ _ _ _ _ _ (c .before .before .before .before .before .before .before .loop .inv) _ _ _ (moved c)
-
-enum-told : tie.Need-enum-told Inv-loop μ-loop
-enum-told c = search needs
 
 -- the place that waits for dart 0 is in the work area
 place-in : (c : tie.After-enum-told Inv-loop μ-loop) →
@@ -87,12 +81,6 @@ returns c =
     let d = turned-done _ _ _ _ _ _ (v .result) _ (i .labelled) (v .ensures) (c .enum-told .given .1) in
     answer-done _ _ _ _ _ _ _ i _ (sizes _ _ _ (headed _ _ (p .0)) .bit-count) (p .1 .2) (d .0) (ap (λ (x : List ℕ). set x (at .s .place) 0) (d .1))
 
-enum-told-2 : tie.Need-enum-told-2 Inv-loop μ-loop
-enum-told-2 c = search needs
-
-same-length-2 : tie.Need-same-length-2 Inv-loop μ-loop
-same-length-2 c = search needs
-
 returns-2 : tie.Need-returns-2 Inv-loop μ-loop
 returns-2 c =
     let v = c .before .before .before .before .turn in
@@ -108,14 +96,14 @@ run-spec =
     μ-loop
     loop-holds
     turn-requires
-    enum-known-t
+    (λ c. search needs)
     loop-less
     loop-again
-    enum-told
+    (λ c. search needs)
     mul-w
     slice-write-w
     same-length
     returns
-    enum-told-2
-    same-length-2
+    (λ c. search needs)
+    (λ c. search needs)
     returns-2)

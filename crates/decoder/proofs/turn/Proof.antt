@@ -34,23 +34,8 @@ none-left : (c : tie.After-enum-told) →
     length (bitsIn (a .bytes .now)) ≤ a .c .bits
 none-left c = let b = c .before .before .bit in bit-end _ _ (b .result) (b .ensures) (c .enum-told .given .1)
 
-close-requires : tie.Need-close-requires
-close-requires c κs = search needs
-
-same-length : tie.Need-same-length
-same-length c = search needs
-
 returns : tie.Need-returns
 returns c = c .before .before .close .ensures _
-
-bit-requires : tie.Need-bit-requires
-bit-requires c κs = search needs
-
-enum-told : tie.Need-enum-told
-enum-told c = search needs
-
-add-if2 : tie.Need-add-if2
-add-if2 c = search needs
 
 returns-2 : tie.Need-returns-2
 unfolding Turned
@@ -71,18 +56,12 @@ returns-4 c =
     let q = none-left (c .before .before) in
     (finishing _ _ _ _ _ _ (c .before .before .before .before .before .if1 .left) q (omega arith) (omega arith) (omega arith), refl)
 
-enum-known-b : tie.Need-enum-known-b
-enum-known-b c = search needs
-
 descend-requires : tie.Need-descend-requires
 descend-requires c κs =
     let st = c .before .before .before .before .before .before .before .before .before in
     let z = bit-count st in
     let r = ready _ _ _ _ _ _ _ z (st .pre .1) (one-read (c .before .before)) (c .before .if4 .taken) in
     (st .pre .0, (r, c .before .before .before .before .before .before .if1 .left))
-
-same-length-2 : tie.Need-same-length-2
-same-length-2 c = search needs
 
 returns-5 : tie.Need-returns-5
 returns-5 c =
@@ -102,9 +81,6 @@ returns-6 c =
 rise-requires : tie.Need-rise-requires
 rise-requires c κs = (c .before .before .before .before .before .before .before .before .before .before .pre .1 .stands, omega arith)
 
-same-length-3 : tie.Need-same-length-3
-same-length-3 c = search needs
-
 returns-7 : tie.Need-returns-7
 unfolding Turned
 returns-7 c =
@@ -119,20 +95,20 @@ pub turn-spec : {M : Type 1} → statement M
 turn-spec =
     tie.close
     (tie.spec
-    close-requires
-    same-length
+    (λ c κs. search needs)
+    (λ c. search needs)
     returns
-    bit-requires
-    enum-told
-    add-if2
+    (λ c κs. search needs)
+    (λ c. search needs)
+    (λ c. search needs)
     returns-2
     returns-3
     returns-4
-    enum-known-b
+    (λ c. search needs)
     descend-requires
-    same-length-2
+    (λ c. search needs)
     returns-5
     returns-6
     rise-requires
-    same-length-3
+    (λ c. search needs)
     returns-7)

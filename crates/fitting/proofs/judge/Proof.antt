@@ -9,31 +9,16 @@ use borrow.Author.Needs.{needs}
 use Rattle.fitting.proofs.judge.Statement.{statement}
 use Rattle.fitting.proofs.judge.Tie as tie
 
-walked-requires : tie.Need-walked-requires
-walked-requires c κs = search needs
-
-same-length : tie.Need-same-length
-same-length c = search needs
-
 returns : tie.Need-returns
 returns c = let st = c .before .before .before .before .before .before .before in
     let s = c .before .before .before .walked in
     parted (st .args .kind) _ (st .pre .0) (st .pre .2) (st .pre .1) (st .args .w .now) (s .result) _ (st .pre .3) (s .ensures) (c .if1 .taken)
-
-mul-label : tie.Need-mul-label
-mul-label c = search needs
-
-label-requires : tie.Need-label-requires
-label-requires c κs = search needs
 
 euler-requires : tie.Need-euler-requires
 euler-requires c κs = let st = c .before .before .before .before .before .before .before .before .before .before .before in
     let s = c .before .before .before .before .before .before .before .walked in
     let n = count-parts _ (st .pre .0) .2 in
     (few-vertices _ _ n (s .ensures .counted), omega arith, few _ _ _ n (c .before .before .label .ensures .counted))
-
-same-length-2 : tie.Need-same-length-2
-same-length-2 c = search needs
 
 returns-2 : tie.Need-returns-2
 returns-2 c = let st = c .before .before .before .before .before .before .before .before .before .before .before .before .before in
@@ -56,9 +41,6 @@ local-requires c κs = let st = c .before .before .before .before .before .befor
       ),
     )
 
-same-length-3 : tie.Need-same-length-3
-same-length-3 c = search needs
-
 returns-3 : tie.Need-returns-3
 returns-3 c = let st = c .before .before .before .before .before .before .before .before .before .before .before .before .before .before .before in
     let s = c .before .before .before .before .before .before .before .before .before .before .before .walked in
@@ -73,14 +55,14 @@ pub judge-spec : {M : Type 1} → statement M
 judge-spec =
     tie.close
     (tie.spec
-    walked-requires
-    same-length
+    (λ c κs. search needs)
+    (λ c. search needs)
     returns
-    mul-label
-    label-requires
+    (λ c. search needs)
+    (λ c κs. search needs)
     euler-requires
-    same-length-2
+    (λ c. search needs)
     returns-2
     local-requires
-    same-length-3
+    (λ c. search needs)
     returns-3)

@@ -16,9 +16,6 @@ returns c =
     let st = c .before .before .before .before in
     looped (st .args .kind) _ _ (handed st) (sym (c .before .has-loop .ensures) ∙ c .if1 .taken)
 
-has-dead-end-requires : tie.Need-has-dead-end-requires
-has-dead-end-requires c κs = search needs
-
 returns-2 : tie.Need-returns-2
 returns-2 c =
     let st = c .before .before .before .before .before .before .before in
@@ -42,4 +39,4 @@ returns-4 c =
 pub local-spec : {M : Type 1} → statement M
 local-spec =
     tie.close
-    (tie.spec has-loop-requires returns has-dead-end-requires returns-2 returns-3 returns-4)
+    (tie.spec has-loop-requires returns (λ c κs. search needs) returns-2 returns-3 returns-4)

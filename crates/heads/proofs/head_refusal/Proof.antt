@@ -9,28 +9,13 @@ use Rattle.heads.proofs.head_refusal.Tie as tie
 returns : tie.Need-returns
 returns c = refuse-short _ (omega arith)
 
-field-requires : tie.Need-field-requires
-field-requires c κs = search needs
-
-cast-if2 : tie.Need-cast-if2
-cast-if2 c = search needs
-
 returns-2 : tie.Need-returns-2
 returns-2 c = refuse-length _ (omega arith) _ (c .before .field .ensures) (c .if2 .taken)
-
-field-requires-2 : tie.Need-field-requires-2
-field-requires-2 c κs = search needs
-
-is-kind-requires : tie.Need-is-kind-requires
-is-kind-requires c κs = search needs
 
 returns-3 : tie.Need-returns-3
 returns-3 c = let kind = c .before .is-kind in
     refuse-kind _ (omega arith) _ (c .before .before .before .before .field .ensures) (omega arith) _ (c .before .before .field2 .ensures)
     (sym (kind .ensures) ∙ not-true (kind .result) (c .if3 .taken))
-
-field-requires-3 : tie.Need-field-requires-3
-field-requires-3 c κs = search needs
 
 returns-4 : tie.Need-returns-4
 returns-4 c = let k = c .before .before in
@@ -43,9 +28,6 @@ returns-5 c = let k = c .before .before .before in
     let kind = k .before .is-kind in
     refuse-many _ (omega arith) _ (k .before .before .before .before .field .ensures) (omega arith) _ (k .before .before .field2 .ensures)
     (sym (kind .ensures) ∙ not-false (kind .result) (k .if3 .left)) _ (c .before .before .field3 .ensures) (c .before .if4 .left) (omega arith)
-
-record-length-requires : tie.Need-record-length-requires
-record-length-requires c κs = search needs
 
 returns-6 : tie.Need-returns-6
 returns-6 c = let k = c .before .before .before .before .before in
@@ -66,15 +48,15 @@ head-refusal-spec =
     tie.close
     (tie.spec
     returns
-    field-requires
-    cast-if2
+    (λ c κs. search needs)
+    (λ c. search needs)
     returns-2
-    field-requires-2
-    is-kind-requires
+    (λ c κs. search needs)
+    (λ c κs. search needs)
     returns-3
-    field-requires-3
+    (λ c κs. search needs)
     returns-4
     returns-5
-    record-length-requires
+    (λ c κs. search needs)
     returns-6
     returns-7)

@@ -6,9 +6,6 @@ use borrow.Author.Needs.{needs}
 use Rattle.jurnadel.proofs.jurnadel_record_length.Statement.{statement}
 use Rattle.jurnadel.proofs.jurnadel_record_length.Tie as tie
 
-is-kind-requires : tie.Need-is-kind-requires
-is-kind-requires c κs = search needs
-
 returns : tie.Need-returns
 returns c = no-kind _ _ (sym (c .before .is-kind .ensures) ∙ not-true _ (c .if1 .taken))
 
@@ -18,9 +15,6 @@ returns-2 c = no-edges _ _ (sym (c .before .before .is-kind .ensures) ∙ not-fa
 returns-3 : tie.Need-returns-3
 returns-3 c = let kind = sym (c .before .before .before .is-kind .ensures) ∙ not-false _ (c .before .before .if1 .left) in
     too-many _ _ kind (c .before .if2 .left) (omega arith)
-
-record-length-requires : tie.Need-record-length-requires
-record-length-requires c κs = search needs
 
 cast-result : tie.Need-cast-result
 cast-result c = let a = c .before .before .before .before .before .args in
@@ -35,10 +29,10 @@ pub jurnadel-record-length-spec : {M : Type 1} → statement M
 jurnadel-record-length-spec =
     tie.close
     (tie.spec
-    is-kind-requires
+    (λ c κs. search needs)
     returns
     returns-2
     returns-3
-    record-length-requires
+    (λ c κs. search needs)
     cast-result
     returns-4)

@@ -5,18 +5,6 @@ use borrow.Author.Needs.{needs}
 use Rattle.laying.proofs.digit.Statement.{statement}
 use Rattle.laying.proofs.digit.Tie as tie
 
-add-if1 : tie.Need-add-if1
-add-if1 c = search needs
-
-add-result : tie.Need-add-result
-add-result c = search needs
-
-mul-result : tie.Need-mul-result
-mul-result c = search needs
-
-shared-slice-read-result : tie.Need-shared-slice-read-result
-shared-slice-read-result c = search needs
-
 returns : tie.Need-returns
 returns c = sym (entry _ _ _ _ (c .before .if1 .taken))
 
@@ -25,4 +13,11 @@ returns-2 c = sym (entry-past _ _ _ (c .before .pre .0) _ (omega arith))
 
 pub digit-spec : {M : Type 1} → statement M
 digit-spec =
-    tie.close (tie.spec add-if1 add-result mul-result shared-slice-read-result returns returns-2)
+    tie.close
+    (tie.spec
+    (λ c. search needs)
+    (λ c. search needs)
+    (λ c. search needs)
+    (λ c. search needs)
+    returns
+    returns-2)

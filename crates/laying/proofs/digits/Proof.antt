@@ -29,9 +29,6 @@ mul-x c =
     let b = in-byte _ (at .x) _ _ _ (omega arith) (omega arith) (digit-below _ _ (at .i) (omega arith) (st .pre .4)) (at .inv .1) in
     omega arith
 
-digit-requires : tie.Need-digit-requires Inv-loop μ-loop
-digit-requires c κs = search needs
-
 add-x : tie.Need-add-x Inv-loop μ-loop
 add-x c =
     let at = c .before .before .loop in
@@ -39,12 +36,6 @@ add-x c =
     let st = c .before .before .before .before in
     let b = in-byte _ (at .x) _ _ _ (omega arith) (omega arith) (digit-below _ _ (at .i) (omega arith) (st .pre .4)) (at .inv .1) in
     omega arith
-
-add-i : tie.Need-add-i Inv-loop μ-loop
-add-i c = search needs
-
-loop-less : tie.Need-loop-less Inv-loop μ-loop
-loop-less c = search needs
 
 loop-again : tie.Need-loop-again Inv-loop μ-loop
 loop-again c =
@@ -66,9 +57,9 @@ digits-spec =
     μ-loop
     loop-holds
     mul-x
-    digit-requires
+    (λ c κs. search needs)
     add-x
-    add-i
-    loop-less
+    (λ c. search needs)
+    (λ c. search needs)
     loop-again
     returns)

@@ -6,12 +6,6 @@ use borrow.Author.Needs.{needs}
 use Rattle.laying.proofs.lay_out.Statement.{statement}
 use Rattle.laying.proofs.lay_out.Tie as tie
 
-cast-edges : tie.Need-cast-edges
-cast-edges c = search needs
-
-record-length-requires : tie.Need-record-length-requires
-record-length-requires c κs = search needs
-
 cast-length : tie.Need-cast-length
 cast-length c =
     let st = c .before .before .before in
@@ -31,9 +25,6 @@ put-plain-requires c κs =
     let k = c .before .before .before .before .put-head .kept .0 in
     (pre .2, pre .3, omega (arith, pre), pre .5, plain-bound _ _ e (pre .6))
 
-same-length : tie.Need-same-length
-same-length c = search needs
-
 returns : tie.Need-returns
 returns c =
     let b = c .before .before .before .before in
@@ -51,9 +42,6 @@ put-starred-requires c κs =
     let k = c .before .before .before .before .put-head .kept .0 in
     (pre .2, pre .3, omega (arith, pre), pre .5, starred-bound _ _ e (pre .6))
 
-same-length-2 : tie.Need-same-length-2
-same-length-2 c = search needs
-
 returns-2 : tie.Need-returns-2
 returns-2 c =
     let b = c .before .before .before .before in
@@ -66,13 +54,13 @@ pub lay-out-spec : {M : Type 1} → statement M
 lay-out-spec =
     tie.close
     (tie.spec
-    cast-edges
-    record-length-requires
+    (λ c. search needs)
+    (λ c κs. search needs)
     cast-length
     put-head-requires
     put-plain-requires
-    same-length
+    (λ c. search needs)
     returns
     put-starred-requires
-    same-length-2
+    (λ c. search needs)
     returns-2)

@@ -9,18 +9,6 @@ returns : tie.Need-returns
 returns c =
     second-past _ _ (c .before .pre .2) _ (c .if1 .taken)
 
-mul-l : tie.Need-mul-l
-mul-l c = search needs
-
-add-l : tie.Need-add-l
-add-l c = search needs
-
-mul-l-2 : tie.Need-mul-l-2
-mul-l-2 c = search needs
-
-shared-slice-read-l : tie.Need-shared-slice-read-l
-shared-slice-read-l c = search needs
-
 returns-2 : tie.Need-returns-2
 returns-2 c =
     let st = c .before .before .before in
@@ -44,4 +32,12 @@ returns-4 c =
 pub second-at-spec : {M : Type 1} → statement M
 second-at-spec =
     tie.close
-    (tie.spec returns mul-l add-l mul-l-2 shared-slice-read-l returns-2 returns-3 returns-4)
+    (tie.spec
+    returns
+    (λ c. search needs)
+    (λ c. search needs)
+    (λ c. search needs)
+    (λ c. search needs)
+    returns-2
+    returns-3
+    returns-4)

@@ -24,38 +24,11 @@ sub-top c = rooms (c .before .before .before) .1
 sub-t : tie.Need-sub-t
 sub-t c = place (c .before .before .before .before)
 
-tree-label-requires : tie.Need-tree-label-requires
-tree-label-requires c κs = search needs
-
-mul-w : tie.Need-mul-w
-mul-w c = search needs
-
-add-w : tie.Need-add-w
-add-w c = search needs
-
-mul-w-2 : tie.Need-mul-w-2
-mul-w-2 c = search needs
-
-slice-write-w : tie.Need-slice-write-w
-slice-write-w c = search needs
-
-mul-w-3 : tie.Need-mul-w-3
-mul-w-3 c = search needs
-
-add-w-2 : tie.Need-add-w-2
-add-w-2 c = search needs
-
-mul-w-4 : tie.Need-mul-w-4
-mul-w-4 c = search needs
-
 slice-write-w-2 : tie.Need-slice-write-w-2
 slice-write-w-2 c =
     let b = c .before .before .before .before .before .before .pre .1 .bitted in
     let r = b .room in let t = b .bits-left in
     simp length-set (omega arith)
-
-same-length : tie.Need-same-length
-same-length c = search needs
 
 returns : tie.Need-returns
 returns c =
@@ -70,14 +43,14 @@ step-down-spec =
     sub-e
     sub-top
     sub-t
-    tree-label-requires
-    mul-w
-    add-w
-    mul-w-2
-    slice-write-w
-    mul-w-3
-    add-w-2
-    mul-w-4
+    (λ c κs. search needs)
+    (λ c. search needs)
+    (λ c. search needs)
+    (λ c. search needs)
+    (λ c. search needs)
+    (λ c. search needs)
+    (λ c. search needs)
+    (λ c. search needs)
     slice-write-w-2
-    same-length
+    (λ c. search needs)
     returns)

@@ -25,65 +25,17 @@ sub-top c = rooms (c .before .before) .1
 sub-t : tie.Need-sub-t
 sub-t c = place (c .before .before .before)
 
-mul-w : tie.Need-mul-w
-mul-w c = search needs
-
-add-w : tie.Need-add-w
-add-w c = search needs
-
-mul-w-2 : tie.Need-mul-w-2
-mul-w-2 c = search needs
-
-slice-read-w : tie.Need-slice-read-w
-slice-read-w c = search needs
-
-mul-w-3 : tie.Need-mul-w-3
-mul-w-3 c = search needs
-
-add-w-2 : tie.Need-add-w-2
-add-w-2 c = search needs
-
-mul-w-4 : tie.Need-mul-w-4
-mul-w-4 c = search needs
-
-slice-write-w : tie.Need-slice-write-w
-slice-write-w c = search needs
-
-mul-w-5 : tie.Need-mul-w-5
-mul-w-5 c = search needs
-
-add-w-3 : tie.Need-add-w-3
-add-w-3 c = search needs
-
-add-w-4 : tie.Need-add-w-4
-add-w-4 c = search needs
-
-mul-w-6 : tie.Need-mul-w-6
-mul-w-6 c = search needs
-
 slice-write-w-2 : tie.Need-slice-write-w-2
 slice-write-w-2 c =
     let b = c .before .before .before .before .pre .1 .bitted in
     let r = b .room in let t = b .bits-left in
     simp length-set (omega arith)
 
-mul-w-7 : tie.Need-mul-w-7
-mul-w-7 c = search needs
-
-add-w-5 : tie.Need-add-w-5
-add-w-5 c = search needs
-
-mul-w-8 : tie.Need-mul-w-8
-mul-w-8 c = search needs
-
 slice-write-w-3 : tie.Need-slice-write-w-3
 slice-write-w-3 c =
     let b = c .before .before .before .before .pre .1 .bitted in
     let r = b .room in let t = b .bits-left in
     simp length-set (omega arith)
-
-same-length : tie.Need-same-length
-same-length c = search needs
 
 returns : tie.Need-returns
 returns c =
@@ -98,22 +50,22 @@ step-first-spec =
     sub-e
     sub-top
     sub-t
-    mul-w
-    add-w
-    mul-w-2
-    slice-read-w
-    mul-w-3
-    add-w-2
-    mul-w-4
-    slice-write-w
-    mul-w-5
-    add-w-3
-    add-w-4
-    mul-w-6
+    (λ c. search needs)
+    (λ c. search needs)
+    (λ c. search needs)
+    (λ c. search needs)
+    (λ c. search needs)
+    (λ c. search needs)
+    (λ c. search needs)
+    (λ c. search needs)
+    (λ c. search needs)
+    (λ c. search needs)
+    (λ c. search needs)
+    (λ c. search needs)
     slice-write-w-2
-    mul-w-7
-    add-w-5
-    mul-w-8
+    (λ c. search needs)
+    (λ c. search needs)
+    (λ c. search needs)
     slice-write-w-3
-    same-length
+    (λ c. search needs)
     returns)

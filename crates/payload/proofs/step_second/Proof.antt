@@ -4,30 +4,6 @@ use borrow.Author.Needs.{needs}
 use Rattle.payload.proofs.step_second.Statement.{statement}
 use Rattle.payload.proofs.step_second.Tie as tie
 
-add-second-at : tie.Need-add-second-at
-add-second-at c = search needs
-
-second-at-requires : tie.Need-second-at-requires
-second-at-requires c κs = search needs
-
-mul-w : tie.Need-mul-w
-mul-w c = search needs
-
-add-w : tie.Need-add-w
-add-w c = search needs
-
-mul-w-2 : tie.Need-mul-w-2
-mul-w-2 c = search needs
-
-slice-write-w : tie.Need-slice-write-w
-slice-write-w c = search needs
-
-add-t12 : tie.Need-add-t12
-add-t12 c = search needs
-
-same-length : tie.Need-same-length
-same-length c = search needs
-
 returns : tie.Need-returns
 returns c =
     let st = c .before .before .before in
@@ -37,12 +13,12 @@ pub step-second-spec : {M : Type 1} → statement M
 step-second-spec =
     tie.close
     (tie.spec
-    add-second-at
-    second-at-requires
-    mul-w
-    add-w
-    mul-w-2
-    slice-write-w
-    add-t12
-    same-length
+    (λ c. search needs)
+    (λ c κs. search needs)
+    (λ c. search needs)
+    (λ c. search needs)
+    (λ c. search needs)
+    (λ c. search needs)
+    (λ c. search needs)
+    (λ c. search needs)
     returns)

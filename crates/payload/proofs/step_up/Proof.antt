@@ -14,47 +14,11 @@ place c = up-place _ _ _ _ (c .pre .0) (c .pre .1 .bitted) (c .pre .2)
 sub-t : tie.Need-sub-t
 sub-t c = place (c .before .before)
 
-add-second-at : tie.Need-add-second-at
-add-second-at c = search needs
-
-second-at-requires : tie.Need-second-at-requires
-second-at-requires c κs = search needs
-
-up-bit-requires : tie.Need-up-bit-requires
-up-bit-requires c κs = search needs
-
-mul-w : tie.Need-mul-w
-mul-w c = search needs
-
-add-w : tie.Need-add-w
-add-w c = search needs
-
-mul-w-2 : tie.Need-mul-w-2
-mul-w-2 c = search needs
-
-slice-write-w : tie.Need-slice-write-w
-slice-write-w c = search needs
-
-mul-w-3 : tie.Need-mul-w-3
-mul-w-3 c = search needs
-
-add-w-2 : tie.Need-add-w-2
-add-w-2 c = search needs
-
-mul-w-4 : tie.Need-mul-w-4
-mul-w-4 c = search needs
-
 slice-write-w-2 : tie.Need-slice-write-w-2
 slice-write-w-2 c =
     let b = c .before .before .before .before .before .before .pre .1 .bitted in
     let r = b .room in let t = b .bits-left in
     simp length-set (omega arith)
-
-add-t13 : tie.Need-add-t13
-add-t13 c = search needs
-
-same-length : tie.Need-same-length
-same-length c = search needs
 
 returns : tie.Need-returns
 returns c =
@@ -66,17 +30,17 @@ step-up-spec =
     tie.close
     (tie.spec
     sub-t
-    add-second-at
-    second-at-requires
-    up-bit-requires
-    mul-w
-    add-w
-    mul-w-2
-    slice-write-w
-    mul-w-3
-    add-w-2
-    mul-w-4
+    (λ c. search needs)
+    (λ c κs. search needs)
+    (λ c κs. search needs)
+    (λ c. search needs)
+    (λ c. search needs)
+    (λ c. search needs)
+    (λ c. search needs)
+    (λ c. search needs)
+    (λ c. search needs)
+    (λ c. search needs)
     slice-write-w-2
-    add-t13
-    same-length
+    (λ c. search needs)
+    (λ c. search needs)
     returns)

@@ -9,18 +9,6 @@ returns : tie.Need-returns
 returns c =
     up-past _ _ (c .before .pre .2) _ (c .if1 .taken)
 
-mul-result : tie.Need-mul-result
-mul-result c = search needs
-
-add-result : tie.Need-add-result
-add-result c = search needs
-
-mul-result-2 : tie.Need-mul-result-2
-mul-result-2 c = search needs
-
-shared-slice-read-result : tie.Need-shared-slice-read-result
-shared-slice-read-result c = search needs
-
 returns-2 : tie.Need-returns-2
 returns-2 c =
     let st = c .before .before in
@@ -29,4 +17,10 @@ returns-2 c =
 pub up-at-spec : {M : Type 1} → statement M
 up-at-spec =
     tie.close
-    (tie.spec returns mul-result add-result mul-result-2 shared-slice-read-result returns-2)
+    (tie.spec
+    returns
+    (λ c. search needs)
+    (λ c. search needs)
+    (λ c. search needs)
+    (λ c. search needs)
+    returns-2)

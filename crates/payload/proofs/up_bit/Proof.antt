@@ -8,21 +8,6 @@ use Rattle.payload.proofs.up_bit.Tie as tie
 returns : tie.Need-returns
 returns c = before-first _ _ (c .before .pre .2) _ _ (c .if1 .taken)
 
-mul-l : tie.Need-mul-l
-mul-l c = search needs
-
-sub-l : tie.Need-sub-l
-sub-l c = search needs
-
-add-l : tie.Need-add-l
-add-l c = search needs
-
-mul-l-2 : tie.Need-mul-l-2
-mul-l-2 c = search needs
-
-shared-slice-read-l : tie.Need-shared-slice-read-l
-shared-slice-read-l c = search needs
-
 returns-2 : tie.Need-returns-2
 returns-2 c =
     let st = c .before .before .before in
@@ -35,4 +20,13 @@ returns-3 c =
 
 pub up-bit-spec : {M : Type 1} → statement M
 up-bit-spec =
-    tie.close (tie.spec returns mul-l sub-l add-l mul-l-2 shared-slice-read-l returns-2 returns-3)
+    tie.close
+    (tie.spec
+    returns
+    (λ c. search needs)
+    (λ c. search needs)
+    (λ c. search needs)
+    (λ c. search needs)
+    (λ c. search needs)
+    returns-2
+    returns-3)

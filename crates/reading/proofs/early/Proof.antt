@@ -10,26 +10,14 @@ use Rattle.reading.proofs.early.Tie as tie
 passed : (c : tie.Else1) → headRefusal (c .before .before .before .args .«record» .now) ≡ 0
 passed c = sym (c .before .head-refusal .ensures) ∙ omega arith
 
-head-refusal-requires : tie.Need-head-refusal-requires
-head-refusal-requires c κs = search needs
-
 returns : tie.Need-returns
 returns c = early-head _ _ _ _ (c .before .head-refusal .ensures) (c .if1 .taken)
 
 field-requires : tie.Need-field-requires
 field-requires c κs = let l = head-long _ (passed c) in omega arith
 
-cast-m : tie.Need-cast-m
-cast-m c = search needs
-
-mul-if2 : tie.Need-mul-if2
-mul-if2 c = search needs
-
 returns-2 : tie.Need-returns-2
 returns-2 c = early-work _ _ _ _ (passed (c .before .before)) (c .before .field .ensures) (omega arith)
-
-mul-if3 : tie.Need-mul-if3
-mul-if3 c = search needs
 
 returns-3 : tie.Need-returns-3
 returns-3 c = early-output _ _ _ _ (passed (c .before .before .before)) (c .before .before .field .ensures) (omega arith) (omega arith)
@@ -41,12 +29,12 @@ pub early-spec : {M : Type 1} → statement M
 early-spec =
     tie.close
     (tie.spec
-    head-refusal-requires
+    (λ c κs. search needs)
     returns
     field-requires
-    cast-m
-    mul-if2
+    (λ c. search needs)
+    (λ c. search needs)
     returns-2
-    mul-if3
+    (λ c. search needs)
     returns-3
     returns-4)

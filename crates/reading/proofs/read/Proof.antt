@@ -7,18 +7,6 @@ use borrow.Author.Needs.{needs}
 use Rattle.reading.proofs.read.Statement.{statement}
 use Rattle.reading.proofs.read.Tie as tie
 
-read-out-requires : tie.Need-read-out-requires
-read-out-requires c κs = search needs
-
-clear-requires : tie.Need-clear-requires
-clear-requires c κs = search needs
-
-same-length : tie.Need-same-length
-same-length c = search needs
-
-same-length-2 : tie.Need-same-length-2
-same-length-2 c = search needs
-
 returns : tie.Need-returns
 unfolding zeros
 returns c =
@@ -26,4 +14,11 @@ returns c =
     record { outcome = r .ensures; cleared = c .before .before .clear .ensures ∙ ap (λ (n : ℕ). replicate n 0) (r .kept .1 .0) }
 
 pub read-spec : {M : Type 1} → statement M
-read-spec = tie.close (tie.spec read-out-requires clear-requires same-length same-length-2 returns)
+read-spec =
+    tie.close
+    (tie.spec
+    (λ c κs. search needs)
+    (λ c κs. search needs)
+    (λ c. search needs)
+    (λ c. search needs)
+    returns)

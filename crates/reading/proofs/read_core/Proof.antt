@@ -22,9 +22,6 @@ checked c = early-facts _ _ _ (clear c)
 bytes : (c : tie.Else1) → allBelow 256 (c .before .before .before .before .args .«record» .now) ≡ true
 bytes c = at-below 256 _ (λ i h. omega (arith, c .before .before .before .shared-slice-known .given i))
 
-early-requires : tie.Need-early-requires
-early-requires c κs = search needs
-
 returns : tie.Need-returns
 returns c = core-refused _ _ _ (c .before .early .ensures) (c .if1 .taken)
 
@@ -34,26 +31,17 @@ field-requires c κs = let l = passes-facts _ (checked c .passed) .whole-head in
 field-requires-2 : tie.Need-field-requires-2
 field-requires-2 c κs = let l = passes-facts _ (checked (c .before) .passed) .whole-head in omega arith
 
-cast-decode : tie.Need-cast-decode
-cast-decode c = search needs
-
 decode-requires : tie.Need-decode-requires
 decode-requires c κs =
     let at = c .before .before .before in
     let e = checked at in
     ((e .passed, c .before .before .field .ensures, c .before .field2 .ensures), omega arith)
 
-same-length : tie.Need-same-length
-same-length c = search needs
-
 returns-2 : tie.Need-returns-2
 returns-2 c =
     let d = c .before .before .before in
     let at = d .before .before .before .before in
     core-read _ _ (clear at) _ _ (d .decode .ensures) (bytes at) _ (d .before .before .field2 .ensures) (c .if2 .taken)
-
-same-length-2 : tie.Need-same-length-2
-same-length-2 c = search needs
 
 returns-3 : tie.Need-returns-3
 returns-3 c =
@@ -64,13 +52,13 @@ pub read-core-spec : {M : Type 1} → statement M
 read-core-spec =
     tie.close
     (tie.spec
-    early-requires
+    (λ c κs. search needs)
     returns
     field-requires
     field-requires-2
-    cast-decode
+    (λ c. search needs)
     decode-requires
-    same-length
+    (λ c. search needs)
     returns-2
-    same-length-2
+    (λ c. search needs)
     returns-3)

@@ -12,23 +12,8 @@ clear : (c : tie.Else1) → let a = c .before .before .before .before .before .a
     readRefusal (a .«record» .now) (length (a .work .now)) (length (a .out .now)) ≡ 0
 clear c = sym (c .before .early .ensures) ∙ omega arith
 
-early-requires : tie.Need-early-requires
-early-requires c κs = search needs
-
 returns : tie.Need-returns
 returns c = out-refused _ _ _ _ (c .before .early .ensures) (c .if1 .taken)
-
-read-core-requires : tie.Need-read-core-requires
-read-core-requires c κs = search needs
-
-enum-known-m : tie.Need-enum-known-m
-enum-known-m c = search needs
-
-cast-copy-front : tie.Need-cast-copy-front
-cast-copy-front c = search needs
-
-mul-copy-front : tie.Need-mul-copy-front
-mul-copy-front c = search needs
 
 copy-front-requires : tie.Need-copy-front-requires
 copy-front-requires c κs =
@@ -38,23 +23,11 @@ copy-front-requires c κs =
     let out = at .before .before .before .before .before .args .out .now in
     edges-room _ _ out (clear at) _ _ _ (m .m .given .1) (core .read-core .ensures .outcome) (core .read-core .ensures .kept)
 
-same-length : tie.Need-same-length
-same-length c = search needs
-
-same-length-2 : tie.Need-same-length-2
-same-length-2 c = search needs
-
 returns-2 : tie.Need-returns-2
 returns-2 c =
     let m = c .before .before .before .before .before .before in
     let core = m .before .before .before .before in
     out-read _ _ _ (clear (core .before .before)) _ _ _ _ (m .m .given .1) (core .read-core .ensures .outcome) (c .before .before .copy-front .ensures)
-
-enum-known-r : tie.Need-enum-known-r
-enum-known-r c = search needs
-
-same-length-3 : tie.Need-same-length-3
-same-length-3 c = search needs
 
 returns-3 : tie.Need-returns-3
 returns-3 c =
@@ -65,16 +38,16 @@ pub read-out-spec : {M : Type 1} → statement M
 read-out-spec =
     tie.close
     (tie.spec
-    early-requires
+    (λ c κs. search needs)
     returns
-    read-core-requires
-    enum-known-m
-    cast-copy-front
-    mul-copy-front
+    (λ c κs. search needs)
+    (λ c. search needs)
+    (λ c. search needs)
+    (λ c. search needs)
     copy-front-requires
-    same-length
-    same-length-2
+    (λ c. search needs)
+    (λ c. search needs)
     returns-2
-    enum-known-r
-    same-length-3
+    (λ c. search needs)
+    (λ c. search needs)
     returns-3)

@@ -23,14 +23,8 @@ fits : (c : tie.Else1 Inv-loop μ-loop)
     (6 ≤ size) × (l .at + size ≤ length (c .before .before .before .before .before .before .before .args .bytes .now))
 fits c = let l = c .before .before .before .loop in step-fits _ (l .at) (l .n) _ (c .before .length-at .ensures) (c .if1 .left)
 
-field-requires : tie.Need-field-requires Inv-loop μ-loop
-field-requires c κs = search needs
-
 loop-holds : tie.Need-loop-holds Inv-loop μ-loop
 loop-holds c = (search needs, search needs, search needs, search-begins _ _)
-
-length-at-requires : tie.Need-length-at-requires Inv-loop μ-loop
-length-at-requires c κs = search needs
 
 returns : tie.Need-returns Inv-loop μ-loop
 returns c = let l = c .before .before .before .loop in
@@ -66,9 +60,6 @@ part-there-start c = let f = fits (c .before .before .before .before) in omega a
 part-there-end : tie.Need-part-there-end Inv-loop μ-loop
 part-there-end c = let f = fits (c .before .before .before .before) in omega arith
 
-there-requires : tie.Need-there-requires Inv-loop μ-loop
-there-requires c κs = search needs
-
 returns-2 : tie.Need-returns-2 Inv-loop μ-loop
 returns-2 c = let k = c .before .before .before .before .before .before in
     let l = k .before .before .before .loop in
@@ -103,9 +94,9 @@ search-spec =
     (tie.spec
     Inv-loop
     μ-loop
-    field-requires
+    (λ c κs. search needs)
     loop-holds
-    length-at-requires
+    (λ c κs. search needs)
     returns
     add-end
     add-compared
@@ -116,7 +107,7 @@ search-spec =
     sub-there
     part-there-start
     part-there-end
-    there-requires
+    (λ c κs. search needs)
     returns-2
     add-n
     loop-less

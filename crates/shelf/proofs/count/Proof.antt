@@ -7,21 +7,16 @@ use Rattle.shelf.proofs.count.Tie as tie
 returns : tie.Need-returns
 returns c = count-over _ _ (omega arith)
 
-sub-count : tie.Need-sub-count
-sub-count c = search needs
-
-part-count-start : tie.Need-part-count-start
-part-count-start c = search needs
-
-part-count-end : tie.Need-part-count-end
-part-count-end c = search needs
-
-count-requires : tie.Need-count-requires
-count-requires c κs = search needs
-
 returns-2 : tie.Need-returns-2
 returns-2 c = count-part _ _ (omega arith) _ (c .count .ensures)
 
 pub count-spec : {M : Type 1} → statement M
 count-spec =
-    tie.close (tie.spec returns sub-count part-count-start part-count-end count-requires returns-2)
+    tie.close
+    (tie.spec
+    returns
+    (λ c. search needs)
+    (λ c. search needs)
+    (λ c. search needs)
+    (λ c κs. search needs)
+    returns-2)

@@ -5,15 +5,6 @@ use borrow.Author.Needs.{needs}
 use Rattle.shelf.proofs.fetch_refusal.Statement.{statement}
 use Rattle.shelf.proofs.fetch_refusal.Tie as tie
 
-count-requires : tie.Need-count-requires
-count-requires c κs = search needs
-
-enum-told : tie.Need-enum-told
-enum-told c = search needs
-
-enum-known-records : tie.Need-enum-known-records
-enum-known-records c = search needs
-
 returns : tie.Need-returns
 returns c = fetch-fine _ _ _ _ (sym (c .before .before .records .given .1) ∙ c .before .before .before .before .count .ensures) (omega arith)
 
@@ -25,4 +16,11 @@ returns-3 c = fetch-past _ _ _ _ (sym (c .before .before .records .given .1) ∙
 
 pub fetch-refusal-spec : {M : Type 1} → statement M
 fetch-refusal-spec =
-    tie.close (tie.spec count-requires enum-told enum-known-records returns returns-2 returns-3)
+    tie.close
+    (tie.spec
+    (λ c κs. search needs)
+    (λ c. search needs)
+    (λ c. search needs)
+    returns
+    returns-2
+    returns-3)

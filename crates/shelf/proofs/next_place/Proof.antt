@@ -5,9 +5,6 @@ use borrow.Author.Needs.{needs}
 use Rattle.shelf.proofs.next_place.Statement.{statement}
 use Rattle.shelf.proofs.next_place.Tie as tie
 
-length-at-requires : tie.Need-length-at-requires
-length-at-requires c κs = search needs
-
 add-result : tie.Need-add-result
 add-result c = let a = c .before .before .args in
     let e = c .length-at .ensures in
@@ -17,4 +14,4 @@ returns : tie.Need-returns
 returns c = next-is _ _ _ (c .length-at .ensures)
 
 pub next-place-spec : {M : Type 1} → statement M
-next-place-spec = tie.close (tie.spec length-at-requires add-result returns)
+next-place-spec = tie.close (tie.spec (λ c κs. search needs) add-result returns)

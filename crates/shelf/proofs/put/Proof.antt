@@ -17,27 +17,9 @@ abbrev μ-loop : tie.MeasureT-loop
 loop-holds : tie.Need-loop-holds Inv-loop μ-loop
 loop-holds c = let a = c .args in (search needs, paste-zero _ (a .at) (a .«record» .now), refl)
 
-add-j : tie.Need-add-j Inv-loop μ-loop
-add-j c = search needs
-
-shared-slice-read-shelf : tie.Need-shared-slice-read-shelf Inv-loop μ-loop
-shared-slice-read-shelf c = search needs
-
-slice-write-shelf : tie.Need-slice-write-shelf Inv-loop μ-loop
-slice-write-shelf c = search needs
-
-add-i : tie.Need-add-i Inv-loop μ-loop
-add-i c = search needs
-
-loop-less : tie.Need-loop-less Inv-loop μ-loop
-loop-less c = search needs
-
 loop-again : tie.Need-loop-again Inv-loop μ-loop
 loop-again c = let l = c .before .before .loop in
     (search needs, put-turn _ _ _ _ (l .i) (l .inv .1) (omega arith) (omega arith), search needs)
-
-same-length : tie.Need-same-length Inv-loop μ-loop
-same-length c = search needs
 
 returns : tie.Need-returns Inv-loop μ-loop
 returns c = let a = c .before .before .args in
@@ -51,11 +33,11 @@ put-spec =
     Inv-loop
     μ-loop
     loop-holds
-    add-j
-    shared-slice-read-shelf
-    slice-write-shelf
-    add-i
-    loop-less
+    (λ c. search needs)
+    (λ c. search needs)
+    (λ c. search needs)
+    (λ c. search needs)
+    (λ c. search needs)
     loop-again
-    same-length
+    (λ c. search needs)
     returns)

@@ -18,38 +18,14 @@ within : (c : tie.After-search)
     (headRefusal (a .«record» .now) ≡ 0) × (a .used ≤ length (a .shelf .now))
 within c = (fine (c .before .before .before), omega arith)
 
-head-refusal-requires : tie.Need-head-refusal-requires
-head-refusal-requires c κs = search needs
-
 returns : tie.Need-returns
 returns c = spot-refused _ _ _ _ (c .before .head-refusal .ensures) (c .if1 .taken)
 
 returns-2 : tie.Need-returns-2
 returns-2 c = spot-over _ _ _ (fine (c .before)) (omega arith)
 
-sub-search : tie.Need-sub-search
-sub-search c = search needs
-
-part-search-start : tie.Need-part-search-start
-part-search-start c = search needs
-
-part-search-end : tie.Need-part-search-end
-part-search-end c = search needs
-
 search-requires : tie.Need-search-requires
 search-requires c κs = headed _ (fine (c .before .before))
-
-enum-told : tie.Need-enum-told
-enum-told c = search needs
-
-enum-known-n : tie.Need-enum-known-n
-enum-known-n c = search needs
-
-enum-known-n-2 : tie.Need-enum-known-n-2
-enum-known-n-2 c = search needs
-
-sub-if3 : tie.Need-sub-if3
-sub-if3 c = search needs
 
 returns-3 : tie.Need-returns-3
 returns-3 c = let k = c .before .before .before .before in
@@ -75,17 +51,17 @@ pub spot-of-spec : {M : Type 1} → statement M
 spot-of-spec =
     tie.close
     (tie.spec
-    head-refusal-requires
+    (λ c κs. search needs)
     returns
     returns-2
-    sub-search
-    part-search-start
-    part-search-end
+    (λ c. search needs)
+    (λ c. search needs)
+    (λ c. search needs)
     search-requires
-    enum-told
-    enum-known-n
-    enum-known-n-2
-    sub-if3
+    (λ c. search needs)
+    (λ c. search needs)
+    (λ c. search needs)
+    (λ c. search needs)
     returns-3
     returns-4
     returns-5

@@ -11,15 +11,6 @@ use Rattle.shelf.proofs.used_part.Tie as tie
 returns : tie.Need-returns
 returns c = let a = c .before .args in (whole-part (a .shelf .now) (a .used) (omega arith), refl)
 
-sub-result : tie.Need-sub-result
-sub-result c = search needs
-
-part-result-start : tie.Need-part-result-start
-part-result-start c = search needs
-
-part-result-end : tie.Need-part-result-end
-part-result-end c = search needs
-
 returns-2 : tie.Need-returns-2
 returns-2 c = let a = c .before .before .args in
     let s = a .shelf in
@@ -27,4 +18,4 @@ returns-2 c = let a = c .before .before .args in
 
 pub used-part-spec : {M : Type 1} → statement M
 used-part-spec =
-    tie.close (tie.spec returns sub-result part-result-start part-result-end returns-2)
+    tie.close (tie.spec returns (λ c. search needs) (λ c. search needs) (λ c. search needs) returns-2)

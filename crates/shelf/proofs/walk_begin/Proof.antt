@@ -4,17 +4,8 @@ use borrow.Author.Needs.{needs}
 use Rattle.shelf.proofs.walk_begin.Statement.{statement}
 use Rattle.shelf.proofs.walk_begin.Tie as tie
 
-fetch-refusal-requires : tie.Need-fetch-refusal-requires
-fetch-refusal-requires c κs = search needs
-
 returns : tie.Need-returns
 returns c = begun-refused _ _ _ _ (c .before .fetch-refusal .ensures) (c .if1 .taken)
-
-sub-place : tie.Need-sub-place
-sub-place c = search needs
-
-part-place-start : tie.Need-part-place-start
-part-place-start c = search needs
 
 part-place-end : tie.Need-part-place-end
 part-place-end c = begun-parts _ _ _ _ (c .before .fetch-refusal .ensures) (omega arith) .0
@@ -29,10 +20,10 @@ pub walk-begin-spec : {M : Type 1} → statement M
 walk-begin-spec =
     tie.close
     (tie.spec
-    fetch-refusal-requires
+    (λ c κs. search needs)
     returns
-    sub-place
-    part-place-start
+    (λ c. search needs)
+    (λ c. search needs)
     part-place-end
     place-requires
     returns-2)

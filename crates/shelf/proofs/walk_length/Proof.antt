@@ -7,15 +7,9 @@ use borrow.Author.Needs.{needs}
 use Rattle.shelf.proofs.walk_length.Statement.{statement}
 use Rattle.shelf.proofs.walk_length.Tie as tie
 
-used-part-requires : tie.Need-used-part-requires
-used-part-requires c κs = search needs
-
-length-at-requires : tie.Need-length-at-requires
-length-at-requires c κs = search needs
-
 returns : tie.Need-returns
 returns c = let at = c .before .before .before .args .at in
     c .length-at .ensures ∙ ap (λ (r : List ℕ). length (recordAt r at)) (c .before .used-part .ensures .0)
 
 pub walk-length-spec : {M : Type 1} → statement M
-walk-length-spec = tie.close (tie.spec used-part-requires length-at-requires returns)
+walk-length-spec = tie.close (tie.spec (λ c κs. search needs) (λ c κs. search needs) returns)

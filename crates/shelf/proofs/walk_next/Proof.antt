@@ -6,15 +6,9 @@ use borrow.Author.Needs.{needs}
 use Rattle.shelf.proofs.walk_next.Statement.{statement}
 use Rattle.shelf.proofs.walk_next.Tie as tie
 
-used-part-requires : tie.Need-used-part-requires
-used-part-requires c κs = search needs
-
-next-place-requires : tie.Need-next-place-requires
-next-place-requires c κs = search needs
-
 returns : tie.Need-returns
 returns c = let at = c .before .before .before .args .at in
     c .next-place .ensures ∙ ap (λ (r : List ℕ). nextPlace r at) (c .before .used-part .ensures .0)
 
 pub walk-next-spec : {M : Type 1} → statement M
-walk-next-spec = tie.close (tie.spec used-part-requires next-place-requires returns)
+walk-next-spec = tie.close (tie.spec (λ c κs. search needs) (λ c κs. search needs) returns)

@@ -35,9 +35,6 @@ mul-from c = let z = in-two c in omega arith
 add-from : tie.Need-add-from
 add-from c = let z = in-two c in omega arith
 
-add-from-2 : tie.Need-add-from-2
-add-from-2 c = search needs
-
 mul-zero-bits-3 : tie.Need-mul-zero-bits-3
 mul-zero-bits-3 c = let z = in-two c in omega arith
 
@@ -54,9 +51,6 @@ returns-2 : tie.Need-returns-2
 returns-2 c =
     let p = sym (c .before .zero-bits2 .ensures) ∙ not-true _ (c .if2 .taken) in
     rw (readable-two _ _ _ (c .before .before .before .before .pre) (c .before .before .if1 .left), p)
-
-groups-fit-requires : tie.Need-groups-fit-requires
-groups-fit-requires c κs = search needs
 
 returns-3 : tie.Need-returns-3
 returns-3 c =
@@ -85,13 +79,13 @@ clean-spec =
     returns
     mul-from
     add-from
-    add-from-2
+    (λ c. search needs)
     mul-zero-bits-3
     add-zero-bits-2
     mul-zero-bits-4
     zero-bits-requires-2
     returns-2
-    groups-fit-requires
+    (λ c κs. search needs)
     returns-3
     zero-labels-requires
     returns-4)

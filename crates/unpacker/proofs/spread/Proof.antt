@@ -8,31 +8,19 @@ use Rattle.unpacker.proofs.spread.Tie as tie
 spread-bits-requires : tie.Need-spread-bits-requires
 spread-bits-requires c κs = let p = c .before .before .before .before .pre in ((p .0 .0, sym (c .before .if1 .taken) ∙ p .0 .1, p .0 .2), p .1)
 
-same-length : tie.Need-same-length
-same-length c = search needs
-
-returns : tie.Need-returns
-returns c = search needs
-
 spread-groups-requires : tie.Need-spread-groups-requires
 spread-groups-requires c κs =
     let p = c .before .before .before .before .pre in
     let k = sizes _ _ _ (p .0) .other-kind (c .before .if1 .left) in
     ((p .0 .0, sym k ∙ p .0 .1, p .0 .2), p .1)
 
-same-length-2 : tie.Need-same-length-2
-same-length-2 c = search needs
-
-returns-2 : tie.Need-returns-2
-returns-2 c = search needs
-
 pub spread-spec : {M : Type 1} → statement M
 spread-spec =
     tie.close
     (tie.spec
     spread-bits-requires
-    same-length
-    returns
+    (λ c. search needs)
+    (λ c. search needs)
     spread-groups-requires
-    same-length-2
-    returns-2)
+    (λ c. search needs)
+    (λ c. search needs))

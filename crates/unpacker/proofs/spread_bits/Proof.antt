@@ -37,9 +37,6 @@ add-bit-at-2 c = let z = facts (c .before .before .before .before) in omega arit
 bit-at-requires : tie.Need-bit-at-requires Inv-loop μ-loop
 bit-at-requires c κs = let z = facts (c .before .before .before .before) in omega arith
 
-cast-w : tie.Need-cast-w Inv-loop μ-loop
-cast-w c = search needs
-
 mul-w : tie.Need-mul-w Inv-loop μ-loop
 mul-w c = let z = facts (c .before .before .before .before .before) in omega arith
 
@@ -55,9 +52,6 @@ slice-write-w c = let h = c .before .before .before .before .before .pre .1 in l
 add-i : tie.Need-add-i Inv-loop μ-loop
 add-i c = let z = facts (c .before .before .before .before .before) in omega arith
 
-loop-less : tie.Need-loop-less Inv-loop μ-loop
-loop-less c = search needs
-
 loop-again : tie.Need-loop-again Inv-loop μ-loop
 loop-again c =
     let st = c .before .before .before .before .before in
@@ -65,9 +59,6 @@ loop-again c =
     let at = c .before .before .loop in let k = at .inv .1 in
     let l = c .bit-at .ensures ∙ label-one _ _ _ (st .pre .0) (at .i) refl (c .before .loop-test .taken) in
     (omega arith, simp length-set k, label-on _ _ _ _ _ (omega arith) (omega arith) l (at .inv .2))
-
-same-length : tie.Need-same-length Inv-loop μ-loop
-same-length c = search needs
 
 returns : tie.Need-returns Inv-loop μ-loop
 returns c =
@@ -85,13 +76,13 @@ spread-bits-spec =
     add-bit-at
     add-bit-at-2
     bit-at-requires
-    cast-w
+    (λ c. search needs)
     mul-w
     add-w
     mul-w-2
     slice-write-w
     add-i
-    loop-less
+    (λ c. search needs)
     loop-again
-    same-length
+    (λ c. search needs)
     returns)

@@ -76,9 +76,6 @@ loop-again c =
           ∙ group-on (18 * st .args .m) (6 + (2 * st .args .m + 7) / 8) (st .args .bytes .now) (at .w) (at .i) (omega arith) (omega arith) (at .inv .2),
     )
 
-same-length : tie.Need-same-length Inv-loop μ-loop
-same-length c = search needs
-
 returns : tie.Need-returns Inv-loop μ-loop
 returns c =
     let st = c .before .before .before .before in
@@ -106,5 +103,5 @@ spread-groups-spec =
     add-i
     loop-less
     loop-again
-    same-length
+    (λ c. search needs)
     returns)

@@ -18,17 +18,8 @@ Inv-loop bytes from m end k₀ k =
 abbrev μ-loop : tie.MeasureT-loop
 μ-loop bytes from m end k₀ k = end - k
 
-sub-end : tie.Need-sub-end Inv-loop μ-loop
-sub-end c = search needs
-
-mul-end : tie.Need-mul-end Inv-loop μ-loop
-mul-end c = search needs
-
 loop-holds : tie.Need-loop-holds Inv-loop μ-loop
 loop-holds c = (refl, refl)
-
-label-at-requires : tie.Need-label-at-requires Inv-loop μ-loop
-label-at-requires c κs = search needs
 
 returns : tie.Need-returns Inv-loop μ-loop
 returns c =
@@ -36,12 +27,6 @@ returns c =
     let n = length-labels (c .before .before .before .before .before .args .bytes .now) (c .before .before .before .before .before .args .from) in
     let l = c .before .label-at .ensures in
     sym (below-stop 1 _ (at .k) (omega arith) (omega arith)) ∙ at .inv .1
-
-add-k : tie.Need-add-k Inv-loop μ-loop
-add-k c = search needs
-
-loop-less : tie.Need-loop-less Inv-loop μ-loop
-loop-less c = search needs
 
 loop-again : tie.Need-loop-again Inv-loop μ-loop
 loop-again c =
@@ -61,12 +46,12 @@ zero-labels-spec =
     (tie.spec
     Inv-loop
     μ-loop
-    sub-end
-    mul-end
+    (λ c. search needs)
+    (λ c. search needs)
     loop-holds
-    label-at-requires
+    (λ c κs. search needs)
     returns
-    add-k
-    loop-less
+    (λ c. search needs)
+    (λ c. search needs)
     loop-again
     returns-2)

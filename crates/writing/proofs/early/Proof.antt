@@ -7,9 +7,6 @@ use borrow.Author.Needs.{needs}
 use Rattle.writing.proofs.early.Statement.{statement}
 use Rattle.writing.proofs.early.Tie as tie
 
-is-kind-requires : tie.Need-is-kind-requires
-is-kind-requires c κs = search needs
-
 returns : tie.Need-returns
 returns c = let st = c .before .before .before in
     let p : Plan = record { rotation = st .args .order .now; root = st .args .root } in
@@ -36,18 +33,12 @@ returns-5 c = let st = c .before .before .before .before .before .before .before
     four (st .args .kind) p (st .args .room) (st .args .space) (sym (c .before .before .before .before .before .is-kind .ensures) ∙ not-false _ (c .before .before .before .before .if1 .left))
     (fit-darts _ (c .before .before .before .if2 .left) (c .before .before .if3 .left) (c .before .if4 .left)) (c .if5 .taken)
 
-is-permutation-requires : tie.Need-is-permutation-requires
-is-permutation-requires c κs = search needs
-
 returns-6 : tie.Need-returns-6
 returns-6 c = let st = c .before .before .before .before .before .before .before .before .before in
     let p : Plan = record { rotation = st .args .order .now; root = st .args .root } in
     six (st .args .kind) p (st .args .room) (st .args .space) (sym (c .before .before .before .before .before .before .before .is-kind .ensures) ∙ not-false _ (c .before .before .before .before .before .before .if1 .left))
     (fit-darts _ (c .before .before .before .before .before .if2 .left) (c .before .before .before .before .if3 .left) (c .before .before .before .if4 .left)) (c .before .before .if5 .left)
     (sym (c .before .is-permutation .ensures) ∙ not-true _ (c .if6 .taken))
-
-mul-if7 : tie.Need-mul-if7
-mul-if7 c = search needs
 
 returns-7 : tie.Need-returns-7
 unfolding edges
@@ -56,12 +47,6 @@ returns-7 c = let st = c .before .before .before .before .before .before .before
     seven (st .args .kind) p (st .args .room) (st .args .space) (sym (c .before .before .before .before .before .before .before .before .is-kind .ensures) ∙ not-false _ (c .before .before .before .before .before .before .before .if1 .left))
     (fit-darts _ (c .before .before .before .before .before .before .if2 .left) (c .before .before .before .before .before .if3 .left) (c .before .before .before .before .if4 .left))
     (c .before .before .before .if5 .left) (sym (c .before .before .is-permutation .ensures) ∙ not-false _ (c .before .if6 .left)) (c .if7 .taken)
-
-cast-record-length : tie.Need-cast-record-length
-cast-record-length c = search needs
-
-record-length-requires : tie.Need-record-length-requires
-record-length-requires c κs = search needs
 
 returns-8 : tie.Need-returns-8
 unfolding edges
@@ -85,17 +70,17 @@ pub early-spec : {M : Type 1} → statement M
 early-spec =
     tie.close
     (tie.spec
-    is-kind-requires
+    (λ c κs. search needs)
     returns
     returns-2
     returns-3
     returns-4
     returns-5
-    is-permutation-requires
+    (λ c κs. search needs)
     returns-6
-    mul-if7
+    (λ c. search needs)
     returns-7
-    cast-record-length
-    record-length-requires
+    (λ c. search needs)
+    (λ c κs. search needs)
     returns-8
     returns-9)

@@ -10,14 +10,8 @@ put-requires c κs = let st = c .before .before .before in word-asked _ _ _ _ (s
 lay-out-requires : tie.Need-lay-out-requires
 lay-out-requires c κs = let st = c .before .before .before .before .before .before .before .before in bytes-asked _ _ _ _ (st .pre) _ (c .before .before .before .before .put .ensures)
 
-same-length : tie.Need-same-length
-same-length c = search needs
-
-same-length-2 : tie.Need-same-length-2
-same-length-2 c = search needs
-
 returns : tie.Need-returns
 returns c = let st = c .before .before .before .before .before .before .before .before .before .before .before in laid _ _ _ _ (st .pre) _ (c .before .before .before .before .before .before .before .put .ensures) _ _ (c .before .before .lay-out .ensures)
 
 pub laid-out-spec : {M : Type 1} → statement M
-laid-out-spec = tie.close (tie.spec put-requires lay-out-requires same-length same-length-2 returns)
+laid-out-spec = tie.close (tie.spec put-requires lay-out-requires (λ c. search needs) (λ c. search needs) returns)

@@ -15,9 +15,6 @@ use borrow.Author.Needs.{needs}
 use Rattle.writing.proofs.made.Statement.{statement}
 use Rattle.writing.proofs.made.Tie as tie
 
-early-requires : tie.Need-early-requires
-early-requires c κs = search needs
-
 returns : tie.Need-returns
 returns c = let st = c .before .before .before .before .before in
     let p : Plan = record { rotation = st .args .order .now; root = st .args .root } in
@@ -33,15 +30,6 @@ judge-requires c κs = let st = c .before .before .before .before .before .befor
     let q = early-parts (st .args .kind) p _ _ ok in
     (q .count, q .entries, q .root, q .room)
 
-enum-known-v : tie.Need-enum-known-v
-enum-known-v c = search needs
-
-enum-known-v-2 : tie.Need-enum-known-v-2
-enum-known-v-2 c = search needs
-
-enum-told : tie.Need-enum-told
-enum-told c = search needs
-
 laid-out-requires : tie.Need-laid-out-requires
 laid-out-requires c κs = let st = c .before .before .before .before .before .before .before .before .before .before .before .before .before in
     let p : Plan = record { rotation = st .args .order .now; root = st .args .root } in
@@ -50,9 +38,6 @@ laid-out-requires c κs = let st = c .before .before .before .before .before .be
     let j = c .before .before .before .before .before .before .judge in
     let q = early-parts (st .args .kind) p _ _ ok in
     to-lay (st .args .kind) p (st .args .w .now) (st .args .out .now) ok (j .result) (j .last .1 .1 .1 .0) (j .ensures) (ap isFits (c .before .before .enum-told .given .1)) (q .room) (q .space)
-
-same-length : tie.Need-same-length
-same-length c = search needs
 
 returns-2 : tie.Need-returns-2
 returns-2 c = let st = c .before .before .before .before .before .before .before .before .before .before .before .before in
@@ -63,9 +48,6 @@ returns-2 c = let st = c .before .before .before .before .before .before .before
     let z : (j .result ≡ verdict.Refused (c .before .v .given .0 .0)) = c .before .v .given .1 in
     subst (λ (v : Verdict). Made (st .args .kind) p (st .args .w .now) (st .args .out .now) (asWritten (recordLength (st .args .kind) (edges (p .rotation))) v) (j .last .1 .1 .1 .0) (st .args .out .now)) z
     (judged-away (st .args .kind) p (st .args .w .now) (st .args .out .now) ok (j .result) (j .last .1 .1 .1 .0) (j .ensures) (ap isFits z))
-
-same-length-2 : tie.Need-same-length-2
-same-length-2 c = search needs
 
 returns-3 : tie.Need-returns-3
 returns-3 c = let st = c .before .before .before .before .before .before .before .before .before .before .before .before in
@@ -80,12 +62,6 @@ returns-3 c = let st = c .before .before .before .before .before .before .before
     (subst (λ (v : Verdict). Made (st .args .kind) p (st .args .w .now) (st .args .out .now) (asWritten (recordLength (st .args .kind) (edges (p .rotation))) v) (j .last .1 .1 .1 .0) (st .args .out .now)) z
     (judged-away (st .args .kind) p (st .args .w .now) (st .args .out .now) ok (j .result) (j .last .1 .1 .1 .0) (j .ensures) (ap isFits z)))
 
-same-length-3 : tie.Need-same-length-3
-same-length-3 c = search needs
-
-same-length-4 : tie.Need-same-length-4
-same-length-4 c = search needs
-
 returns-4 : tie.Need-returns-4
 returns-4 c = let st = c .before .before .before .before .before .before .before .before .before .before .before .before .before .before .before .before .before .before in
     let p : Plan = record { rotation = st .args .order .now; root = st .args .root } in
@@ -99,17 +75,17 @@ pub made-spec : {M : Type 1} → statement M
 made-spec =
     tie.close
     (tie.spec
-    early-requires
+    (λ c κs. search needs)
     returns
     judge-requires
-    enum-known-v
-    enum-known-v-2
-    enum-told
+    (λ c. search needs)
+    (λ c. search needs)
+    (λ c. search needs)
     laid-out-requires
-    same-length
+    (λ c. search needs)
     returns-2
-    same-length-2
+    (λ c. search needs)
     returns-3
-    same-length-3
-    same-length-4
+    (λ c. search needs)
+    (λ c. search needs)
     returns-4)

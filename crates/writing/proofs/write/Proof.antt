@@ -6,22 +6,17 @@ use borrow.Author.Needs.{needs}
 use Rattle.writing.proofs.write.Statement.{statement}
 use Rattle.writing.proofs.write.Tie as tie
 
-made-requires : tie.Need-made-requires
-made-requires c κs = search needs
-
-clear-requires : tie.Need-clear-requires
-clear-requires c κs = search needs
-
-same-length : tie.Need-same-length
-same-length c = search needs
-
-same-length-2 : tie.Need-same-length-2
-same-length-2 c = search needs
-
 returns : tie.Need-returns
 unfolding zeros
 returns c = let m = c .before .before .before .before .before .before .before .before .made in
     record { answered = m .ensures .answered; filled = m .ensures .filled; cleared = c .before .before .clear .ensures ∙ ap (λ (n : ℕ). replicate n 0) (m .kept .1 .1 .1 .0) }
 
 pub write-spec : {M : Type 1} → statement M
-write-spec = tie.close (tie.spec made-requires clear-requires same-length same-length-2 returns)
+write-spec =
+    tie.close
+    (tie.spec
+    (λ c κs. search needs)
+    (λ c κs. search needs)
+    (λ c. search needs)
+    (λ c. search needs)
+    returns)

@@ -20,9 +20,6 @@ add-bit-at c = let z = facts (c .before .before) in omega arith
 bit-at-requires : tie.Need-bit-at-requires
 bit-at-requires c κs = let z = facts (c .before .before) in omega arith
 
-cast-t10 : tie.Need-cast-t10
-cast-t10 c = search needs
-
 add-t9 : tie.Need-add-t9
 add-t9 c = let z = facts (c .before .before .before) in omega arith
 
@@ -37,4 +34,4 @@ returns-2 c = let z = facts (c .before .before) in bit-none _ _ (omega arith)
 
 pub bit-spec : {M : Type 1} → statement M
 bit-spec =
-    tie.close (tie.spec mul-if1 add-bit-at bit-at-requires cast-t10 add-t9 returns returns-2)
+    tie.close (tie.spec mul-if1 add-bit-at bit-at-requires (λ c. search needs) add-t9 returns returns-2)

@@ -13,21 +13,6 @@ use Rattle.decoder.proofs.Cursor.label.Tie as tie
 label-count : (c : tie.Start) → length (region (18 * c .args .m) (c .args .m) (c .args .w .now)) ≡ c .args .m
 label-count c = length-region _ _ _ (let r = c .pre .1 in omega arith)
 
-mul-l : tie.Need-mul-l
-mul-l c = search needs
-
-add-l : tie.Need-add-l
-add-l c = search needs
-
-mul-l-2 : tie.Need-mul-l-2
-mul-l-2 c = search needs
-
-shared-slice-read-l : tie.Need-shared-slice-read-l
-shared-slice-read-l c = search needs
-
-add-t8 : tie.Need-add-t8
-add-t8 c = search needs
-
 returns : tie.Need-returns
 returns c = let z = label-count (c .before .before) in label-next _ _ _ (omega arith) (sym (getD-region _ _ _ _ (c .before .if1 .taken)))
 
@@ -35,4 +20,13 @@ returns-2 : tie.Need-returns-2
 returns-2 c = let z = label-count (c .before) in label-none _ _ (omega arith)
 
 pub label-spec : {M : Type 1} → statement M
-label-spec = tie.close (tie.spec mul-l add-l mul-l-2 shared-slice-read-l add-t8 returns returns-2)
+label-spec =
+    tie.close
+    (tie.spec
+    (λ c. search needs)
+    (λ c. search needs)
+    (λ c. search needs)
+    (λ c. search needs)
+    (λ c. search needs)
+    returns
+    returns-2)
