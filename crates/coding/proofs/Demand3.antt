@@ -7,9 +7,9 @@ use mathlib.Core.Path.{sym, subst}
 use Rattle.model.specs.Writings.{Demand3}
 use Rattle.packing.proofs.Head.{recordLength-range}
 use Rattle.packing.proofs.Unlay.{layOut-length, layOut-head, layOut-injective}
-use Rattle.decoding.proofs.Encoding.{decode-encode}
-use Rattle.decoding.proofs.Sizes.{bits-length, letters-length, labels-bound}
-use Rattle.decoding.proofs.Bounds.{bits-below}
+use Rattle.machine.proofs.Encoding.{decode-encode}
+use Rattle.machine.proofs.Sizes.{bits-length, letters-length, labels-bound}
+use Rattle.machine.proofs.Bounds.{bits-below}
 use Rattle.lists.specs.Coding.{Coding}
 use Rattle.lists.proofs.Lists as lists
 use Rattle.coding.proofs.FitPlans.{of-fit, fit-standard}

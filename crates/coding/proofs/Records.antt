@@ -26,10 +26,10 @@ use Rattle.words.proofs.Positions.{word-length}
 use Rattle.words.proofs.Plans.{rotation-length}
 use Rattle.packing.specs.Unlay.{Laid, bitsIn, labelsIn, readable}
 use Rattle.packing.proofs.Unlay.{layOut-bits, layOut-labels, layOut-readable, unlay-laid, readable-layOut}
-use Rattle.decoding.proofs.Encoding.{decode-encode}
-use Rattle.decoding.proofs.Sizes.{bits-length, letters-length, labels-bound}
-use Rattle.decoding.proofs.Bounds.{bits-below}
-use Rattle.decoding.proofs.Decoding.{encode-decode, none-found, wordIn}
+use Rattle.machine.proofs.Encoding.{decode-encode}
+use Rattle.machine.proofs.Sizes.{bits-length, letters-length, labels-bound}
+use Rattle.machine.proofs.Bounds.{bits-below}
+use Rattle.machine.proofs.Decoding.{encode-decode, none-found, wordIn}
 use Rattle.building.proofs.Built.{built-word, built-fit, built-standard}
 use Rattle.coding.specs.Decode.{decodeRecord}
 use Rattle.coding.proofs.FitPlans.{fit-toured, of-fit}

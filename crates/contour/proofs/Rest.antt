@@ -21,9 +21,9 @@ use Rattle.model.specs.Numbers.{isPermutation}
 use Rattle.model.specs.Map.{Plan, vertexOf, dartCountFits}
 use Rattle.model.specs.Traversal.{code, Visit, letterAt, onward, seenAfter, walk, visits, word}
 use Rattle.model.proofs.Fitness.{count-parts}
-use Rattle.areas.specs.Area.{region, placed}
-use Rattle.areas.proofs.Regions.{length-region, getD-region, length-placed, getD-placed, region-placed-other, region-set, region-set-other}
-use Rattle.contour.specs.Steps.{Named, letterIn, Visited}
+use Rattle.work.specs.Area.{region, placed}
+use Rattle.work.proofs.Regions.{length-region, getD-region, length-placed, getD-placed, region-placed-other, region-set, region-set-other}
+use Rattle.contour.specs.Steps.{VerticesNamed, letterIn, Visited}
 use Rattle.contour.specs.Walked.{Walked}
 use Rattle.contour.proofs.Steps.{name-at, name-bound, onward-bound}
 
@@ -43,8 +43,8 @@ pub record Started (rot : List ℕ) (root : ℕ) (w w₁ : List ℕ) : Type 0 wh
   pub few : length rot ≤ 8192
   pub inside : root < length rot
   pub room : 4 * length rot ≤ length w
-  pub named : Named rot w
-  pub names : Named rot w₁
+  pub named : VerticesNamed rot w
+  pub names : VerticesNamed rot w₁
   pub bound : getD w₁ root 0 < length rot
   pub unmet : region (length rot) (length rot) w₁ ≡ replicate (length rot) 0
   pub unseen : region (2 * length rot) (length rot) w₁ ≡ replicate (length rot) 0
@@ -55,7 +55,7 @@ pub record Walking (rot : List ℕ) (root : ℕ) (w₀ : List ℕ) (d i : ℕ) (
   pub places : i ≤ length rot
   pub room : 4 * length rot ≤ length w
   pub kept : length w ≡ length w₀
-  pub names : Named rot w
+  pub names : VerticesNamed rot w
   pub rest : region (3 * length rot) i w ++ left rot root d i w ≡ lettersOf (visits (plan rot root))
 
 -- ---- the area is cleared
@@ -77,11 +77,11 @@ zeros-in a m b k w fits low high =
     ∙ sym (getD-replicate k i 0 0 (omega arith)))
 
 pub started : (rot : List ℕ) (root : ℕ) (w w₁ : List ℕ) → dartCountFits (length rot) ≡ true → isPermutation rot ≡ true → root < length rot
-    → 4 * length rot ≤ length w → Named rot w → w₁ ≡ placed (length rot) (replicate (2 * length rot) 0) w → Started rot root w w₁
+    → 4 * length rot ≤ length w → VerticesNamed rot w → w₁ ≡ placed (length rot) (replicate (2 * length rot) 0) w → Started rot root w w₁
 started rot root w w₁ count perm inside room named e =
     let n = length rot in
     let r = length-replicate {A = ℕ} (2 * n) 0 in
-    let names : Named rot w₁ =
+    let names : VerticesNamed rot w₁ =
     ap (region 0 n) e ∙ region-placed-other n (replicate (2 * n) 0) w (omega arith) 0 n (λ h. absurd (omega arith)) ∙ named in
     record {
       count = count;
@@ -171,7 +171,7 @@ module _ {rot : List ℕ} {root : ℕ} {w w₁ : List ℕ} (s : Started rot root
 
   -- ---- the end
 
-  walked : (count : ℕ) (w′ : List ℕ) → count ≤ length rot → length w′ ≡ length w → Named rot w′
+  walked : (count : ℕ) (w′ : List ℕ) → count ≤ length rot → length w′ ≡ length w → VerticesNamed rot w′
       → region (3 * length rot) count w′ ≡ lettersOf (visits (plan rot root)) → Walked (plan rot root) w count w′
   unfolding lettersOf word
   walked count w′ h kept names letters =

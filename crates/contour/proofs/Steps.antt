@@ -20,11 +20,11 @@ use Rattle.model.specs.Map.{opposite, next, vertexOf, dartCountFits}
 use Rattle.model.specs.Traversal.{Letter, down, up, first, second, code, letterAt, onward, seenAfter}
 use Rattle.model.proofs.Fitness.{opposite-bound, count-parts}
 use Rattle.orbits.proofs.Cycle.{least-le}
-use Rattle.areas.specs.Area.{region}
+use Rattle.work.specs.Area.{region}
 use Rattle.orbits.proofs.Table.{tabulate-at}
-use Rattle.areas.proofs.Regions.{getD-region, region-set, region-set-other, region-split}
+use Rattle.work.proofs.Regions.{getD-region, region-set, region-set-other, region-split}
 use Rattle.cycles.proofs.Steps.{next-perm}
-use Rattle.contour.specs.Steps.{Named, letterIn, Noted, Visited}
+use Rattle.contour.specs.Steps.{VerticesNamed, letterIn, Noted, Visited}
 
 -- ---- stores
 
@@ -69,7 +69,7 @@ module _ (rot : List ℕ) (perm : isPermutation rot ≡ true) where
   onward-bound count first d h = entry-bound d h
   onward-bound count second d h = entry-bound d h
 
-module _ (rot w : List ℕ) (named : Named rot w) (d : ℕ) (h : d < length rot) where
+module _ (rot w : List ℕ) (named : VerticesNamed rot w) (d : ℕ) (h : d < length rot) where
   pub name-at : getD w d 0 ≡ vertexOf rot d
   name-at =
       let z : 0 + d ≡ d = omega arith in
@@ -95,7 +95,7 @@ pub record Here (rot w : List ℕ) (d i o : ℕ) : Type 0 where
   pub entry-over : getD rot o 0 < length rot
 
 pub here : (rot w : List ℕ) (d i o : ℕ) → dartCountFits (length rot) ≡ true → isPermutation rot ≡ true → d < length rot → i < length rot
-    → 4 * length rot ≤ length w → Named rot w → o ≡ opposite d → Here rot w d i o
+    → 4 * length rot ≤ length w → VerticesNamed rot w → o ≡ opposite d → Here rot w d i o
 here rot w d i o count perm hd hi room named e =
     let b = other-bound (length rot) d count hd in
     let over : o < length rot = omega arith in

@@ -1,6 +1,6 @@
 -- One step of the walk in the work area w of a rotation of n darts.
 --
---   Named rot w              the vertices' names stand at 0
+--   VerticesNamed rot w              the vertices' names stand at 0
 --   letterIn rot w d         the letter of dart d, from the letters by dart at n and the vertices seen at 2n
 --   Noted n d i l w w′       letter l is noted by dart d at n, and by position i at 3n
 --   Visited rot d i w e w′   dart d is met at position i, and e comes after it
@@ -11,10 +11,10 @@ use lib.ListN.{length, set}
 use Rattle.model.specs.Map.{vertexOf}
 use Rattle.model.specs.Traversal.{Letter, code, letterAt, onward, seenAfter}
 use Rattle.orbits.specs.Table.{tabulate}
-use Rattle.areas.specs.Area.{region}
+use Rattle.work.specs.Area.{region}
 
-abbrev pub Named : List ℕ → List ℕ → Type 0
-Named rot w = region 0 (length rot) w ≡ tabulate (vertexOf rot) 0 (length rot)
+abbrev pub VerticesNamed : List ℕ → List ℕ → Type 0
+VerticesNamed rot w = region 0 (length rot) w ≡ tabulate (vertexOf rot) 0 (length rot)
 
 unfoldable pub letterIn : List ℕ → List ℕ → ℕ → Letter
 letterIn rot w d = letterAt rot (region (length rot) (length rot) w) (region (2 * length rot) (length rot) w) d

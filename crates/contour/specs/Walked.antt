@@ -7,7 +7,7 @@ use mathlib.Core.List.{List, map}
 use lib.ListN.{length}
 use Rattle.model.specs.Map.{Plan, darts}
 use Rattle.model.specs.Traversal.{code, visits, word}
-use Rattle.areas.specs.Area.{region}
+use Rattle.work.specs.Area.{region}
 
 pub record Walked (p : Plan) (w : List ℕ) (count : ℕ) (w′ : List ℕ) : Type 0 where
   pub counted : count ≡ length (visits p)

@@ -6,7 +6,7 @@ ghost use Prim.Native.Nat.{_*_, _≤_, _<_};
 ghost use lib.ListN.{length};
 ghost use Rattle.model.specs.Numbers.{isPermutation};
 ghost use Rattle.model.specs.Map.{dartCountFits};
-ghost use Rattle.contour.specs.Steps.{Named, Noted, Visited};
+ghost use Rattle.contour.specs.Steps.{VerticesNamed, Noted, Visited};
 ghost use Rattle.contour.specs.Walked.{Walked};
 
 // The letters by number; 0 stands for a dart not met yet.
@@ -30,7 +30,7 @@ fn note(w: &mut [u16], n: usize, d: usize, i: usize, l: u16)
 // Dart d is met at position i: the dart after it.
 fn visit(order: &[u16], w: &mut [u16], d: usize, i: usize) -> usize
     requires { ⌜ (dartCountFits (length (now order)) ≡ true) × (isPermutation (now order) ≡ true) × (d < length (now order))
-        × (i < length (now order)) × (4 * length (now order) ≤ length (now w)) × Named (now order) (now w) ⌝ }
+        × (i < length (now order)) × (4 * length (now order) ≤ length (now w)) × VerticesNamed (now order) (now w) ⌝ }
     ensures { λ r. ⌜ Visited (now (order .entry)) d i (now (w .entry)) r (now (w .exit)) ⌝ }
 {
     let n = order.len();
@@ -57,11 +57,11 @@ fn visit(order: &[u16], w: &mut [u16], d: usize, i: usize) -> usize
 // The walk from the root until it is back there: how many darts it meets.
 pub fn walk(order: &[u16], root: usize, w: &mut [u16]) -> usize
     requires { ⌜ (dartCountFits (length (now order)) ≡ true) × (isPermutation (now order) ≡ true) × (root < length (now order))
-        × (4 * length (now order) ≤ length (now w)) × Named (now order) (now w) ⌝ }
+        × (4 * length (now order) ≤ length (now w)) × VerticesNamed (now order) (now w) ⌝ }
     ensures { λ r. ⌜ Walked (record { rotation = now (order .entry); root = root }) (now (w .entry)) r (now (w .exit)) ⌝ }
 {
     let n = order.len();
-    areas::fill(w, n, 2 * n, 0);
+    work::fill(w, n, 2 * n, 0);
     let v = w[root] as usize;
     w[2 * n + v] = 1;
     let mut d = root;

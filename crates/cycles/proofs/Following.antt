@@ -10,8 +10,8 @@ use native.Mathlib.Omega.{arith}
 use lib.ListN.{length, getD, set, length-set}
 use Rattle.model.specs.Numbers.{least}
 use Rattle.orbits.specs.Permutation.{Perm}
-use Rattle.areas.specs.Area.{region, placed}
-use Rattle.areas.proofs.Regions.{length-region, getD-region, region-set, set-placed, placed-region}
+use Rattle.work.specs.Area.{region, placed}
+use Rattle.work.proofs.Regions.{length-region, getD-region, region-set, set-placed, placed-region}
 use Rattle.cycles.specs.Cycles.{unnamed, namesBelow}
 use Rattle.cycles.proofs.Naming.{Naming, naming-start, naming-step, naming-end}
 

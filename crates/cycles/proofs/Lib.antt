@@ -1,5 +1,5 @@
 pub mod Steps
 pub mod Naming
 pub mod Following
-pub mod Labelling
-pub mod Labels
+pub mod Turns
+pub mod Names

@@ -1,7 +1,7 @@
 -- What naming the cycles of a rotation or of its face walk leaves behind.
 --
 --   stepOf rot across    the step round a vertex, or along a face
---   Labelled             each dart's cycle is named by its least dart, and the cycles are counted
+--   Named             each dart's cycle is named by its least dart, and the cycles are counted
 --   unnamed              no cycle's name
 --   nameBelow f n d x    the name of x's cycle if it is below d; unnamed otherwise
 --   namesBelow f n d     these names of the darts below n
@@ -15,13 +15,13 @@ use lib.ListN.{length}
 use Rattle.model.specs.Numbers.{least, cycles, isPermutation}
 use Rattle.model.specs.Map.{next, faceNext, dartCountFits}
 use Rattle.orbits.specs.Table.{tabulate}
-use Rattle.areas.specs.Area.{region, placed}
+use Rattle.work.specs.Area.{region, placed}
 
 abbrev pub stepOf : List ℕ → Bool → ℕ → ℕ
 stepOf rot false = next rot
 stepOf rot true = faceNext rot
 
-pub record Labelled (f : ℕ → ℕ) (n a : ℕ) (w : List ℕ) (count : ℕ) (w′ : List ℕ) : Type 0 where
+pub record Named (f : ℕ → ℕ) (n a : ℕ) (w : List ℕ) (count : ℕ) (w′ : List ℕ) : Type 0 where
   pub counted : count ≡ cycles f n
   pub named : w′ ≡ placed a (tabulate (least f n) 0 n) w
 

@@ -6,8 +6,8 @@ ghost use Prim.Native.Nat.{_+_, _≤_, _<_};
 ghost use lib.ListN.{length};
 ghost use Rattle.model.specs.Numbers.{isPermutation};
 ghost use Rattle.model.specs.Map.{opposite, dartCountFits};
-ghost use Rattle.areas.specs.Area.{placed};
-ghost use Rattle.cycles.specs.Cycles.{stepOf, Labelled, namesBelow, Begun};
+ghost use Rattle.work.specs.Area.{placed};
+ghost use Rattle.cycles.specs.Cycles.{stepOf, Named, namesBelow, Begun};
 
 // No cycle's name: names are below 8,192.
 pub const UNNAMED: u16 = 65535;
@@ -46,12 +46,12 @@ fn follow(order: &[u16], across: bool, w: &mut [u16], a: usize, start: usize)
 }
 
 // Each dart's cycle, by its least dart, from place a on; and how many cycles there are.
-pub fn label(order: &[u16], across: bool, w: &mut [u16], a: usize) -> usize
+pub fn name(order: &[u16], across: bool, w: &mut [u16], a: usize) -> usize
     requires { ⌜ (dartCountFits (length (now order)) ≡ true) × (isPermutation (now order) ≡ true) × (a + length (now order) ≤ length (now w)) ⌝ }
-    ensures { λ r. ⌜ Labelled (stepOf (now (order .entry)) across) (length (now (order .entry))) a (now (w .entry)) r (now (w .exit)) ⌝ }
+    ensures { λ r. ⌜ Named (stepOf (now (order .entry)) across) (length (now (order .entry))) a (now (w .entry)) r (now (w .exit)) ⌝ }
 {
     let n = order.len();
-    areas::fill(w, a, n, UNNAMED);
+    work::fill(w, a, n, UNNAMED);
     let mut count = 0;
     let mut d = 0;
     while d < n {

@@ -12,10 +12,10 @@ use mathlib.Core.List.{List, [], _∷_}
 use lib.ListN.{length, set, replicate}
 use Rattle.model.specs.Traversal.{Letter, down, up, first}
 use Rattle.words.specs.Word.{head, wordDarts, placeOf, link, rotationOf, Found, found, none, after, Machine}
-use Rattle.decoding.specs.Reading.{run}
-use Rattle.decoding.proofs.Decoding.{wordIn}
-use Rattle.decoding.proofs.Runs.{run-goes, run-done, run-stuck}
-use Rattle.decoding.proofs.Turns.{Step, closes, rises, leafs, backs, enters, finishes, halts, step, turn-star, turn-back, turn-tree, turn-done}
+use Rattle.machine.specs.Reading.{run}
+use Rattle.machine.proofs.Decoding.{wordIn}
+use Rattle.machine.proofs.Runs.{run-goes, run-done, run-stuck}
+use Rattle.machine.proofs.Turns.{Step, closes, rises, leafs, backs, enters, finishes, halts, step, turn-star, turn-back, turn-tree, turn-done}
 use Rattle.decoder.specs.States.{linked}
 
 pub linked-step : (q p : ℕ) (l : Letter) (v : List Letter) (x : ℕ) (xs out : List ℕ) → p ≡ placeOf l x

@@ -20,11 +20,11 @@ use Rattle.model.specs.LabelledTree.{star}
 use Rattle.model.proofs.Below.{below-cons}
 use Rattle.model.proofs.Opposite.{opposite-even, opposite-odd}
 use Rattle.words.specs.Word.{Machine, goes, done, stuck, turn, wordDarts, placeOf}
-use Rattle.decoding.proofs.Turns.{turn-close, stuck-none, stuck-early, turn-up, stuck-root, turn-done, stuck-left}
-use Rattle.decoding.proofs.Turns.{turn-star, turn-back, turn-tree, stuck-bit, stuck-label}
-use Rattle.areas.specs.Area.{region, stack}
-use Rattle.areas.proofs.Regions.{getD-region}
-use Rattle.areas.proofs.Stacks.{length-stack, stack-pop}
+use Rattle.machine.proofs.Turns.{turn-close, stuck-none, stuck-early, turn-up, stuck-root, turn-done, stuck-left}
+use Rattle.machine.proofs.Turns.{turn-star, turn-back, turn-tree, stuck-bit, stuck-label}
+use Rattle.work.specs.Area.{region, stack}
+use Rattle.work.proofs.Regions.{getD-region}
+use Rattle.work.proofs.Stacks.{length-stack, stack-pop}
 use Rattle.decoder.specs.declared.Cursor.{Cursor}
 use Rattle.decoder.specs.declared.State.{State}
 use Rattle.decoder.specs.States.{labelsOf, machineOf, outcome, before, Fits, Room, Ready, Moved, lastOpen, lastTree}

@@ -21,11 +21,11 @@ use Rattle.model.specs.Traversal.{Letter}
 use Rattle.model.specs.Shelf.{edgesOf}
 use Rattle.packing.specs.Unlay.{bitsIn, labelsIn, readable}
 use Rattle.words.specs.Word.{Found, found, none, after, done, stuck, turn, start, head, wordDarts, rotationOf, decodeWord}
-use Rattle.decoding.specs.Reading.{left, run}
-use Rattle.decoding.proofs.Decoding.{wordIn}
-use Rattle.decoding.proofs.Runs.{turn-left, turn-none, run-on, run-done, run-stuck, decodeWord-run}
-use Rattle.areas.specs.Area.{region, stack}
-use Rattle.areas.proofs.Stacks.{length-stack}
+use Rattle.machine.specs.Reading.{left, run}
+use Rattle.machine.proofs.Decoding.{wordIn}
+use Rattle.machine.proofs.Runs.{turn-left, turn-none, run-on, run-done, run-stuck, decodeWord-run}
+use Rattle.work.specs.Area.{region, stack}
+use Rattle.work.proofs.Stacks.{length-stack}
 use Rattle.decoder.specs.declared.Cursor.{Cursor}
 use Rattle.decoder.specs.declared.State.{State}
 use Rattle.decoder.specs.declared.Outcome.{Outcome}

@@ -10,7 +10,7 @@ use mathlib.Core.Path.{_≡_, sym, ap, _∙_, subst}
 use mathlib.Core.Logic.{_≢_}
 use mathlib.Core.List.{List}
 use lib.ListN.{length, getD}
-use Rattle.areas.specs.Area.{region}
+use Rattle.work.specs.Area.{region}
 use Rattle.decoder.specs.declared.Cursor.{Cursor}
 use Rattle.decoder.specs.declared.State.{State}
 use Rattle.decoder.specs.States.{before, Fits, Ready, Moved}

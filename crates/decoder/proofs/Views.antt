@@ -14,9 +14,9 @@ use mathlib.Core.List.{List, _∷_}
 use lib.ListN.{length, getD, set, length-set}
 use Rattle.model.specs.Numbers.{allBelow}
 use Rattle.model.proofs.Below.{below-head, below-tail}
-use Rattle.areas.specs.Area.{region, stack}
-use Rattle.areas.proofs.Regions.{region-set, region-set-other}
-use Rattle.areas.proofs.Stacks.{stack-set, stack-push, stack-pop}
+use Rattle.work.specs.Area.{region, stack}
+use Rattle.work.proofs.Regions.{region-set, region-set-other}
+use Rattle.work.proofs.Stacks.{stack-set, stack-push, stack-pop}
 
 -- d tree edges and o others are open
 pub record Views (m d o : ℕ) (w out below trees opens seconds labels : List ℕ) (size : ℕ) : Type 0 where

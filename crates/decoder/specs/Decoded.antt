@@ -11,7 +11,7 @@ use Rattle.model.specs.Traversal.{Letter}
 use Rattle.model.specs.Shelf.{edgesOf}
 use Rattle.words.specs.Word.{Found, found, none, rotationOf}
 use Rattle.coding.specs.Decode.{decodeRecord}
-use Rattle.areas.specs.Area.{region}
+use Rattle.work.specs.Area.{region}
 
 pub record Answered (result : Found) (n : ℕ) (w : List ℕ) (answer : Bool) (w′ : List ℕ) : Type 0 where
   pub word-found : answer ≡ true → (v : List Letter) × (result ≡ found v) × (region 0 n w′ ≡ rotationOf v)

@@ -27,7 +27,7 @@ use lib.ListN.{length, getD, set, drop}
 use Rattle.model.specs.Numbers.{allBelow}
 use Rattle.model.specs.Traversal.{Letter}
 use Rattle.words.specs.Word.{Machine, goes, done, stuck, turn, head, wordDarts, link}
-use Rattle.areas.specs.Area.{region, stack}
+use Rattle.work.specs.Area.{region, stack}
 use Rattle.decoder.specs.declared.Cursor.{Cursor}
 use Rattle.decoder.specs.declared.State.{State}
 use Rattle.decoder.specs.declared.Next.{Next}

@@ -9,7 +9,7 @@ ghost use lib.ListN.{length, replicate};
 ghost use Rattle.model.specs.Shelf.{edgesOf, passes};
 ghost use Rattle.words.specs.Word.{decodeWord};
 ghost use Rattle.packing.specs.Unlay.{bitsIn, labelsIn};
-ghost use Rattle.areas.specs.Area.{region};
+ghost use Rattle.work.specs.Area.{region};
 ghost use Rattle.unpacker.specs.Unpacked.{Head};
 ghost use Rattle.decoder.specs.Decoded.{Decoded, Answered};
 ghost use Rattle.decoder.specs.States.{nextBit, nextLabel, before, Standing, Fits, Room, Ready, Turned, Closed};
@@ -360,6 +360,6 @@ pub fn decode(bytes: &[u8], kind: u16, m: usize, w: &mut [u16]) -> bool
         return false;
     }
     unpacker::spread(bytes, kind, m, w);
-    areas::fill(w, 0, 2 * m, 0);
+    work::fill(w, 0, 2 * m, 0);
     run(bytes, m, w)
 }

@@ -28,15 +28,15 @@ use Rattle.orbits.proofs.Tally.{count-le}
 use Rattle.orbits.proofs.Maps.{next-perm, vertex-alone}
 use Rattle.traversal.proofs.Complete.{connected-long, long-connected}
 use Rattle.orbits.specs.Table.{tabulate}
-use Rattle.areas.specs.Area.{region}
+use Rattle.work.specs.Area.{region}
 use Rattle.orbits.proofs.Table.{length-tabulate}
-use Rattle.areas.proofs.Regions.{region-placed}
-use Rattle.cycles.specs.Cycles.{Labelled}
-use Rattle.cycles.proofs.Labels.{labelled-length, labelled-other}
-use Rattle.contour.specs.Steps.{Named}
+use Rattle.work.proofs.Regions.{region-placed}
+use Rattle.cycles.specs.Cycles.{Named}
+use Rattle.cycles.proofs.Names.{named-length, named-beside}
+use Rattle.contour.specs.Steps.{VerticesNamed}
 use Rattle.contour.specs.Walked.{Walked}
 use Rattle.contour.proofs.Steps.{name-at}
-use Rattle.checks.specs.Checks.{loopIn, deadEndAt, deadEndIn}
+use Rattle.fitting.specs.Checks.{loopIn, deadEndAt, deadEndIn}
 use Rattle.fitting.specs.declared.Survey.{Survey}
 use Rattle.fitting.specs.declared.Verdict.{Verdict}
 use Rattle.fitting.specs.declared.Verdict.the-variants.{Fits, Refused, NotPlanar}
@@ -49,7 +49,7 @@ unfolding some
 some-ext f g zero same = refl
 some-ext f g (suc n) same = rw (same n (omega arith), some-ext f g n (λ i h. same i (omega arith)))
 
-module _ (rot w : List ℕ) (fits : dartCountFits (length rot) ≡ true) (names : Named rot w) where
+module _ (rot w : List ℕ) (fits : dartCountFits (length rot) ≡ true) (names : VerticesNamed rot w) where
   pub loop-names : loopIn w (length rot) ≡ hasLoop rot
   unfolding loopIn hasLoop
   loop-names = some-ext _ _ (length rot) (λ d h.
@@ -99,7 +99,7 @@ pub record Handed (p : Plan) (w : List ℕ) : Type 0 where
   pub fits : dartCountFits (darts p) ≡ true
   pub entries : isPermutation (p .rotation) ≡ true
   pub low : p .root < darts p
-  pub names : Named (p .rotation) w
+  pub names : VerticesNamed (p .rotation) w
 
 module _ (k : ℕ) (p : Plan) (w : List ℕ) (given : Handed p w) where
   pub looped : loopIn w (darts p) ≡ true → Refused 11 ≡ localOf k p
@@ -131,7 +131,7 @@ module _ (k : ℕ) (p : Plan) (w : List ℕ) (given : Handed p w) where
 
 -- ---- the names and the walk
 
-pub named : (rot w : List ℕ) (v : ℕ) (w′ : List ℕ) → 0 + length rot ≤ length w → Labelled (next rot) (length rot) 0 w v w′ → Named rot w′
+pub named : (rot w : List ℕ) (v : ℕ) (w′ : List ℕ) → 0 + length rot ≤ length w → Named (next rot) (length rot) 0 w v w′ → VerticesNamed rot w′
 unfolding vertexOf
 named rot w v w′ fits s =
     let l = length-tabulate (least (next rot) (length rot)) 0 (length rot) in
@@ -144,7 +144,7 @@ room-kept n w w′ e h = omega arith
 pub room-local : (n : ℕ) (w w₁ w₂ : List ℕ) → length w₁ ≡ length w → length w₂ ≡ length w₁ → 16 * n ≤ length w → n ≤ length w₂
 room-local n w w₁ w₂ e f h = omega arith
 
-module _ (p : Plan) (w w₁ w₂ : List ℕ) (v met : ℕ) (fits : 0 + darts p ≤ length w) (s : Labelled (next (p .rotation)) (darts p) 0 w v w₁) (t : Walked p w₁ met w₂) where
+module _ (p : Plan) (w w₁ w₂ : List ℕ) (v met : ℕ) (fits : 0 + darts p ≤ length w) (s : Named (next (p .rotation)) (darts p) 0 w v w₁) (t : Walked p w₁ met w₂) where
   pub surveyed : Surveyed p w (record { vertices = v; met = met }) w₂
   unfolding vertices
   surveyed = record {
@@ -152,7 +152,7 @@ module _ (p : Plan) (w w₁ w₂ : List ℕ) (v met : ℕ) (fits : 0 + darts p �
     all-met = t .counted;
     named = t .names ∙ named (p .rotation) w v w₁ fits s;
     letters = t .letters;
-    kept = t .kept ∙ labelled-length (next (p .rotation)) (darts p) 0 w v w₁ fits s;
+    kept = t .kept ∙ named-length (next (p .rotation)) (darts p) 0 w v w₁ fits s;
   }
 
 -- ---- the verdict
@@ -172,7 +172,7 @@ module _ (k : ℕ) (p : Plan) (fits : dartCountFits (darts p) ≡ true) (low : p
         kept = t .kept;
       }
 
-  module _ (all : s .met ≡ darts p) (f : ℕ) (w₃ : List ℕ) (l : Labelled (faceNext (p .rotation)) (darts p) (4 * darts p) w₂ f w₃) where
+  module _ (all : s .met ≡ darts p) (f : ℕ) (w₃ : List ℕ) (l : Named (faceNext (p .rotation)) (darts p) (4 * darts p) w₂ f w₃) where
     joined : connected (p .rotation) ≡ true
     joined = long-connected p fits low entries (sym (t .all-met) ∙ all)
 
@@ -181,15 +181,15 @@ module _ (k : ℕ) (p : Plan) (fits : dartCountFits (darts p) ≡ true) (low : p
 
     letters-kept : region (3 * darts p) (darts p) w₃ ≡ map code (word p)
     letters-kept =
-        labelled-other (faceNext (p .rotation)) (darts p) (4 * darts p) w₂ f w₃ fourth l (3 * darts p) (darts p) (λ h. omega arith)
+        named-beside (faceNext (p .rotation)) (darts p) (4 * darts p) w₂ f w₃ fourth l (3 * darts p) (darts p) (λ h. omega arith)
         ∙ subst (λ (n : ℕ). region (3 * darts p) n w₂ ≡ map code (word p)) all (t .letters)
 
-    pub still-named : Named (p .rotation) w₃
+    pub still-named : VerticesNamed (p .rotation) w₃
     still-named =
-        labelled-other (faceNext (p .rotation)) (darts p) (4 * darts p) w₂ f w₃ fourth l 0 (darts p) (λ h. omega arith) ∙ t .named
+        named-beside (faceNext (p .rotation)) (darts p) (4 * darts p) w₂ f w₃ fourth l 0 (darts p) (λ h. omega arith) ∙ t .named
 
     length-kept : length w₃ ≡ length w
-    length-kept = labelled-length (faceNext (p .rotation)) (darts p) (4 * darts p) w₂ f w₃ fourth l ∙ t .kept
+    length-kept = named-length (faceNext (p .rotation)) (darts p) (4 * darts p) w₂ f w₃ fourth l ∙ t .kept
 
     module _ (x : ℤ) (e : x ≡ (pos (s .vertices) -ℤ pos (darts p / 2)) +ℤ pos f) where
       euler : x ≡ characteristic (p .rotation)

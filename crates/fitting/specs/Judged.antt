@@ -15,8 +15,8 @@ use Rattle.model.specs.Numbers.{firstRefusal}
 use Rattle.model.specs.Map.{Plan, darts, characteristic, vertices, hasLoop, degreeRefused}
 use Rattle.model.specs.Traversal.{code, visits, word}
 use Rattle.model.specs.Calls.{lateRefusals}
-use Rattle.areas.specs.Area.{region}
-use Rattle.contour.specs.Steps.{Named}
+use Rattle.work.specs.Area.{region}
+use Rattle.contour.specs.Steps.{VerticesNamed}
 use Rattle.fitting.specs.declared.Survey.{Survey}
 use Rattle.fitting.specs.declared.Verdict.{Verdict}
 use Rattle.fitting.specs.declared.Verdict.the-variants.{Fits, Refused, NotPlanar}
@@ -24,7 +24,7 @@ use Rattle.fitting.specs.declared.Verdict.the-variants.{Fits, Refused, N
 pub record Surveyed (p : Plan) (w : List ℕ) (s : Survey) (w′ : List ℕ) : Type 0 where
   pub counted : s .vertices ≡ vertices (p .rotation)
   pub all-met : s .met ≡ length (visits p)
-  pub named : Named (p .rotation) w′
+  pub named : VerticesNamed (p .rotation) w′
   pub letters : region (3 * darts p) (s .met) w′ ≡ map code (word p)
   pub kept : length w′ ≡ length w
 

@@ -12,10 +12,10 @@ use lib.ListN.{length, take, drop, length-take}
 use lib.Seq.{take-take}
 use borrow.Author.Tests.{eq-eqb, ne-eqb}
 use Rattle.model.specs.Calls.{fetchRefusal, fetched}
-use Rattle.model.specs.Walk.{recordAt, beginPlace, Begun}
+use Rattle.model.specs.ShelfWalk.{recordAt, beginPlace, Begun}
 use Rattle.model.specs.Parts.{fetchedPlace}
 use Rattle.model.specs.Exports.{FetchExport}
-use Rattle.cutting.proofs.Stands.{stands, stands-length, part-none, part-is}
+use Rattle.records.proofs.Stands.{stands, stands-length, part-none, part-is}
 use Rattle.shelf.proofs.Walking.{first-record}
 
 pub part-of-part : (l u p : ℕ) (s : List ℕ) → p + l ≤ u → take l (drop p (take u s)) ≡ take l (drop p s)

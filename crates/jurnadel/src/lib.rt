@@ -6,7 +6,7 @@ use model::Written;
 ghost use mathlib.Core.Path.{_≡_};
 ghost use Prim.Native.Nat.{ℕ, _*_};
 ghost use lib.ListN.{length, take};
-ghost use Rattle.model.specs.Walk.{recordAt, Begun};
+ghost use Rattle.model.specs.ShelfWalk.{recordAt, Begun};
 ghost use Rattle.model.specs.Exports.{WriteExport, ReadExport, ShelveExport, FetchExport, lengthFor};
 
 // ---- sizes

@@ -5,7 +5,7 @@ pub mod LabelledTree
 pub mod Record
 pub mod Shelf
 pub mod Calls
-pub mod Walk
+pub mod ShelfWalk
 pub mod Parts
 pub mod Renumbering
 pub mod Writings

@@ -15,7 +15,7 @@ use lib.ListN.{take, drop}
 use denote.Ref.{RefT, now}
 use Rattle.model.specs.Shelf.{passes, recordsIn}
 use Rattle.model.specs.Calls.{fetchRefusal, Fetched}
-use Rattle.model.specs.Walk.{firstRecord, recordAt, placeOfRecord}
+use Rattle.model.specs.ShelfWalk.{firstRecord, recordAt, placeOfRecord}
 
 abbrev pub beginsAt : RefT (List ℕ) → ℕ → RefT (List ℕ) → Type 0
 beginsAt s at t = t .ptr ≡ (s .ptr .0, s .ptr .1 + at)

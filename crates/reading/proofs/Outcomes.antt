@@ -18,7 +18,7 @@ use Rattle.model.specs.Shelf.{edgesOf}
 use Rattle.model.specs.Calls.{front, readRefusal, Reads, refused, read, unreadable, edgesOfRead}
 use Rattle.words.specs.Word.{planOf}
 use Rattle.coding.proofs.Records.{decodes-has, decodes-standard, none-has}
-use Rattle.areas.specs.Area.{region}
+use Rattle.work.specs.Area.{region}
 use Rattle.decoder.specs.Decoded.{Decoded}
 use Rattle.reading.specs.Core.{Planned, Core}
 use Rattle.reading.specs.Core as core

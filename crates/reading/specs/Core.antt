@@ -14,7 +14,7 @@ use Rattle.model.specs.Map.{Plan}
 use Rattle.model.specs.Traversal.{standardPlan}
 use Rattle.model.specs.Shelf.{edgesOf}
 use Rattle.model.specs.Calls.{readRefusal, HasRecord}
-use Rattle.areas.specs.Area.{region}
+use Rattle.work.specs.Area.{region}
 
 -- an output as long as the plan is never too short: check 8 is not met
 abbrev pub coreRefusal : List ℕ → ℕ → ℕ

@@ -55,7 +55,7 @@ fn read_out(record: &[u8], work: &mut [u16], out: &mut [u16]) -> ReadBack
     }
     match read_core(record, work) {
         ReadBack::Edges(m) => {
-            areas::copy_front(work, 2 * (m as usize), out);
+            work::copy_front(work, 2 * (m as usize), out);
             return ReadBack::Edges(m);
         }
         ReadBack::Refused(r) => {
@@ -69,6 +69,6 @@ pub fn read(record: &[u8], work: &mut [u16], out: &mut [u16]) -> ReadBack
     ensures { λ r. ⌜ ReadCall (now («record» .entry)) (now (work .entry)) (now (out .entry)) r (now (work .exit)) (now (out .exit)) ⌝ }
 {
     let r = read_out(record, work, out);
-    areas::clear(work);
+    work::clear(work);
     r
 }

@@ -24,13 +24,13 @@ use Rattle.searching.specs.declared.Searched.{Searched}
 use Rattle.searching.specs.declared.Searched.the-variants.{There, Missing, Broken}
 use Rattle.model.specs.Numbers.{tick}
 use Rattle.model.specs.Shelf.{passes, allPass, recordsIn, endToEnd, same, firstEqual, met, asLong, compared}
-use Rattle.model.specs.Walk.{firstRecord, recordAt}
+use Rattle.model.specs.ShelfWalk.{firstRecord, recordAt}
 use Rattle.searching.specs.Search.{searchIn, searchOf}
-use Rattle.cutting.specs.Count.{countOf}
-use Rattle.cutting.specs.declared.Counted.the-variants as counted
-use Rattle.cutting.proofs.Stands.{stands, stands-not, record-is, part-is}
-use Rattle.cutting.proofs.Cut.{rest, cut-verdict, cut-records, cut-stops, end-nil}
-use Rattle.cutting.proofs.Turn.{onward}
+use Rattle.records.specs.Count.{countOf}
+use Rattle.records.specs.declared.Counted.the-variants as counted
+use Rattle.records.proofs.Stands.{stands, stands-not, record-is, part-is}
+use Rattle.records.proofs.Cut.{rest, cut-verdict, cut-records, cut-stops, end-nil}
+use Rattle.records.proofs.Turn.{onward}
 use Rattle.searching.proofs.Equality.{same-eq, same-unlike}
 
 abbrev pub further : ℕ → ℕ → Searched → Searched

@@ -46,9 +46,9 @@ fn equal(record: &[u8], kind: u16, other: &[u8]) -> bool
 fn there(past: &[u8], n: usize, compared: usize) -> Searched
     ensures { λ r. ⌜ r ≡ cond (endToEnd (now (past .entry))) (There n compared) Broken ⌝ }
 {
-    match cutting::count(past) {
-        cutting::Counted::Broken => Searched::Broken,
-        cutting::Counted::Records(_) => Searched::There(n, compared),
+    match records::count(past) {
+        records::Counted::Broken => Searched::Broken,
+        records::Counted::Records(_) => Searched::There(n, compared),
     }
 }
 
@@ -63,7 +63,7 @@ pub fn search(record: &[u8], bytes: &[u8]) -> Searched
     let mut n = 0;
     let mut compared = 0;
     while at < bytes.len() {
-        let size = cutting::length_at(bytes, at);
+        let size = records::length_at(bytes, at);
         if size == 0 {
             return Searched::Broken;
         }

@@ -12,12 +12,12 @@ use native.Mathlib.Nat.{sub-zero}
 use native.Mathlib.Omega.{arith}
 use lib.ListN.{length, take, drop}
 use borrow.Author.Tests.{lt-ltb, le-ltb}
-use Rattle.cutting.specs.declared.Counted.{Counted}
-use Rattle.cutting.specs.declared.Counted.the-variants.{Records, Broken}
+use Rattle.records.specs.declared.Counted.{Counted}
+use Rattle.records.specs.declared.Counted.the-variants.{Records, Broken}
 use Rattle.model.specs.Numbers.{firstRefusal}
 use Rattle.model.specs.Shelf.{recordsIn, endToEnd, shelfRefused}
 use Rattle.model.specs.Calls.{fetchRefusal}
-use Rattle.cutting.specs.Count.{countOf}
+use Rattle.records.specs.Count.{countOf}
 use Rattle.shelf.specs.Count.{shelfCount}
 
 -- the used bytes, as the code lends them

@@ -24,13 +24,13 @@ use borrow.Author.Tests.{eq-eqb, ne-eqb, ltb-true, ltb-false, eqb-true, not-fals
 use Rattle.model.specs.Numbers.{firstRefusal}
 use Rattle.model.specs.Shelf.{word16, passes, recordsIn, endToEnd, shelfRefused}
 use Rattle.model.specs.Calls.{fetchRefusal, fetched, Fetched}
-use Rattle.model.specs.Walk.{firstRecord, recordAt, placeOfRecord, beginPlace, nextPlace, Begun}
+use Rattle.model.specs.ShelfWalk.{firstRecord, recordAt, placeOfRecord, beginPlace, nextPlace, Begun}
 use Rattle.model.proofs.Booleans.{or-none}
 use Rattle.model.proofs.Refusals.{not-met}
 use denote.Ref.{RefT, now}
 use Rattle.model.specs.Parts.{cutPlace, CutOut}
-use Rattle.cutting.proofs.Stands.{head-whole, record-is, record-short, stands, stands-length, stands-not}
-use Rattle.cutting.proofs.Cut.{rest, some-bytes, end-head, end-rest, end-records}
+use Rattle.records.proofs.Stands.{head-whole, record-is, record-short, stands, stands-length, stands-not}
+use Rattle.records.proofs.Cut.{rest, some-bytes, end-head, end-rest, end-records}
 use Rattle.model.specs.Parts.{fetchedPlace, FetchedPart}
 use Rattle.shelf.proofs.Refusals.{used-part}
 

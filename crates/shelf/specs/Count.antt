@@ -5,8 +5,8 @@ use Prim.Native.Nat.{ℕ}
 use mathlib.Core.Bool.{cond}
 use mathlib.Core.List.{List}
 use lib.ListN.{length, take}
-use Rattle.cutting.specs.declared.Counted.{Counted}
-use Rattle.cutting.specs.declared.Counted.the-variants as counted
+use Rattle.records.specs.declared.Counted.{Counted}
+use Rattle.records.specs.declared.Counted.the-variants as counted
 use Rattle.model.specs.Shelf.{recordsIn, shelfRefused}
 
 unfoldable pub shelfCount : List ℕ → ℕ → Counted

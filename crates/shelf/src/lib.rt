@@ -6,7 +6,7 @@ ghost use mathlib.Core.List.{_++_};
 ghost use Prim.Native.Nat.{_+_, _≤_};
 ghost use lib.ListN.{length, take, drop};
 ghost use Rattle.model.specs.Calls.{front, fetchRefusal, Stored};
-ghost use Rattle.model.specs.Walk.{recordAt, nextPlace, Begun};
+ghost use Rattle.model.specs.ShelfWalk.{recordAt, nextPlace, Begun};
 ghost use Rattle.shelf.specs.Count.{shelfCount};
 ghost use Rattle.shelf.specs.Spot.{spotOf};
 ghost use Rattle.model.specs.Parts.{FetchedPart};
@@ -19,13 +19,13 @@ enum Spot {
 }
 
 // How many records are on the shelf, if 14 does not concern it.
-fn count(shelf: &[u8], used: usize) -> cutting::Counted
+fn count(shelf: &[u8], used: usize) -> records::Counted
     ensures { λ r. ⌜ r ≡ shelfCount (now (shelf .entry)) used ⌝ }
 {
     if used > shelf.len() {
-        return cutting::Counted::Broken;
+        return records::Counted::Broken;
     }
-    cutting::count(&shelf[0..used])
+    records::count(&shelf[0..used])
 }
 
 // The first of 14, 15 that concerns fetching record n; 0 if none does.
@@ -33,8 +33,8 @@ fn fetch_refusal(shelf: &[u8], used: usize, n: usize) -> u16
     ensures { λ r. ⌜ r ≡ fetchRefusal (now (shelf .entry)) used n ⌝ }
 {
     match count(shelf, used) {
-        cutting::Counted::Broken => 14,
-        cutting::Counted::Records(records) => {
+        records::Counted::Broken => 14,
+        records::Counted::Records(records) => {
             if n < records {
                 return 0;
             }
@@ -65,14 +65,14 @@ pub fn walk_begin(shelf: &[u8], used: usize, n: usize, refusal: &mut u16) -> usi
         return used;
     }
     *refusal = 0;
-    cutting::place(&shelf[0..used], n)
+    records::place(&shelf[0..used], n)
 }
 
 // The length of the record that stands at this place of the used bytes; 0 if none is left there, or none that passes 1, 2, 3 and 5.
 pub fn walk_length(shelf: &[u8], used: usize, at: usize) -> usize
     ensures { λ r. ⌜ r ≡ length (recordAt (take used (now (shelf .entry))) at) ⌝ }
 {
-    cutting::length_at(used_part(shelf, used), at)
+    records::length_at(used_part(shelf, used), at)
 }
 
 // The place past that record; the place itself if none stands there.
@@ -85,7 +85,7 @@ pub fn walk_next(shelf: &[u8], used: usize, at: usize) -> usize
 pub fn next_place(bytes: &[u8], at: usize) -> usize
     ensures { λ r. ⌜ r ≡ nextPlace (now (bytes .entry)) at ⌝ }
 {
-    let length = cutting::length_at(bytes, at);
+    let length = records::length_at(bytes, at);
     at + length
 }
 
@@ -95,7 +95,7 @@ pub fn fetch<'a>(shelf: &'a [u8], used: usize, n: usize, refusal: &mut u16) -> &
     ensures { λ r. ⌜ FetchedPart (shelf .entry) used n r (now (refusal .exit)) ⌝ }
 {
     let at = walk_begin(shelf, used, n, refusal);
-    cutting::record_at(used_part(shelf, used), at)
+    records::record_at(used_part(shelf, used), at)
 }
 
 // ---- shelving

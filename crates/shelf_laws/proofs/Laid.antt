@@ -14,11 +14,11 @@ use native.Mathlib.Omega.{arith}
 use lib.ListN.{length, take, drop, length-drop, take-append-drop, List·getD-append}
 use lib.Seq.{take-append-seam, drop-append-seam}
 use Rattle.model.specs.Shelf.{word16, passes, recordsIn, allPass, endToEnd}
-use Rattle.model.specs.Walk.{firstRecord}
+use Rattle.model.specs.ShelfWalk.{firstRecord}
 use Rattle.model.proofs.Booleans.{and-left, and-right}
 use Rattle.heads.proofs.Head.{passes-long, passes-length}
-use Rattle.cutting.proofs.Stands.{head-whole}
-use Rattle.cutting.proofs.Cut.{rest, cut-verdict, cut-records, end-nil, end-head, end-rest, end-records}
+use Rattle.records.proofs.Stands.{head-whole}
+use Rattle.records.proofs.Cut.{rest, cut-verdict, cut-records, end-nil, end-head, end-rest, end-records}
 
 unfoldable pub laid : List (List ℕ) → List ℕ
 laid [] = []

@@ -20,10 +20,10 @@ use borrow.Author.Tests.{le-ltb, eq-eqb}
 use Rattle.model.specs.Numbers.{firstRefusal}
 use Rattle.model.specs.Shelf.{passes, recordsIn, allPass, endToEnd, shelfRefused}
 use Rattle.model.specs.Calls.{fetchRefusal, fetched}
-use Rattle.model.specs.Walk.{recordAt, nextPlace, placeOfRecord, beginPlace, walked, HandsOut}
+use Rattle.model.specs.ShelfWalk.{recordAt, nextPlace, placeOfRecord, beginPlace, walked, HandsOut}
 use Rattle.model.proofs.Booleans.{and-left, and-right}
 use Rattle.heads.proofs.Head.{passes-long}
-use Rattle.cutting.proofs.Stands.{record-short}
+use Rattle.records.proofs.Stands.{record-short}
 use Rattle.shelf.proofs.Walking.{place-record, none-left, used-fine, fine-parts}
 use Rattle.shelf_laws.proofs.Laid.{laid, laid-back}
 use Rattle.shelf_laws.proofs.Shelved.{records, fetch-refusal-zero, fetched-record}

@@ -3,7 +3,7 @@
 // (document 02, request (g)). The file stdout has what it must write; tests/shelves.py holds it to the second coder.
 ghost use mathlib.Core.Path.{_≡_};
 ghost use Rattle.model.specs.Parts.{CutOut};
-ghost use Rattle.model.specs.Walk.{nextPlace};
+ghost use Rattle.model.specs.ShelfWalk.{nextPlace};
 use model::Shelved;
 use searching::Searched;
 use walker::Walker;

@@ -14,8 +14,8 @@ use lib.Seq.{take-suc, take-all, getD-drop}
 use Rattle.packing.specs.Unpack.{digitsOf, unpack, groups}
 use Rattle.packing.proofs.Digits.{length-digitsOf}
 use Rattle.packing.proofs.Packed.{unpack-append}
-use Rattle.areas.specs.Area.{region, placed}
-use Rattle.areas.proofs.Regions.{region-region, region-grow, sets-placed}
+use Rattle.work.specs.Area.{region, placed}
+use Rattle.work.proofs.Regions.{region-region, region-grow, sets-placed}
 use Rattle.unpacker.specs.Unpacked.{grouped}
 
 pub labels-start : (a : ℕ) (xs w : List ℕ) → region a 0 w ≡ take 0 xs

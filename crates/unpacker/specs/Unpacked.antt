@@ -8,7 +8,7 @@ use mathlib.Core.Bool.{true}
 use mathlib.Core.List.{List}
 use Rattle.model.specs.Shelf.{kindOf, edgesOf, passes}
 use Rattle.packing.specs.Unpack.{digitsOf}
-use Rattle.areas.specs.Area.{placed}
+use Rattle.work.specs.Area.{placed}
 
 abbrev pub Head : List ℕ → ℕ → ℕ → Type 0
 Head r k m = (passes r ≡ true) × (k ≡ kindOf r) × (m ≡ edgesOf r)

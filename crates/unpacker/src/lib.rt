@@ -6,7 +6,7 @@ ghost use lib.ListN.{length, take, drop};
 ghost use Rattle.model.specs.Numbers.{allBelow};
 ghost use Rattle.packing.specs.Unpack.{bits};
 ghost use Rattle.packing.specs.Unlay.{labelsIn, readable};
-ghost use Rattle.areas.specs.Area.{region};
+ghost use Rattle.work.specs.Area.{region};
 ghost use Rattle.bits.specs.Places.{labelsFrom};
 ghost use Rattle.unpacker.specs.Unpacked.{Head, grouped};
 

@@ -1,8 +1,8 @@
 // A walker over a shelf: it holds the used bytes and the place that it has come to. Each function over it is thin and
-// leaves the work to a function of `shelf` or `cutting` with plain parameters.
+// leaves the work to a function of `shelf` or `records` with plain parameters.
 ghost use mathlib.Core.Path.{_≡_};
 ghost use lib.ListN.{take};
-ghost use Rattle.model.specs.Walk.{nextPlace, Begun};
+ghost use Rattle.model.specs.ShelfWalk.{nextPlace, Begun};
 ghost use Rattle.model.specs.Parts.{CutOut, FetchedPart};
 
 pub struct Walker<'a> {
@@ -14,7 +14,7 @@ pub struct Walker<'a> {
 pub fn here<'a>(w: Walker<'a>) -> &'a [u8]
     ensures { λ r. ⌜ CutOut (w .entry .src) (w .entry .at) r ⌝ }
 {
-    cutting::record_at(w.src, w.at)
+    records::record_at(w.src, w.at)
 }
 
 // The walker moved on past that record.

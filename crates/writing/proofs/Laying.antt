@@ -17,12 +17,12 @@ use Rattle.model.specs.Calls.{front}
 use Rattle.model.proofs.Fitness.{count-parts}
 use Rattle.words.specs.Word.{valid}
 use Rattle.words.proofs.Validity.{valid-fits, valid-nested, valid-of}
-use Rattle.decoding.proofs.Sizes.{labels-bound}
-use Rattle.decoding.proofs.Bounds.{bits-below}
-use Rattle.letters.proofs.Word.{length-letters}
-use Rattle.letters.specs.Letters.{lettersIn, workBits, workLabels}
-use Rattle.payload.specs.Payload.{Put}
-use Rattle.laying.specs.Laying.{LaidOut}
+use Rattle.machine.proofs.Sizes.{labels-bound}
+use Rattle.machine.proofs.Bounds.{bits-below}
+use Rattle.work.proofs.Letters.{length-letters}
+use Rattle.work.specs.Letters.{lettersIn, workBits, workLabels}
+use Rattle.encoder.specs.Payload.{Put}
+use Rattle.packer.specs.Laying.{LaidOut}
 use Rattle.writing.specs.Early.{Ready, Recorded}
 
 pub valid-two : (k : ℕ) (v : List Letter) → valid k v ≡ true → valid 2 v ≡ true

@@ -27,10 +27,10 @@ use Rattle.lists.proofs.Calls.{not-refused}
 use Rattle.fitting.specs.declared.Verdict.{Verdict}
 use Rattle.fitting.specs.declared.Verdict.the-variants as verdict
 use Rattle.fitting.specs.Judged.{lateRefusal, verdictOf, Judged}
-use Rattle.letters.specs.Letters.{lettersIn}
+use Rattle.work.specs.Letters.{lettersIn}
 use Rattle.writing.specs.Early.{earlyRefusal, Ready, Recorded, Made}
 use Rattle.writing.proofs.Refusing.{refusal-split}
-use Rattle.letters.proofs.Word.{letters-code}
+use Rattle.work.proofs.Letters.{letters-code}
 
 -- ---- an early refusal is not 10
 

@@ -15,7 +15,7 @@ use Rattle.model.specs.Map.{Plan, isKind}
 use Rattle.model.specs.Record.{recordLength, layOut}
 use Rattle.model.specs.Calls.{front, earlyRefusals, writeAnswer, writtenOutput}
 use Rattle.words.specs.Word.{valid, wordBits, wordLabels}
-use Rattle.letters.specs.Letters.{lettersIn}
+use Rattle.work.specs.Letters.{lettersIn}
 
 unfoldable pub earlyRefusal : ℕ → Plan → ℕ → ℕ → ℕ
 earlyRefusal k p workLength outLength = firstRefusal (earlyRefusals k p workLength outLength)

@@ -25,7 +25,7 @@ fn early(order: &[u16], root: u16, kind: u16, room: usize, space: usize) -> u16
     if root as usize >= n {
         return 4;
     }
-    if !checks::is_permutation(order) {
+    if !permutation::is_permutation(order) {
         return 6;
     }
     let m = n / 2;
@@ -43,8 +43,8 @@ fn laid_out(w: &mut [u16], n: usize, kind: u16, out: &mut [u8]) -> u16
     requires { ⌜ Ready n kind (now w) (now out) ⌝ }
     ensures { λ r. ⌜ Recorded n kind (now (w .entry)) (now (out .entry)) r (now (w .exit)) (now (out .exit)) ⌝ }
 {
-    payload::put(w, n);
-    laying::lay_out(w, kind, n / 2, out)
+    encoder::put(w, n);
+    packer::lay_out(w, kind, n / 2, out)
 }
 
 fn made(order: &[u16], root: u16, kind: u16, w: &mut [u16], out: &mut [u8]) -> Written
@@ -67,6 +67,6 @@ pub fn write(order: &[u16], root: u16, kind: u16, work: &mut [u16], out: &mut [u
     ensures { λ r. ⌜ Wrote kind (record { rotation = now (order .entry); root = root }) (now (work .entry)) (now (out .entry)) r (now (work .exit)) (now (out .exit)) ⌝ }
 {
     let r = made(order, root, kind, work, out);
-    areas::clear(work);
+    work::clear(work);
     r
 }

@@ -5,8 +5,8 @@ use mathlib.Core.List.{List}
 use native.Mathlib.Omega.{arith}
 use lib.ListN.{length, replicate, length-replicate}
 use borrow.Author.Tests.{not-true, not-false}
-use Rattle.areas.specs.Area.{region, placed}
-use Rattle.areas.proofs.Regions.{length-placed, region-placed, region-placed-other}
+use Rattle.work.specs.Area.{region, placed}
+use Rattle.work.proofs.Regions.{length-placed, region-placed, region-placed-other}
 use Rattle.decoder.proofs.Runs.{answer-kept, answer-unreadable, answer-readable}
 use borrow.Author.Needs.{needs}
 use Rattle.decoder.proofs.decode.Statement.{statement}

@@ -5,8 +5,8 @@ use mathlib.Core.Path.{_≡_, refl}
 use lib.ListN.{length}
 use Rattle.model.specs.Shelf.{kindOf}
 use Rattle.packing.specs.Unlay.{bitsIn}
-use Rattle.areas.specs.Area.{region}
-use Rattle.areas.proofs.Regions.{length-region}
+use Rattle.work.specs.Area.{region}
+use Rattle.work.proofs.Regions.{length-region}
 use Rattle.decoder.specs.States.{Room, Turned}
 use Rattle.decoder.proofs.Cursors.{bit-end, Read, both-read, label-missing}
 use Rattle.decoder.proofs.Moves.{no-bit, no-label, room-left}

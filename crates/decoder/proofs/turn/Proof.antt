@@ -5,8 +5,8 @@ use native.Mathlib.Omega.{arith}
 use lib.ListN.{length}
 use Rattle.model.specs.Shelf.{kindOf}
 use Rattle.packing.specs.Unlay.{bitsIn}
-use Rattle.areas.specs.Area.{region}
-use Rattle.areas.proofs.Regions.{length-region}
+use Rattle.work.specs.Area.{region}
+use Rattle.work.proofs.Regions.{length-region}
 use Rattle.decoder.specs.declared.Cursor.{Cursor}
 use Rattle.decoder.specs.States.{Turned}
 use Rattle.decoder.proofs.Cursors.{BitRead, bit-read, bit-end}

@@ -3,7 +3,7 @@ use mir.Syntax.{w32}
 use mir.Val.{SFits}
 use native.Mathlib.Omega.{arith}
 use Rattle.model.proofs.Fitness.{count-parts}
-use Rattle.checks.proofs.Signed.{bits-is, bits-not}
+use Rattle.fitting.proofs.Signed.{bits-is, bits-not}
 use Rattle.fitting.proofs.Cases.{few, few-vertices, room-local, parted, curved, flat, still-named}
 use borrow.Author.Needs.{needs}
 use Rattle.fitting.proofs.judge.Statement.{statement}
@@ -18,12 +18,12 @@ euler-requires : tie.Need-euler-requires
 euler-requires c κs = let st = c .before .before .before .before .before .before .before .before .before .before .before in
     let s = c .before .before .before .before .before .before .before .walked in
     let n = count-parts _ (st .pre .0) .2 in
-    (few-vertices _ _ n (s .ensures .counted), omega arith, few _ _ _ n (c .before .before .label .ensures .counted))
+    (few-vertices _ _ n (s .ensures .counted), omega arith, few _ _ _ n (c .before .before .name .ensures .counted))
 
 returns-2 : tie.Need-returns-2
 returns-2 c = let st = c .before .before .before .before .before .before .before .before .before .before .before .before .before in
     let s = c .before .before .before .before .before .before .before .before .before .walked in
-    let l = c .before .before .before .before .label in
+    let l = c .before .before .before .before .name in
     let x = c .before .euler in
     let fits : SFits w32 (x .result) = record { sfits = x .ok } in
     rw (toZ-ofZ fits) (curved (st .args .kind) _ (st .pre .0) (st .pre .2) (st .pre .1) (st .args .w .now) (s .result) _ (st .pre .3) (s .ensures)
@@ -32,7 +32,7 @@ returns-2 c = let st = c .before .before .before .before .before .before .before
 local-requires : tie.Need-local-requires
 local-requires c κs = let st = c .before .before .before .before .before .before .before .before .before .before .before .before .before .before in
     let s = c .before .before .before .before .before .before .before .before .before .before .walked in
-    let l = c .before .before .before .before .before .label in (
+    let l = c .before .before .before .before .before .name in (
       (st .pre .0, st .pre .1, st .pre .2),
       (
         room-local _ (st .args .w .now) (s .last .1 .1 .0) (l .last .1 .1 .0) (s .kept .1 .1 .0) (l .kept .1 .1 .0) (st .pre .3),
@@ -44,7 +44,7 @@ local-requires c κs = let st = c .before .before .before .before .before .befor
 returns-3 : tie.Need-returns-3
 returns-3 c = let st = c .before .before .before .before .before .before .before .before .before .before .before .before .before .before .before in
     let s = c .before .before .before .before .before .before .before .before .before .before .before .walked in
-    let l = c .before .before .before .before .before .before .label in
+    let l = c .before .before .before .before .before .before .name in
     let x = c .before .before .before .euler in
     let fits : SFits w32 (x .result) = record { sfits = x .ok } in
     flat (st .args .kind) _ (st .pre .0) (st .pre .2) (st .pre .1) (st .args .w .now) (s .result) _ (st .pre .3) (s .ensures)

@@ -4,7 +4,7 @@ use mathlib.Core.Logic.{⊎-elim}
 use Prim.Native.Nat.{_+_, _-_, _≤_}
 use lib.ListN.{length, drop}
 use Rattle.searching.specs.Search.{searchOf}
-use Rattle.cutting.proofs.Turn.{step-fits}
+use Rattle.records.proofs.Turn.{step-fits}
 use Rattle.searching.proofs.Turn.{further, part-length, search-begins, search-passes, search-goes-on, search-finds, search-stops, search-ends}
 use borrow.Author.Needs.{needs}
 use Rattle.searching.proofs.search.Statement.{statement}

@@ -2,7 +2,7 @@ use mathlib.Core.Path.{ap, _∙_}
 use mathlib.Core.List.{List}
 use Prim.Native.Nat.{ℕ}
 use lib.ListN.{length}
-use Rattle.model.specs.Walk.{recordAt}
+use Rattle.model.specs.ShelfWalk.{recordAt}
 use borrow.Author.Needs.{needs}
 use Rattle.shelf.proofs.walk_length.Statement.{statement}
 use Rattle.shelf.proofs.walk_length.Tie as tie

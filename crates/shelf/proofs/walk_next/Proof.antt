@@ -1,7 +1,7 @@
 use mathlib.Core.Path.{ap, _∙_}
 use mathlib.Core.List.{List}
 use Prim.Native.Nat.{ℕ}
-use Rattle.model.specs.Walk.{nextPlace}
+use Rattle.model.specs.ShelfWalk.{nextPlace}
 use borrow.Author.Needs.{needs}
 use Rattle.shelf.proofs.walk_next.Statement.{statement}
 use Rattle.shelf.proofs.walk_next.Tie as tie

@@ -4,7 +4,7 @@ use mathlib.Core.Path.{_≡_, refl, _∙_}
 use native.Mathlib.Omega.{arith}
 use lib.ListN.{length, take, length-set}
 use Rattle.packing.specs.Unlay.{labelsIn}
-use Rattle.areas.specs.Area.{region}
+use Rattle.work.specs.Area.{region}
 use Rattle.unpacker.proofs.Payload.{KindOne, one, label-one}
 use Rattle.unpacker.proofs.Labels.{labels-start, label-on, labels-end}
 use borrow.Author.Needs.{needs}

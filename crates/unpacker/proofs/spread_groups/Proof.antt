@@ -3,7 +3,7 @@ use Prim.Native.Nat.{_+_, _-_, _*_, _/_, _≤_}
 use mathlib.Core.Path.{_≡_, refl, ap, _∙_}
 use native.Mathlib.Omega.{arith}
 use lib.ListN.{length, take, drop}
-use Rattle.areas.specs.Area.{region}
+use Rattle.work.specs.Area.{region}
 use Rattle.packing.specs.Unpack.{groups}
 use Rattle.unpacker.proofs.Payload.{KindTwo, two, labels-two}
 use Rattle.unpacker.proofs.Labels.{groups-start, group-on, groups-end}

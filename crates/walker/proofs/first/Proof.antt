@@ -40,7 +40,7 @@ use denote.Triple.Walked.{says, Stays, stay-none, stay-none-slice, gave-ref, wal
 use denote.Triple.Walked.{walked, walk-meets}
 use denote.Exit.{yes}
 use denote.Triple.Clauses.{ensured, lasts}
-use Rattle.model.specs.Walk.{Begun}
+use Rattle.model.specs.ShelfWalk.{Begun}
 use Rattle.model.specs.Parts.{CutOut}
 use Rattle.shelf.proofs.Walking.{fetched-part}
 use Rattle.walker.specs.declared.Walker.{Walker}

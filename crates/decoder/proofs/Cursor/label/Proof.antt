@@ -3,8 +3,8 @@ use Prim.Native.Nat.{_*_}
 use mathlib.Core.Path.{_≡_, sym}
 use native.Mathlib.Omega.{arith}
 use lib.ListN.{length}
-use Rattle.areas.specs.Area.{region}
-use Rattle.areas.proofs.Regions.{length-region, getD-region}
+use Rattle.work.specs.Area.{region}
+use Rattle.work.proofs.Regions.{length-region, getD-region}
 use Rattle.decoder.proofs.Cursors.{label-next, label-none}
 use borrow.Author.Needs.{needs}
 use Rattle.decoder.proofs.Cursor.label.Statement.{statement}

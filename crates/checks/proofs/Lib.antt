@@ -1,4 +1,0 @@
-pub mod Search
-pub mod Marking
-pub mod Signed
-pub mod Zeros

@@ -1,0 +1,88 @@
+use mathlib.Core.Path.{_≡_, ap, _∙_}
+use mathlib.Core.Logic.{⊎-elim}
+use Prim.Native.Nat.{_-_, _≤_}
+use native.Mathlib.Omega.{arith}
+use lib.ListN.{length}
+use Rattle.model.proofs.Fitness.{count-parts}
+use Rattle.cycles.specs.Cycles.{stepOf}
+use Rattle.cycles.proofs.Steps.{step-perm}
+use Rattle.cycles.proofs.Turns.{Half, half-count, half-start, ready-names, ready-own, half-new, half-old, half-end}
+use borrow.Author.Needs.{needs}
+use Rattle.cycles.proofs.name.Statement.{statement}
+use Rattle.cycles.proofs.name.Tie as tie
+
+abbrev Inv-loop : tie.InvT-loop
+Inv-loop order across w₀ a n count₀ d₀ w count d =
+    (d ≤ length order) × (length w ≡ length w₀) × Half (stepOf order across) (length order) a w₀ d count w
+
+abbrev μ-loop : tie.MeasureT-loop
+μ-loop order across w₀ a n count₀ d₀ w count d = length order - d
+
+loop-holds : tie.Need-loop-holds Inv-loop μ-loop
+loop-holds c =
+    let st = c .before .before .before .before .before .before in
+    (search needs, search needs, half-start _ _ _ (st .args .w .now) (st .pre .2) _ (c .before .before .fill .ensures))
+
+follow-requires : tie.Need-follow-requires Inv-loop μ-loop
+follow-requires c κs =
+    let at = c .before .before .before .before .loop in
+    let st = c .before .before .before .before .before .before .before .before .before .before .before in
+    let n = count-parts _ (st .pre .0) in
+    let perm = step-perm (st .args .order .now) (st .pre .1) (st .args .across) (st .pre .0) in
+    record {
+      size = st .pre .0;
+      entries = st .pre .1;
+      below = omega arith;
+      fits = omega arith;
+      names = ready-names _ _ _ _ (omega arith) perm (n .2) (at .d) _ (omega arith) (at .w) (at .inv .2);
+      own = ready-own _ _ _ _ (omega arith) perm (n .2) (at .d) _ (omega arith) (at .w) (at .inv .2) (c .before .if1 .taken);
+    }
+
+add-count : tie.Need-add-count Inv-loop μ-loop
+add-count c =
+    let k = half-count _ _ _ _ _ _ _ (c .before .before .before .before .before .before .before .loop .inv .2) in
+    omega arith
+
+loop-again : tie.Need-loop-again Inv-loop μ-loop
+loop-again c =
+    let at = c .before .before .before .loop in
+    let st = c .before .before .before .before .before .before .before .before .before .before in
+    let n = count-parts _ (st .pre .0) in
+    let perm = step-perm (st .args .order .now) (st .pre .1) (st .args .across) (st .pre .0) in
+    ⊎-elim
+    (λ u. (
+      omega arith,
+      ap length (u .5) ∙ (u .2 .kept .1 .1 .0 ∙ at .inv .1),
+      half-new _ _ _ _ (omega arith) perm (n .2) (at .d) _ (omega arith) (at .w) (at .inv .2) _ _ (u .0 .taken) (u .6) (u .5 ∙ u .2 .ensures),
+    ))
+    (λ v. (
+      omega arith,
+      ap length (v .1) ∙ at .inv .1,
+      half-old _ _ _ _ (omega arith) perm (n .2) (at .d) _ (omega arith) (at .w) (at .inv .2) _ _ (v .0 .left) (v .2) (v .1),
+    ))
+    (c .if1 .came)
+
+returns : tie.Need-returns Inv-loop μ-loop
+returns c =
+    let at = c .before .loop in
+    let st = c .before .before .before .before .before .before .before .before in
+    half-end _ _ _ (st .args .w .now) (st .pre .2) (at .d) _ _ _ (omega arith) (c .before .before .before .before .fill .ensures) (at .inv .2)
+
+pub name-spec : {M : Type 1} → statement M
+name-spec =
+    tie.close
+    (tie.spec
+    Inv-loop
+    μ-loop
+    (λ c κs. search needs)
+    loop-holds
+    (λ c. search needs)
+    (λ c. search needs)
+    (λ c. search needs)
+    follow-requires
+    add-count
+    (λ c. search needs)
+    (λ c. search needs)
+    loop-again
+    (λ c. search needs)
+    returns)

@@ -1,0 +1,78 @@
+-- The word in the work area, letter by letter.
+--
+--   letters-at, letter-is  the letter at position i, and what follows it
+--   letters-end            nothing follows the last
+--   small-word             a valid word has at most 8192 letters
+--   not-down               a code but 1 is not that of down
+--   second-past, up-past, second-here, no-second-here, up-here   whether second or up stands at a position
+use Prim.Native.Nat.{ℕ, _+_, _*_, _≤_, _<_}
+use native.Mathlib.Omega.{arith}
+use native.Mathlib.Numerals.{add-one}
+use mathlib.Core.Path.{_≡_, refl, sym, ap, _∙_, subst}
+use mathlib.Core.Logic.{_≢_}
+use mathlib.Core.Bool.{Bool, true, false, cond}
+use mathlib.Core.List.{List, [], _∷_}
+use lib.Dec.{eqb}
+use lib.ListN.{length, getD, drop}
+use lib.Seq.{drop-length}
+use borrow.Author.Tests.{eq-eqb, ne-eqb}
+use Rattle.model.proofs.Fitness.{count-parts}
+use Rattle.model.specs.Traversal.{Letter, down, up, first, second}
+use Rattle.words.specs.Word.{valid, startsUp, startsSecond}
+use Rattle.words.specs.Entered.{isDown}
+use Rattle.orbits.proofs.Order.{eq-split}
+use Rattle.words.proofs.Validity.{valid-fits}
+use Rattle.work.specs.Letters.{toLetter, lettersIn}
+use Rattle.work.proofs.Letters.{is-down, is-up, is-first, is-second, length-letters, letters-from}
+
+module _ (n : ℕ) (w : List ℕ) (room : 16 * n ≤ length w) where
+  pub letters-at : (i : ℕ) → i < n → drop i (lettersIn n w) ≡ toLetter (getD w (3 * n + i) 0) ∷ drop (i + 1) (lettersIn n w)
+  letters-at i h = rw (add-one i) (letters-from n w i (omega arith) h)
+
+  pub letter-is : (i : ℕ) → i < n → (l : Letter) → toLetter (getD w (3 * n + i) 0) ≡ l → drop i (lettersIn n w) ≡ l ∷ drop (i + 1) (lettersIn n w)
+  letter-is i h l e = letters-at i h ∙ ap (λ (k : Letter). k ∷ drop (i + 1) (lettersIn n w)) e
+
+  pub letters-end : (i : ℕ) → i ≡ n → drop i (lettersIn n w) ≡ []
+  letters-end i e = ap (λ (k : ℕ). drop k (lettersIn n w)) (e ∙ sym (length-letters n w (omega arith))) ∙ drop-length (lettersIn n w)
+
+  pub small-word : valid 2 (lettersIn n w) ≡ true → n ≤ 8192
+  small-word v =
+      subst (λ (k : ℕ). k ≤ 8192) (length-letters n w (omega arith)) (count-parts (length (lettersIn n w)) (valid-fits 2 (lettersIn n w) v) .2)
+
+pub not-down : (x : ℕ) → x ≢ 1 → isDown (toLetter x) ≡ false
+unfolding toLetter
+not-down x a = rw (ne-eqb x 1 a) (go (eqb x 2) (eqb x 3))
+  where
+    go : (b c : Bool) → isDown (cond b up (cond c first second)) ≡ false
+    go true c = refl
+    go false true = refl
+    go false false = refl
+
+-- ---- what stands at a position
+
+module _ (n : ℕ) (w : List ℕ) (room : 16 * n ≤ length w) (i : ℕ) where
+  pub second-past : i ≡ n → 0 ≡ startsSecond (drop i (lettersIn n w))
+  unfolding startsSecond
+  second-past e = rw (letters-end n w room i e)
+
+  pub up-past : i ≡ n → false ≡ startsUp (drop i (lettersIn n w))
+  unfolding startsUp
+  up-past e = rw (letters-end n w room i e)
+
+  module _ (h : i < n) (x : ℕ) (at : getD w (3 * n + i) 0 ≡ x) where
+    starts : (l : Letter) → toLetter x ≡ l → drop i (lettersIn n w) ≡ l ∷ drop (i + 1) (lettersIn n w)
+    starts l e = letter-is n w room i h l (ap toLetter at ∙ e)
+
+    pub second-here : x ≢ 1 → x ≢ 2 → x ≢ 3 → 1 ≡ startsSecond (drop i (lettersIn n w))
+    unfolding startsSecond
+    second-here a b c = rw (starts second (is-second x a b c))
+
+    pub no-second-here : 0 < x → x < 4 → 0 ≡ startsSecond (drop i (lettersIn n w))
+    unfolding startsSecond
+    no-second-here a b = eq-split x 1 (λ e. rw (starts down (is-down x e))) (λ p. eq-split x 2 (λ e. rw (starts up (is-up x e)))
+        (λ q. rw (starts first (is-first x (omega (arith, p, q))))))
+
+    pub up-here : eqb x 2 ≡ startsUp (drop i (lettersIn n w))
+    unfolding startsUp
+    up-here = eq-split x 2 (λ e. rw (eq-eqb x 2 e, starts up (is-up x e))) (λ p. rw (ne-eqb x 2 p) (eq-split x 1 (λ e. rw (starts down (is-down x e)))
+        (λ q. eq-split x 3 (λ e. rw (starts first (is-first x e))) (λ r. rw (starts second (is-second x q p r))))))

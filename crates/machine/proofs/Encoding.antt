@@ -1,0 +1,189 @@
+-- The machine reads a valid word's tree bits and labels back (`decode-encode`), from any state on its way through the word (`encoded`).
+--
+--   Onward m s ls w    a turn from s gives the letters ls and leaves w to be read, where m labels were to be read at the start
+--   on-up, on-second, on-star, on-back, on-tree   it does so, for each letter and for a leaf
+--   encoded            the machine reads the word that is still to be read
+--   starts-reading     at the start a word is to be read from its own bits and labels
+--   decode-encode      and it is read
+use Prim.Native.Nat.{ℕ, suc, _≤_, _<_, zero-le}
+use native.Mathlib.Nat.{le-refl}
+use native.Mathlib.Omega.{arith}
+use mathlib.Core.Path.{_≡_, refl, sym, ap, _∙_}
+use mathlib.Core.Logic.{_≢_}
+use mathlib.Core.Bool.{Bool, true, false, cond, false≢true}
+use mathlib.Core.List.{List, [], _∷_}
+use lib.ListN.{length}
+use Rattle.model.specs.Numbers.{allBelow}
+use Rattle.model.specs.Traversal.{Letter, down, up, first, second}
+use Rattle.model.specs.LabelledTree.{star}
+use Rattle.model.proofs.Below.{below-head}
+use Rattle.words.specs.Word.{nested, startsUp, valid, startsSecond, head, tail, endsOne, ends, wordLabels, wordBits, found, after, Machine, goes, turn, start, decodeWord, closed, risen, leafed, backed, entered}
+use Rattle.words.proofs.Validity.{valid-nested}
+use Rattle.machine.specs.Reading.{Reads, run}
+use Rattle.machine.proofs.Bounds.{head-below, ups-below, seconds-below}
+use Rattle.machine.proofs.Nesting.{nest-end, nest-up, nest-second, no-second, bits-on}
+use Rattle.machine.proofs.Lengths.{head-tail, no-entries, ups-count, seconds-count}
+use Rattle.machine.proofs.Turns.{turn-close, turn-up, turn-star, turn-back, turn-tree, turn-done}
+use Rattle.machine.proofs.Within.{Within, starts-within, within-close, within-up, within-star, within-back, within-tree}
+use Rattle.machine.proofs.Runs.{run-goes, run-done, decodeWord-run}
+
+pub record Onward (m : ℕ) (s : Machine) (ls w : List Letter) : Type 0 where
+  pub next : Machine
+  pub turns : turn s ≡ goes ls next
+  pub within : Within m next
+  pub reads : Reads next w
+
+-- ---- small facts
+
+not-one : (x : ℕ) → x ≡ 0 → x ≢ 1
+not-one x e q = omega arith
+
+no-star : (x : ℕ) → x < 2 → x ≢ star
+no-star x h e = omega arith
+
+head-low : (n : ℕ) (xs : List ℕ) → allBelow n xs ≡ true → head xs ≤ n
+head-low n [] e = zero-le
+head-low n (x ∷ xs) e = let h = below-head n x xs e in omega arith
+
+-- ---- each letter
+
+module _ (m : ℕ) (s : Machine) (w : List Letter) (i : Within m s) where
+  pub on-up : Reads s (up ∷ w) → Onward m s (up ∷ []) w
+  unfolding ends endsOne startsSecond wordBits
+  on-up r =
+      let z = nest-up (s .n) (s .here) (s .below) (s .opens) w (r .nests) in
+      record {
+        next = risen s (z .0) (z .1) (wordBits false w);
+        turns = turn-up s (z .0) (z .1) (wordBits false w) (not-one (s .label) (r .label-is)) (r .bits-are) (z .2);
+        within = within-up m s i (z .0) (z .1) (wordBits false w) (z .2);
+        reads = record {
+          nests = z .3;
+          ups-are = ap tail (r .ups-are);
+          seconds-are = r .seconds-are;
+          label-is = ap head (r .ups-are);
+          bits-are = refl;
+          labels-are = r .labels-are;
+        };
+      }
+
+  pub on-second : Reads s (second ∷ w) → Onward m s (second ∷ []) w
+  unfolding ends endsOne startsSecond wordBits
+  on-second r =
+      let z = nest-second (s .n) (s .here) (s .below) (s .opens) w (r .nests) in
+      record {
+        next = closed s (z .1);
+        turns = turn-close s (z .0) (z .1) (r .label-is) (z .2) (z .3);
+        within = within-close m s i (z .0) (z .1) (z .2);
+        reads = record {
+          nests = z .4;
+          ups-are = r .ups-are;
+          seconds-are = ap tail (r .seconds-are);
+          label-is = ap head (r .seconds-are);
+          bits-are = r .bits-are;
+          labels-are = r .labels-are;
+        };
+      }
+
+  pub on-star : Reads s (down ∷ up ∷ w) → Onward m s (down ∷ up ∷ []) w
+  unfolding nested ends endsOne startsUp startsSecond wordBits
+  on-star r =
+      record {
+        next = leafed s (startsSecond w) (wordBits false w) (ends w .labels);
+        turns = turn-star s 1 star (startsSecond w) (wordBits false w) (ends w .labels) (not-one (s .label) (r .label-is)) (r .bits-are)
+            (λ e. omega arith) (r .labels-are) refl;
+        within = within-star m s i star (wordBits false w) (ends w .labels) (r .labels-are) (startsSecond w);
+        reads = record {
+          nests = r .nests;
+          ups-are = r .ups-are;
+          seconds-are = r .seconds-are;
+          label-is = refl;
+          bits-are = refl;
+          labels-are = refl;
+        };
+      }
+
+  pub on-back : Reads s (first ∷ w) → Onward m s (first ∷ []) w
+  unfolding nested ends endsOne startsSecond wordBits
+  on-back r =
+      let e : nested (s .n) (s .here) (s .below) (s .here ∷ s .opens) w ≡ true = r .nests in
+      let l = head (ends w .seconds) in
+      record {
+        next = backed s l (wordBits false w) (ends w .labels);
+        turns = turn-back s 1 l 0 (wordBits false w) (ends w .labels) (not-one (s .label) (r .label-is)) (r .bits-are)
+            (λ e. omega arith) (r .labels-are) (no-star l (head-below 2 (ends w .seconds) (omega arith) (seconds-below w))) refl;
+        within = within-back m s i l (wordBits false w) (ends w .labels) (r .labels-are);
+        reads = record {
+          nests = e;
+          ups-are = r .ups-are;
+          seconds-are = ap (λ (xs : List ℕ). l ∷ xs) (r .seconds-are)
+              ∙ head-tail (ends w .seconds) (length (s .opens)) (seconds-count (s .n) (s .here) (s .below) (s .here ∷ s .opens) w e);
+          label-is = sym (no-second (s .n) (s .here) (s .below) (s .here ∷ s .opens) w (le-refl (s .here)) e);
+          bits-are = refl;
+          labels-are = refl;
+        };
+      }
+
+  pub on-tree : startsUp w ≡ false → Reads s (down ∷ w) → Onward m s (down ∷ []) w
+  unfolding nested ends endsOne startsSecond wordBits
+  on-tree u r =
+      let e : nested (suc (s .n)) (s .n) (s .here ∷ s .below) (s .opens) w ≡ true = r .nests in
+      let z = no-second (suc (s .n)) (s .n) (s .here ∷ s .below) (s .opens) w (head-low (s .n) (s .opens) (i .opens-in)) e in
+      let g = bits-on (suc (s .n)) (s .n) (s .here) (s .below) (s .opens) w e u z in
+      let l = head (ends w .ups) in
+      let q : s .labels ≡ l ∷ ends w .labels = r .labels-are ∙ ap (λ (b : Bool). cond b star l ∷ ends w .labels) u in
+      record {
+        next = entered s l (1 ∷ g .0) (ends w .labels);
+        turns = turn-tree s 1 l 1 (g .0) (ends w .labels) (not-one (s .label) (r .label-is))
+            (r .bits-are ∙ ap (λ (xs : List ℕ). 1 ∷ xs) (g .1)) (λ e. omega arith)
+            q (no-star l (head-below 2 (ends w .ups) (omega arith) (ups-below w))) (λ e. omega arith);
+        within = within-tree m s i l (1 ∷ g .0) (ends w .labels) q;
+        reads = record {
+          nests = e;
+          ups-are = ap (λ (xs : List ℕ). l ∷ xs) (r .ups-are)
+              ∙ head-tail (ends w .ups) (length (s .below)) (ups-count (suc (s .n)) (s .n) (s .here ∷ s .below) (s .opens) w e);
+          seconds-are = r .seconds-are;
+          label-is = sym z;
+          bits-are = sym (g .2);
+          labels-are = refl;
+        };
+      }
+
+-- ---- the whole word
+
+reads-on : (m : ℕ) (s : Machine) (ls w : List Letter) (o : Onward m s ls w) → run (o .next) ≡ found w → run s ≡ after ls (found w)
+reads-on m s ls w o e = run-goes s (o .next) ls (o .turns) ∙ ap (after ls) e
+
+pub encoded : (m : ℕ) (s : Machine) (w : List Letter) → Within m s → Reads s w → run s ≡ found w
+unfolding nested startsUp ends startsSecond wordBits
+encoded m s [] i r =
+    let z = nest-end (s .n) (s .here) (s .below) (s .opens) (r .nests) in
+    run-done s (turn-done s (not-one (s .label) (r .label-is)) (r .bits-are) (z .0) (z .1) (r .labels-are))
+encoded m s (down ∷ []) i r = absurd (false≢true (r .nests))
+encoded m s (down ∷ down ∷ w) i r =
+    let o = on-tree m s (down ∷ w) i refl r in reads-on m s (down ∷ []) (down ∷ w) o (encoded m (o .next) (down ∷ w) (o .within) (o .reads))
+encoded m s (down ∷ up ∷ w) i r = let o = on-star m s w i r in reads-on m s (down ∷ up ∷ []) w o (encoded m (o .next) w (o .within) (o .reads))
+encoded m s (down ∷ first ∷ w) i r =
+    let o = on-tree m s (first ∷ w) i refl r in reads-on m s (down ∷ []) (first ∷ w) o (encoded m (o .next) (first ∷ w) (o .within) (o .reads))
+encoded m s (down ∷ second ∷ w) i r =
+    let o = on-tree m s (second ∷ w) i refl r in reads-on m s (down ∷ []) (second ∷ w) o (encoded m (o .next) (second ∷ w) (o .within) (o .reads))
+encoded m s (up ∷ w) i r = let o = on-up m s w i r in reads-on m s (up ∷ []) w o (encoded m (o .next) w (o .within) (o .reads))
+encoded m s (first ∷ w) i r = let o = on-back m s w i r in reads-on m s (first ∷ []) w o (encoded m (o .next) w (o .within) (o .reads))
+encoded m s (second ∷ w) i r = let o = on-second m s w i r in reads-on m s (second ∷ []) w o (encoded m (o .next) w (o .within) (o .reads))
+
+pub starts-reading : (w : List Letter) → nested 1 0 [] [] w ≡ true → Reads (start (wordBits false w) (wordLabels w)) w
+unfolding start wordLabels
+starts-reading w e = record {
+  nests = e;
+  ups-are = sym (no-entries (ends w .ups) (ups-count 1 0 [] [] w e));
+  seconds-are = sym (no-entries (ends w .seconds) (seconds-count 1 0 [] [] w e));
+  label-is = sym (no-second 1 0 [] [] w zero-le e);
+  bits-are = refl;
+  labels-are = refl;
+}
+
+pub decode-encode : (k : ℕ) (w : List Letter) → valid k w ≡ true → decodeWord (wordBits false w) (wordLabels w) ≡ found w
+decode-encode k w v =
+    let s = start (wordBits false w) (wordLabels w) in
+    let m = length (wordLabels w) in
+    decodeWord-run (wordBits false w) (wordLabels w)
+    ∙ encoded m s w (starts-within m (wordBits false w) (wordLabels w) (le-refl m)) (starts-reading w (valid-nested k w v))

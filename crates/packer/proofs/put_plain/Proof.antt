@@ -1,0 +1,30 @@
+use native.Mathlib.Omega.{arith}
+use lib.Dec.{lit≤}
+use Rattle.packer.proofs.Parts.{all-one-run, plain-placed}
+use borrow.Author.Needs.{needs}
+use Rattle.packer.proofs.put_plain.Statement.{statement}
+use Rattle.packer.proofs.put_plain.Tie as tie
+
+pack-requires : tie.Need-pack-requires
+pack-requires c κs =
+    let pre = c .before .before .before .before .pre in
+    let g = c .before .groups .ensures in
+    (omega (arith, pre), omega (arith, pre), lit≤ tt, lit≤ tt, all-one-run _ _ (pre .3) (pre .4), omega (arith, pre), omega (arith, pre), lit≤ tt)
+
+returns : tie.Need-returns
+returns c =
+    plain-placed _ _ _ _ _ (c .before .before .before .before .groups .ensures) (c .before .before .pack .ensures)
+
+pub put-plain-spec : {M : Type 1} → statement M
+put-plain-spec =
+    tie.close
+    (tie.spec
+    (λ c. search needs)
+    (λ c. search needs)
+    (λ c κs. search needs)
+    (λ c. search needs)
+    (λ c. search needs)
+    (λ c. search needs)
+    pack-requires
+    (λ c. search needs)
+    returns)

@@ -1,0 +1,129 @@
+// From tree bits and labels to the bytes of a record. In the work area, with n darts: tree bits at 8n, labels at 9n. It knows digits and places, no letters.
+ghost use mathlib.Core.Path.{_≡_};
+ghost use mathlib.Core.Bool.{true};
+ghost use mathlib.Core.List.{_++_};
+ghost use Prim.Native.Nat.{_+_, _-_, _*_, _^_, _≤_, _<_};
+ghost use lib.ListN.{length, getD};
+ghost use Rattle.model.specs.Numbers.{allBelow};
+ghost use Rattle.model.specs.Map.{isKind};
+ghost use Rattle.model.specs.Record.{digits, pack, le16, payload, recordLength, labelBase, bytesFor};
+ghost use Rattle.work.specs.Area.{region, placed};
+ghost use Rattle.work.specs.Letters.{workBits, workLabels};
+ghost use Rattle.packer.specs.Laying.{LaidOut};
+
+// Digit i of those from a to e, 0 past them.
+fn digit(w: &[u16], a: usize, e: usize, i: usize) -> u16
+    requires { ⌜ (e ≤ length (now w)) × (a + i ≤ 2 ^ 20) ⌝ }
+    ensures { λ r. ⌜ r ≡ getD (region a (e - a) (now (w .entry))) i 0 ⌝ }
+{
+    if a + i < e {
+        return w[a + i];
+    }
+    0
+}
+
+// The number whose digits in this base are the entries from a on, highest first, filled up with 0 from e on.
+fn digits(w: &[u16], a: usize, e: usize, base: u16, width: usize) -> u16
+    requires { ⌜ (e ≤ length (now w)) × (a + width ≤ 2 ^ 20) × (1 ≤ base) × (base ^ width ≤ 256)
+        × (allBelow base (region a (e - a) (now w)) ≡ true) ⌝ }
+    ensures { λ r. ⌜ (r ≡ digits base width (region a (e - a) (now (w .entry)))) × (r < 256) ⌝ }
+{
+    let mut x: u16 = 0;
+    let mut i = 0;
+    while i < width {
+        x = x * base + digit(w, a, e, i);
+        i += 1;
+    }
+    x
+}
+
+// The digits from a to e, in groups of this width, as bytes from place at on.
+fn pack(
+    w: &[u16],
+    a: usize,
+    e: usize,
+    base: u16,
+    width: usize,
+    out: &mut [u8],
+    at: usize,
+    count: usize,
+)
+    requires { ⌜ (e ≤ length (now w)) × (a + count * width ≤ 2 ^ 20) × (1 ≤ base) × (base ^ width ≤ 256)
+        × (allBelow base (region a (e - a) (now w)) ≡ true) × (at + count ≤ length (now out)) × (count ≤ 2 ^ 20) × (at ≤ 2 ^ 20) ⌝ }
+    ensures { λ _. ⌜ now (out .exit) ≡ placed at (pack base width count (region a (e - a) (now (w .entry)))) (now (out .entry)) ⌝ }
+{
+    let mut i = 0;
+    while i < count {
+        let x = digits(w, a + i * width, e, base, width);
+        out[at + i] = x as u8;
+        i += 1;
+    }
+}
+
+// A number in two bytes, the low one first.
+fn put16(out: &mut [u8], at: usize, x: u16)
+    requires { ⌜ (at + 2 ≤ length (now out)) × (at ≤ 2 ^ 20) ⌝ }
+    ensures { λ _. ⌜ now (out .exit) ≡ placed at (le16 x) (now (out .entry)) ⌝ }
+{
+    out[at] = (x % 256) as u8;
+    out[at + 1] = (x / 256 % 256) as u8;
+}
+
+// How many groups of this width hold n digits.
+fn groups(n: usize, width: usize) -> usize
+    requires { ⌜ (n ≤ 2 ^ 20) × (1 ≤ width) × (width ≤ 2 ^ 20) ⌝ }
+    ensures { λ r. ⌜ r ≡ bytesFor n width ⌝ }
+{
+    (n + (width - 1)) / width
+}
+
+// What stands before the payload: the record's length, its kind and m.
+fn put_head(out: &mut [u8], total: u16, kind: u16, m: u16)
+    requires { ⌜ 6 ≤ length (now out) ⌝ }
+    ensures { λ _. ⌜ now (out .exit) ≡ placed 0 (le16 total ++ (le16 kind ++ le16 m)) (now (out .entry)) ⌝ }
+{
+    put16(out, 0, total);
+    put16(out, 2, kind);
+    put16(out, 4, m);
+}
+
+// The payload of kind 1, at place 6: tree bits and labels are one run of bits.
+fn put_plain(w: &[u16], m: usize, out: &mut [u8])
+    requires { ⌜ (m ≤ 4096) × (32 * m ≤ length (now w)) × (6 + bytesFor (3 * m) 8 ≤ length (now out))
+        × (allBelow 2 (workBits (2 * m) (now w)) ≡ true) × (allBelow 2 (workLabels (2 * m) (now w)) ≡ true) ⌝ }
+    ensures { λ _. ⌜ now (out .exit) ≡ placed 6 (payload 1 m (workBits (2 * m) (now (w .entry))) (workLabels (2 * m) (now (w .entry)))) (now (out .entry)) ⌝ }
+{
+    let n = 2 * m;
+    let count = groups(3 * m, 8);
+    pack(w, 8 * n, 9 * n + m, 2, 8, out, 6, count);
+}
+
+// The payload of kind 2, at place 6: tree bits, then labels in groups of five.
+fn put_starred(w: &[u16], m: usize, out: &mut [u8])
+    requires { ⌜ (m ≤ 4096) × (32 * m ≤ length (now w)) × (6 + bytesFor (2 * m) 8 + bytesFor m 5 ≤ length (now out))
+        × (allBelow 2 (workBits (2 * m) (now w)) ≡ true) × (allBelow 3 (workLabels (2 * m) (now w)) ≡ true) ⌝ }
+    ensures { λ _. ⌜ now (out .exit) ≡ placed 6 (payload 2 m (workBits (2 * m) (now (w .entry))) (workLabels (2 * m) (now (w .entry)))) (now (out .entry)) ⌝ }
+{
+    let n = 2 * m;
+    let bytes = groups(n, 8);
+    let count = groups(m, 5);
+    pack(w, 8 * n, 9 * n, 2, 8, out, 6, bytes);
+    pack(w, 9 * n, 9 * n + m, 3, 5, out, 6 + bytes, count);
+}
+
+// The whole record, from tree bits and labels.
+pub fn lay_out(w: &[u16], kind: u16, m: usize, out: &mut [u8]) -> u16
+    requires { ⌜ (isKind kind ≡ true) × (1 ≤ m) × (m ≤ 4096) × (32 * m ≤ length (now w)) × (recordLength kind m ≤ length (now out))
+        × (allBelow 2 (workBits (2 * m) (now w)) ≡ true) × (allBelow (labelBase kind) (workLabels (2 * m) (now w)) ≡ true) ⌝ }
+    ensures { λ r. ⌜ LaidOut kind m (now (w .entry)) (now (out .entry)) r (now (out .exit)) ⌝ }
+{
+    let edges = m as u16;
+    let length = heads::record_length(kind, edges) as u16;
+    put_head(out, length, kind, edges);
+    if kind == 1 {
+        put_plain(w, m, out);
+        return length;
+    }
+    put_starred(w, m, out);
+    length
+}

@@ -1,0 +1,71 @@
+-- Laws of the word in the work area.
+--
+--   letter-code        the letter with a letter's code is that letter
+--   map-code           the same for a word
+--   letters-code       where the codes of v stand, the word is v
+--   is-down, is-up, is-first, is-second   which letter a code stands for
+--   length-letters     as many letters as darts
+--   letters-from       the word from position i on begins with the letter at i
+--   letters-set-behind   a store from 4n on leaves the word
+use mathlib.Core.Path.{_≡_, refl, ap, _∙_}
+use mathlib.Core.List.{List, [], _∷_, map}
+use mathlib.Core.Logic.{_≢_}
+use Prim.Native.Nat.{ℕ, suc, _+_, _*_, _≤_, _<_}
+use native.Mathlib.Omega.{arith}
+use lib.ListN.{length, getD, set, drop, List·getD-map, length-map}
+use lib.Seq.{drop-cons}
+use borrow.Author.Tests.{ne-eqb}
+use Rattle.model.specs.Traversal.{Letter, down, up, first, second, code}
+use Rattle.work.specs.Area.{region}
+use Rattle.work.proofs.Regions.{length-region, getD-region, region-set-other}
+use Rattle.work.specs.Letters.{toLetter, lettersIn}
+
+-- ---- one code
+
+pub letter-code : (l : Letter) → toLetter (code l) ≡ l
+unfolding toLetter
+letter-code down = refl
+letter-code up = refl
+letter-code first = refl
+letter-code second = refl
+
+pub is-down : (x : ℕ) → x ≡ 1 → toLetter x ≡ down
+is-down x e = rw e (letter-code down)
+
+pub is-up : (x : ℕ) → x ≡ 2 → toLetter x ≡ up
+is-up x e = rw e (letter-code up)
+
+pub is-first : (x : ℕ) → x ≡ 3 → toLetter x ≡ first
+is-first x e = rw e (letter-code first)
+
+pub is-second : (x : ℕ) → x ≢ 1 → x ≢ 2 → x ≢ 3 → toLetter x ≡ second
+unfolding toLetter
+is-second x a b c = simp (ne-eqb _ _ a, ne-eqb _ _ b, ne-eqb _ _ c)
+
+-- ---- the word
+
+pub map-code : (v : List Letter) → map toLetter (map code v) ≡ v
+map-code [] = refl
+map-code (l ∷ v) = rw (letter-code l, map-code v)
+
+module _ (n : ℕ) (w : List ℕ) where
+  pub letters-code : (v : List Letter) → region (3 * n) n w ≡ map code v → lettersIn n w ≡ v
+  unfolding lettersIn
+  letters-code v e = ap (map toLetter) e ∙ map-code v
+
+  pub length-letters : 4 * n ≤ length w → length (lettersIn n w) ≡ n
+  unfolding lettersIn
+  length-letters h = length-map (region (3 * n) n w) toLetter ∙ length-region (3 * n) n w (omega arith)
+
+  letter-at : (i : ℕ) → i < n → getD (lettersIn n w) i (toLetter 0) ≡ toLetter (getD w (3 * n + i) 0)
+  unfolding lettersIn
+  letter-at i h = List·getD-map toLetter (region (3 * n) n w) i 0 ∙ ap toLetter (getD-region (3 * n) n w i h)
+
+  pub letters-from : (i : ℕ) → 4 * n ≤ length w → i < n → drop i (lettersIn n w) ≡ toLetter (getD w (3 * n + i) 0) ∷ drop (suc i) (lettersIn n w)
+  letters-from i h l =
+      let e = length-letters h in
+      drop-cons (lettersIn n w) i (toLetter 0) (omega arith) ∙ ap (λ (x : Letter). x ∷ drop (suc i) (lettersIn n w)) (letter-at i l)
+
+  pub letters-set-behind : (i x : ℕ) → 4 * n ≤ i → lettersIn n (set w i x) ≡ lettersIn n w
+  unfolding lettersIn
+  letters-set-behind i x h = ap (map toLetter) (region-set-other (3 * n) n w i x (λ g. omega arith))

@@ -1,0 +1,213 @@
+-- Laws of parts of a list. "Fits" is a + length xs ≤ length w.
+--
+--   length-region, getD-region          a region's length and entries
+--   region-region, region-split         a region of a region; a region in two adjacent ones
+--   region-set, region-set-other        a store inside the region, and outside it
+--   region-front                        a store right before the entries from place t to c of a part that begins at a
+--   length-placed                       placing what fits keeps the length
+--   getD-placed                         an entry of what was placed
+--   region-placed, region-placed-other  the region where it was placed, and one beside it
+--   placed-placed, placed-region        placing twice; placing what is there
+--   set-placed, placed-snoc             a store into what was placed; a store just behind it
+--   placed-none                         placing nothing
+--   placed-cons                         the first entry placed is a store
+--   placed-next                         what is placed just behind other entries is placed with them
+--   region-grow                         entries placed just behind a region make it longer
+--   sets-placed                         a run of stores places the entries
+--   front-placed                        placing at 0 is `front`
+use mathlib.Core.Path.{_≡_, sym, ap, _∙_, subst}
+use mathlib.Core.List.{List, [], _∷_, _++_, append-assoc}
+use Prim.Native.Nat.{ℕ, zero, suc, _+_, _-_, _≤_, _<_}
+use native.Mathlib.Nat.{suc-add, add-suc, zero-add, add-zero, lt-of-not-le}
+use native.Mathlib.Decide.{decLe}
+use native.Mathlib.Omega.{arith}
+use lib.ListN.{length, getD, set, take, drop, length-append, length-drop, length-set, List·getD-append, take-append-drop}
+use lib.Seq.{length-take-le, take-at, drop-at, take-take, take-add, drop-drop, drop-append-seam, getD-take, getD-drop}
+use lib.Seq.{set-append-left, set-append-seam, drop-cons, append-snoc, take-set-lt, take-set-le, drop-set-add, drop-set-lt, take-nil}
+use lib.Seq.{sets, sets-eq, take-suc-set, getD-set-same, lt-length-set}
+use Rattle.model.specs.Calls.{front}
+use Rattle.model.proofs.Stores.{set-append-right}
+use Rattle.work.specs.Area.{region, placed}
+
+-- one of two cases
+le-or : {C : Type 0} (a b : ℕ) → (a ≤ b → C) → (b < a → C) → C
+le-or a b l g = elim (decLe a b) [ yes h ↦ l h | no h ↦ g (lt-of-not-le h) ]
+
+-- ---- regions
+
+pub length-region : (a n : ℕ) (w : List ℕ) → a + n ≤ length w → length (region a n w) ≡ n
+unfolding region
+length-region a n w h = length-take-le n (drop a w) (let e = length-drop a w in omega arith)
+
+pub getD-region : (a n : ℕ) (w : List ℕ) (i : ℕ) → i < n → getD (region a n w) i 0 ≡ getD w (a + i) 0
+unfolding region
+getD-region a n w i h = getD-take n (drop a w) i 0 h ∙ getD-drop a w i 0
+
+take-drop : (b n : ℕ) (w : List ℕ) → take n (drop b w) ≡ drop b (take (b + n) w)
+take-drop zero n w = ap (λ (k : ℕ). take k w) (sym (zero-add n))
+take-drop (suc b) n [] = take-nil n ∙ sym (ap (drop (suc b)) (take-nil (suc b + n)))
+take-drop (suc b) n (x ∷ xs) = take-drop b n xs ∙ ap (λ (k : ℕ). drop (suc b) (take k (x ∷ xs))) (sym (suc-add b n))
+
+pub region-region : (a n b k : ℕ) (w : List ℕ) → b + k ≤ n → region b k (region a n w) ≡ region (a + b) k w
+unfolding region
+region-region a n b k w h =
+    take-drop b k (take n (drop a w)) ∙ ap (drop b) (take-take (b + k) n (drop a w) h) ∙ sym (take-drop b k (drop a w)) ∙ ap (take k) (drop-drop b a w)
+
+pub region-split : (a n k : ℕ) (w : List ℕ) → region a (n + k) w ≡ region a n w ++ region (a + n) k w
+unfolding region
+region-split a n k w = take-add n k (drop a w) ∙ ap (λ (r : List ℕ). take n (drop a w) ++ take k r) (drop-drop n a w)
+
+pub region-set : (a n : ℕ) (w : List ℕ) (i v : ℕ) → i < n → region a n (set w (a + i) v) ≡ set (region a n w) i v
+unfolding region
+region-set a n w i v h = ap (take n) (drop-set-add a w i v) ∙ take-set-lt n (drop a w) i v h
+
+-- place i is not in the region: if it is not before it, it is behind it
+pub region-set-other : (a n : ℕ) (w : List ℕ) (i v : ℕ) → (a ≤ i → a + n ≤ i) → region a n (set w i v) ≡ region a n w
+unfolding region
+region-set-other a n w i v out = le-or a i behind (λ h. ap (take n) (drop-set-lt a w i v h))
+  where
+    behind : a ≤ i → take n (drop a (set w i v)) ≡ take n (drop a w)
+    behind h =
+        take-drop a n (set w i v) ∙ ap (drop a) (take-set-le (a + n) w i v (out h)) ∙ sym (take-drop a n w)
+
+region-first : (a k x : ℕ) (w : List ℕ) → a < length w → region a (suc k) (set w a x) ≡ x ∷ region (suc a) k w
+unfolding region
+region-first a k x w h =
+    ap (take (suc k)) (drop-cons (set w a x) a 0 (lt-length-set w a x h))
+    ∙ ap (λ (y : ℕ). y ∷ take k (drop (suc a) (set w a x))) (getD-set-same w a x 0 h)
+    ∙ ap (λ (r : List ℕ). x ∷ take k r) (drop-set-lt (suc a) w a x (omega arith))
+
+pub region-front : (a c t x : ℕ) (w : List ℕ) → t < c → a + t < length w
+    → region (a + t) (c - t) (set w (a + t) x) ≡ x ∷ region (a + suc t) (c - suc t) w
+region-front a c t x w l h =
+    let z : c - t ≡ suc (c - suc t) = omega arith in
+    ap (λ (k : ℕ). region (a + t) k (set w (a + t) x)) z ∙ region-first (a + t) (c - suc t) x w h
+    ∙ ap (λ (p : ℕ). x ∷ region p (c - suc t) w) (sym (add-suc a t))
+
+-- ---- what is placed
+
+module _ (a : ℕ) (xs w : List ℕ) (fits : a + length xs ≤ length w) where
+  before-it : length (take a w) ≡ a
+  before-it = length-take-le a w (omega arith)
+
+  take-placed : take a (placed a xs w) ≡ take a w
+  unfolding placed
+  take-placed = take-at (take a w) (xs ++ drop (a + length xs) w) a before-it
+
+  drop-placed : drop a (placed a xs w) ≡ xs ++ drop (a + length xs) w
+  unfolding placed
+  drop-placed = drop-at (take a w) (xs ++ drop (a + length xs) w) a before-it
+
+  drop-placed-end : drop (a + length xs) (placed a xs w) ≡ drop (a + length xs) w
+  drop-placed-end = sym (drop-drop (length xs) a (placed a xs w)) ∙ ap (drop (length xs)) drop-placed ∙ drop-append-seam xs (drop (a + length xs) w)
+
+  pub length-placed : length (placed a xs w) ≡ length w
+  unfolding placed
+  length-placed =
+      let e = length-append (take a w) (xs ++ drop (a + length xs) w) in
+      let f = length-append xs (drop (a + length xs) w) in
+      let g = length-drop (a + length xs) w in
+      let h = before-it in
+      omega arith
+
+  pub getD-placed : (i : ℕ) → i < length xs → getD (placed a xs w) (a + i) 0 ≡ getD xs i 0
+  getD-placed i h =
+      sym (getD-drop a (placed a xs w) i 0) ∙ ap (λ (r : List ℕ). getD r i 0) drop-placed ∙ List·getD-append xs (drop (a + length xs) w) 0 i h
+
+  pub region-placed : (n : ℕ) → n ≡ length xs → region a n (placed a xs w) ≡ xs
+  unfolding region
+  region-placed n e = ap (take n) drop-placed ∙ take-at xs (drop (a + length xs) w) n (sym e)
+
+  -- the two parts are disjoint: if the region is not before the placed entries, it is behind them
+  pub region-placed-other : (b n : ℕ) → (a < b + n → a + length xs ≤ b) → region b n (placed a xs w) ≡ region b n w
+  unfolding region
+  region-placed-other b n out = le-or (b + n) a before behind
+    where
+      before : b + n ≤ a → take n (drop b (placed a xs w)) ≡ take n (drop b w)
+      before h =
+          take-drop b n (placed a xs w)
+          ∙ ap (drop b) (sym (take-take (b + n) a (placed a xs w) h) ∙ ap (take (b + n)) take-placed ∙ take-take (b + n) a w h)
+          ∙ sym (take-drop b n w)
+
+      behind : a < b + n → take n (drop b (placed a xs w)) ≡ take n (drop b w)
+      behind h =
+          let o = out h in
+          let k = b - (a + length xs) in
+          let e : a + length xs + k ≡ b = omega arith in
+          subst (λ (j : ℕ). take n (drop j (placed a xs w)) ≡ take n (drop j w)) e
+          (ap (take n) (sym (drop-drop k (a + length xs) (placed a xs w)) ∙ ap (drop k) drop-placed-end ∙ drop-drop k (a + length xs) w))
+
+  pub placed-placed : (ys : List ℕ) → length ys ≡ length xs → placed a ys (placed a xs w) ≡ placed a ys w
+  unfolding placed
+  placed-placed ys e =
+      ap (λ (r : List ℕ). r ++ (ys ++ drop (a + length ys) (placed a xs w))) take-placed
+      ∙ ap (λ (r : List ℕ). take a w ++ (ys ++ r))
+      (subst (λ (k : ℕ). drop (a + k) (placed a xs w) ≡ drop (a + k) w) (sym e) drop-placed-end)
+
+  -- a store at or behind place a
+  set-behind : (ys : List ℕ) (i v : ℕ) → set (take a w ++ ys) (a + i) v ≡ take a w ++ set ys i v
+  set-behind ys i v = subst (λ (k : ℕ). set (take a w ++ ys) (k + i) v ≡ take a w ++ set ys i v) before-it (set-append-right (take a w) ys i v)
+
+  pub set-placed : (i v : ℕ) → i < length xs → set (placed a xs w) (a + i) v ≡ placed a (set xs i v) w
+  unfolding placed
+  set-placed i v h =
+      set-behind (xs ++ drop (a + length xs) w) i v
+      ∙ ap (λ (r : List ℕ). take a w ++ r) (set-append-left xs (drop (a + length xs) w) i v h)
+      ∙ ap (λ (k : ℕ). take a w ++ (set xs i v ++ drop (a + k) w)) (sym (length-set xs i v))
+
+  pub placed-snoc : (v : ℕ) → a + length xs < length w → set (placed a xs w) (a + length xs) v ≡ placed a (xs ++ (v ∷ [])) w
+  unfolding placed
+  placed-snoc v h =
+      let e = length-append xs (v ∷ []) in
+      let f : suc (a + length xs) ≡ a + length (xs ++ (v ∷ [])) = omega arith in
+      set-behind (xs ++ drop (a + length xs) w) (length xs) v
+      ∙ ap (λ (r : List ℕ). take a w ++ set (xs ++ r) (length xs) v) (drop-cons w (a + length xs) 0 h)
+      ∙ ap (λ (r : List ℕ). take a w ++ r)
+      (set-append-seam xs (getD w (a + length xs) 0) (drop (suc (a + length xs)) w) v ∙ sym (append-snoc xs v (drop (suc (a + length xs)) w)))
+      ∙ ap (λ (k : ℕ). take a w ++ (xs ++ (v ∷ []) ++ drop k w)) f
+
+pub placed-region : (a n : ℕ) (w : List ℕ) → a + n ≤ length w → placed a (region a n w) w ≡ w
+unfolding placed region
+placed-region a n w h =
+    ap (λ (k : ℕ). take a w ++ (take n (drop a w) ++ drop (a + k) w)) (length-region a n w h)
+    ∙ ap (λ (r : List ℕ). take a w ++ (take n (drop a w) ++ r)) (sym (drop-drop n a w))
+    ∙ ap (λ (r : List ℕ). take a w ++ r) (take-append-drop n (drop a w))
+    ∙ take-append-drop a w
+
+pub placed-none : (a : ℕ) (w : List ℕ) → placed a [] w ≡ w
+unfolding placed
+placed-none a w = ap (λ (k : ℕ). take a w ++ drop k w) (add-zero a) ∙ take-append-drop a w
+
+-- ---- entries placed one after the other
+
+pub placed-cons : (a x : ℕ) (xs w : List ℕ) → a < length w → placed a (x ∷ xs) w ≡ placed (suc a) xs (set w a x)
+unfolding placed
+placed-cons a x xs w h =
+    let rest = xs ++ drop (suc a + length xs) w in
+    ap (λ (k : ℕ). take a w ++ (x ∷ (xs ++ drop k w))) (add-suc a (length xs) ∙ sym (suc-add a (length xs)))
+    ∙ sym (append-snoc (take a w) x rest)
+    ∙ ap (λ (r : List ℕ). r ++ rest) (sym (take-suc-set w a x h))
+    ∙ ap (λ (r : List ℕ). take (suc a) (set w a x) ++ (xs ++ r)) (sym (drop-set-lt (suc a + length xs) w a x (omega arith)))
+
+pub placed-next : (a : ℕ) (xs ys w : List ℕ) → a + length xs ≤ length w → placed (a + length xs) ys (placed a xs w) ≡ placed a (xs ++ ys) w
+placed-next a [] ys w h = ap (λ (r : List ℕ). placed (a + 0) ys r) (placed-none a w) ∙ ap (λ (k : ℕ). placed k ys w) (add-zero a)
+placed-next a (x ∷ xs) ys w h =
+    let e = length-set w a x in
+    ap (λ (r : List ℕ). placed (a + suc (length xs)) ys r) (placed-cons a x xs w (omega arith))
+    ∙ ap (λ (k : ℕ). placed k ys (placed (suc a) xs (set w a x))) (add-suc a (length xs) ∙ sym (suc-add a (length xs)))
+    ∙ placed-next (suc a) xs ys (set w a x) (omega arith)
+    ∙ sym (placed-cons a x (xs ++ ys) w (omega arith))
+
+pub region-grow : (a n k : ℕ) (ys w : List ℕ) → length ys ≡ k → a + n + k ≤ length w → region a (n + k) (placed (a + n) ys w) ≡ region a n w ++ ys
+region-grow a n k ys w e h =
+    region-split a n k (placed (a + n) ys w)
+    ∙ ap (λ (r : List ℕ). r ++ region (a + n) k (placed (a + n) ys w)) (region-placed-other (a + n) ys w (omega arith) a n (λ l. absurd (omega arith)))
+    ∙ ap (λ (r : List ℕ). region a n w ++ r) (region-placed (a + n) ys w (omega arith) k (sym e))
+
+pub sets-placed : (xs w : List ℕ) (a : ℕ) → a + length xs ≤ length w → sets w a xs ≡ placed a xs w
+unfolding placed
+sets-placed xs w a h = sets-eq xs w a h ∙ append-assoc (take a w) xs (drop (a + length xs) w)
+
+pub front-placed : (xs w : List ℕ) → placed 0 xs w ≡ front xs w
+unfolding placed front
+front-placed xs w = ap (λ (k : ℕ). xs ++ drop k w) (zero-add (length xs))
