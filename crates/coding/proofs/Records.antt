@@ -31,7 +31,7 @@ use Rattle.machine.proofs.Sizes.{bits-length, letters-length, labels-bound}
 use Rattle.machine.proofs.Bounds.{bits-below}
 use Rattle.machine.proofs.Decoding.{encode-decode, none-found, wordIn}
 use Rattle.building.proofs.Built.{built-word, built-fit, built-standard}
-use Rattle.coding.specs.Decode.{decodeRecord}
+use Rattle.coding.specs.Decode.{decodePayload, decodeRecord}
 use Rattle.coding.proofs.FitPlans.{fit-toured, of-fit}
 
 -- ---- from a fit plan to its record
@@ -61,7 +61,7 @@ module _ (k : ℕ) (p : Plan) (fits : fit k p ≡ true) where
   m = edges (p .rotation)
 
   pub record-decodes : decodeRecord (recordOf k p) ≡ found (word p)
-  unfolding decodeRecord recordOf
+  unfolding decodeRecord decodePayload readable bitsIn labelsIn recordOf
   record-decodes =
       let o = of-fit k p fits in
       rw (
@@ -81,7 +81,7 @@ has-decodes r p (f, e) = ap decodeRecord (sym e) ∙ record-decodes (kindOf r) p
 module _ (r : List ℕ) (v : List Letter) where
   -- the payload is clean where a word is found
   clean : decodeRecord r ≡ found v → (readable r ≡ true) × (decodeWord (bitsIn r) (labelsIn r) ≡ found v)
-  unfolding decodeRecord
+  unfolding decodeRecord decodePayload readable bitsIn labelsIn
   clean e = go (readable r) refl e
     where
       go : (b : Bool) → readable r ≡ b → cond b (decodeWord (bitsIn r) (labelsIn r)) none ≡ found v

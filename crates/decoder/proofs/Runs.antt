@@ -30,7 +30,7 @@ use Rattle.decoder.specs.declared.Cursor.{Cursor}
 use Rattle.decoder.specs.declared.State.{State}
 use Rattle.decoder.specs.declared.Outcome.{Outcome}
 use Rattle.decoder.specs.declared.Outcome.the-variants.{Goes, Done, Stuck}
-use Rattle.coding.specs.Decode.{decodeRecord}
+use Rattle.coding.specs.Decode.{decodePayload, decodeRecord}
 use Rattle.unpacker.specs.Unpacked.{Head}
 use Rattle.decoder.specs.Decoded.{Answered}
 use Rattle.decoder.specs.States.{labelsOf, machineOf, outcome, Fits, Moved, Turned}
@@ -180,11 +180,11 @@ pub answer-kept : (f : Found) (n : ℕ) (v w : List ℕ) (b : Bool) (w′ : List
 answer-kept f n v w b w′ e a = record { word-found = a .word-found; none-found = a .none-found; kept = a .kept ∙ e }
 
 read : (r : List ℕ) → readable r ≡ true → decodeRecord r ≡ decodeWord (bitsIn r) (labelsIn r)
-unfolding decodeRecord
+unfolding decodeRecord decodePayload readable bitsIn labelsIn
 read r e = rw e
 
 pub answer-unreadable : (r : List ℕ) (n : ℕ) (w : List ℕ) → readable r ≡ false → Answered (decodeRecord r) n w false w
-unfolding decodeRecord
+unfolding decodeRecord decodePayload readable bitsIn labelsIn
 answer-unreadable r n w e = record { word-found = λ f. absurd (false≢true f); none-found = λ f. rw e; kept = refl }
 
 pub answer-readable : (r : List ℕ) (k m : ℕ) (w : List ℕ) (b : Bool) (w′ : List ℕ) → Head r k m → readable r ≡ true

@@ -16,6 +16,7 @@ use lib.ListN.{length, getD, set, drop, List·getD-map, length-map}
 use lib.Seq.{drop-cons}
 use borrow.Author.Tests.{ne-eqb}
 use Rattle.model.specs.Traversal.{Letter, down, up, first, second, code}
+use Rattle.work.specs.Map.{LETTERS}
 use Rattle.work.specs.Area.{region}
 use Rattle.work.proofs.Regions.{length-region, getD-region, region-set-other}
 use Rattle.work.specs.Letters.{toLetter, lettersIn}
@@ -29,16 +30,16 @@ letter-code up = refl
 letter-code first = refl
 letter-code second = refl
 
-pub is-down : (x : ℕ) → x ≡ 1 → toLetter x ≡ down
+pub is-down : (x : ℕ) → x ≡ code down → toLetter x ≡ down
 is-down x e = rw e (letter-code down)
 
-pub is-up : (x : ℕ) → x ≡ 2 → toLetter x ≡ up
+pub is-up : (x : ℕ) → x ≡ code up → toLetter x ≡ up
 is-up x e = rw e (letter-code up)
 
-pub is-first : (x : ℕ) → x ≡ 3 → toLetter x ≡ first
+pub is-first : (x : ℕ) → x ≡ code first → toLetter x ≡ first
 is-first x e = rw e (letter-code first)
 
-pub is-second : (x : ℕ) → x ≢ 1 → x ≢ 2 → x ≢ 3 → toLetter x ≡ second
+pub is-second : (x : ℕ) → x ≢ code down → x ≢ code up → x ≢ code first → toLetter x ≡ second
 unfolding toLetter
 is-second x a b c = simp (ne-eqb _ _ a, ne-eqb _ _ b, ne-eqb _ _ c)
 
@@ -49,23 +50,23 @@ map-code [] = refl
 map-code (l ∷ v) = rw (letter-code l, map-code v)
 
 module _ (n : ℕ) (w : List ℕ) where
-  pub letters-code : (v : List Letter) → region (3 * n) n w ≡ map code v → lettersIn n w ≡ v
+  pub letters-code : (v : List Letter) → region (LETTERS * n) n w ≡ map code v → lettersIn n w ≡ v
   unfolding lettersIn
   letters-code v e = ap (map toLetter) e ∙ map-code v
 
   pub length-letters : 4 * n ≤ length w → length (lettersIn n w) ≡ n
   unfolding lettersIn
-  length-letters h = length-map (region (3 * n) n w) toLetter ∙ length-region (3 * n) n w (omega arith)
+  length-letters h = length-map (region (LETTERS * n) n w) toLetter ∙ length-region (LETTERS * n) n w (omega arith)
 
-  letter-at : (i : ℕ) → i < n → getD (lettersIn n w) i (toLetter 0) ≡ toLetter (getD w (3 * n + i) 0)
+  letter-at : (i : ℕ) → i < n → getD (lettersIn n w) i (toLetter 0) ≡ toLetter (getD w (LETTERS * n + i) 0)
   unfolding lettersIn
-  letter-at i h = List·getD-map toLetter (region (3 * n) n w) i 0 ∙ ap toLetter (getD-region (3 * n) n w i h)
+  letter-at i h = List·getD-map toLetter (region (LETTERS * n) n w) i 0 ∙ ap toLetter (getD-region (LETTERS * n) n w i h)
 
-  pub letters-from : (i : ℕ) → 4 * n ≤ length w → i < n → drop i (lettersIn n w) ≡ toLetter (getD w (3 * n + i) 0) ∷ drop (suc i) (lettersIn n w)
+  pub letters-from : (i : ℕ) → 4 * n ≤ length w → i < n → drop i (lettersIn n w) ≡ toLetter (getD w (LETTERS * n + i) 0) ∷ drop (suc i) (lettersIn n w)
   letters-from i h l =
       let e = length-letters h in
       drop-cons (lettersIn n w) i (toLetter 0) (omega arith) ∙ ap (λ (x : Letter). x ∷ drop (suc i) (lettersIn n w)) (letter-at i l)
 
   pub letters-set-behind : (i x : ℕ) → 4 * n ≤ i → lettersIn n (set w i x) ≡ lettersIn n w
   unfolding lettersIn
-  letters-set-behind i x h = ap (map toLetter) (region-set-other (3 * n) n w i x (λ g. omega arith))
+  letters-set-behind i x h = ap (map toLetter) (region-set-other (LETTERS * n) n w i x (λ g. omega arith))

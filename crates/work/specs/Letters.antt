@@ -1,5 +1,4 @@
--- The contour word in the work area, and what of a record is made from it: with n darts, the letters' codes stand by position at 3n, tree bits at 8n, labels
--- at 9n.
+-- The contour word in the work area, as codes of letters by position, and what of a record is made from it.
 --
 --   toLetter x           the letter with the code x
 --   lettersIn n w        the word in the work area
@@ -8,17 +7,18 @@ use Prim.Native.Nat.{ℕ, _*_, _/_}
 use mathlib.Core.Bool.{cond}
 use mathlib.Core.List.{List, map}
 use lib.Dec.{eqb}
-use Rattle.model.specs.Traversal.{Letter, down, up, first, second}
+use Rattle.model.specs.Traversal.{Letter, down, up, first, second, code}
+use Rattle.work.specs.Map.{LETTERS, BITS, LABELS}
 use Rattle.work.specs.Area.{region}
 
 unfoldable pub toLetter : ℕ → Letter
-toLetter x = cond (eqb x 1) down (cond (eqb x 2) up (cond (eqb x 3) first second))
+toLetter x = cond (eqb x (code down)) down (cond (eqb x (code up)) up (cond (eqb x (code first)) first second))
 
 unfoldable pub lettersIn : ℕ → List ℕ → List Letter
-lettersIn n w = map toLetter (region (3 * n) n w)
+lettersIn n w = map toLetter (region (LETTERS * n) n w)
 
 unfoldable pub workBits : ℕ → List ℕ → List ℕ
-workBits n w = region (8 * n) n w
+workBits n w = region (BITS * n) n w
 
 unfoldable pub workLabels : ℕ → List ℕ → List ℕ
-workLabels n w = region (9 * n) (n / 2) w
+workLabels n w = region (LABELS * n) (n / 2) w

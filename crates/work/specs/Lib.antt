@@ -1,2 +1,3 @@
+pub mod Map
 pub mod Area
 pub mod Letters

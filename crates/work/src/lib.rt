@@ -1,9 +1,55 @@
-// Parts of the lent work area: filled, cleared, copied out. It knows lists and places, no plans.
+// The lent work area: which part is whose, and parts filled, cleared, copied out. It knows lists and places, no plans.
 ghost use mathlib.Core.Path.{_≡_};
 ghost use Prim.Native.Nat.{_+_, _≤_};
 ghost use lib.ListN.{length, replicate};
 ghost use Rattle.model.specs.Calls.{zeros, front};
 ghost use Rattle.work.specs.Area.{region, placed};
+
+// ---- the map, in units of n, the number of darts; `specs/Map` has the same names
+
+// Writing: names of vertices from 0 on, letters by dart, vertices seen, letters by position, names of faces.
+pub const MET: usize = 1;
+
+pub const SEEN: usize = 2;
+
+pub const LETTERS: usize = 3;
+
+pub const FACES: usize = 4;
+
+// Writing: stacks of the labels of tree edges and of other edges; the tree bits; the labels, in reading too.
+pub const UPS: usize = 5;
+
+pub const SECONDS: usize = 6;
+
+pub const BITS: usize = 8;
+
+pub const LABELS: usize = 9;
+
+// Reading: the rotation from 0 on; stacks of the vertices that the present one hangs from, of open tree edges, of the vertices where other open edges
+// began, and of those edges.
+pub const BELOW: usize = 5;
+
+pub const TREES: usize = 6;
+
+pub const BEGUN: usize = 7;
+
+pub const OPENS: usize = 8;
+
+// ---- codes
+
+// The letters; 0 stands for a dart not met yet.
+pub const DOWN: u16 = 1;
+
+pub const UP: u16 = 2;
+
+pub const FIRST: u16 = 3;
+
+pub const SECOND: u16 = 4;
+
+// The label of the edge to a bare leaf.
+pub const STAR: u16 = 2;
+
+// ---- parts
 
 // The n entries from place a on become x.
 pub fn fill(w: &mut [u16], a: usize, n: usize, x: u16)

@@ -1,0 +1,44 @@
+-- The map of the work area, in units of the number of darts.
+--
+--   MET, SEEN, LETTERS, FACES    writing: letters by dart, vertices seen, letters by position, names of faces; names of vertices stand from 0 on
+--   UPS, SECONDS                 writing: stacks of the labels of tree edges and of other edges
+--   BITS, LABELS                 writing: the tree bits, and the labels, in reading too
+--   BELOW, TREES, BEGUN, OPENS   reading: stacks of the vertices that the present one hangs from, of open tree edges, of the vertices where other open
+--                                edges began, and of those edges; the rotation stands from 0 on
+use Prim.Native.Nat.{ℕ}
+
+abbrev pub MET : ℕ
+MET = 1
+
+abbrev pub SEEN : ℕ
+SEEN = 2
+
+abbrev pub LETTERS : ℕ
+LETTERS = 3
+
+abbrev pub FACES : ℕ
+FACES = 4
+
+abbrev pub UPS : ℕ
+UPS = 5
+
+abbrev pub SECONDS : ℕ
+SECONDS = 6
+
+abbrev pub BITS : ℕ
+BITS = 8
+
+abbrev pub LABELS : ℕ
+LABELS = 9
+
+abbrev pub BELOW : ℕ
+BELOW = 5
+
+abbrev pub TREES : ℕ
+TREES = 6
+
+abbrev pub BEGUN : ℕ
+BEGUN = 7
+
+abbrev pub OPENS : ℕ
+OPENS = 8
