@@ -3,15 +3,19 @@
 --   fit-toured            its traversal is known position by position
 --   fit-bracketed         its tree edges match like brackets along the traversal, and so do the others
 --   fit-descends          an edge outside the tree ends at a vertex that was entered before the one where it began
---   of-fit                its tree bits, labels and standard plan are those of its word, and the word is valid
+--   OfFit, of-fit         its tree bits, labels and standard plan are those of its word, and the word is valid
 --   fit-standard          its standard numbering is a renumbering
+--   same-word-renumbering   plans with one word have a renumbering
 use Prim.Native.Nat.{ℕ, _<_}
-use mathlib.Core.Path.{_≡_, sym, ap, _∙_}
-use mathlib.Core.Bool.{true}
+use mathlib.Core.Path.{_≡_, sym, ap, subst, _∙_}
+use mathlib.Core.Bool.{true, false}
+use mathlib.Core.List.{List}
 use Rattle.model.specs.Map.{Plan, darts, vertexOf, fit}
-use Rattle.model.specs.Traversal.{second, standardNumbers, standardPlan}
+use Rattle.model.specs.Traversal.{second, word, standardNumbers, standardPlan}
+use Rattle.model.specs.LabelledTree.{treeBits, labels}
 use Rattle.model.specs.Renumbering.{Renumbering}
 use Rattle.model.proofs.Fitness.{Fit, fit-parts, loopless-at}
+use Rattle.words.specs.Word.{valid, wordBits, wordLabels, planOf}
 use Rattle.words.specs.Toured.{Toured, Bracketed, letterOf, mateOf, dartAt}
 use Rattle.words.specs.Entered.{enteredAt}
 use Rattle.words.proofs.Positions.{mate-dart}
@@ -23,8 +27,15 @@ use Rattle.standard.proofs.Numbering.{numbers-permutation, numbers-opposite, nu
 use Rattle.standard.proofs.Entries.{standard-entry}
 use Rattle.standard.proofs.Linking.{standard-is-planOf}
 use Rattle.standard.proofs.Valid.{word-valid}
+use Rattle.renumbering.specs.Isomorphism.{inverseOf, composed}
+use Rattle.renumbering.proofs.Renumberings.{inverse, compose}
 use Rattle.renumbering.proofs.Standard.{standard-renumbering}
-use Rattle.lists.specs.Coding.{OfFit}
+
+pub record OfFit (k : ℕ) (p : Plan) : Type 0 where
+  pub bits : treeBits p ≡ wordBits false (word p)
+  pub marks : labels p ≡ wordLabels (word p)
+  pub standard : standardPlan p ≡ planOf (word p)
+  pub proper : valid k (word p) ≡ true
 
 module _ (k : ℕ) (p : Plan) (fits : fit k p ≡ true) where
   abbrev parts : Fit k p
@@ -53,3 +64,15 @@ module _ (k : ℕ) (p : Plan) (fits : fit k p ≡ true) where
   pub fit-standard : Renumbering p (standardPlan p) (standardNumbers p)
   fit-standard = standard-renumbering p (numbers-permutation p fit-toured (parts .count)) (numbers-root p fit-toured (parts .count))
       (numbers-opposite p fit-toured (parts .count)) (standard-entry p fit-toured (parts .count))
+
+pub same-word-renumbering : (k : ℕ) (p q : Plan) → fit k p ≡ true → fit k q ≡ true → word p ≡ word q → (f : List ℕ) × Renumbering p q f
+same-word-renumbering k p q e f same =
+    let a = fit-parts k p e in
+    let b = fit-parts k q f in
+    let one : standardPlan q ≡ standardPlan p = of-fit k q f .standard ∙ ap planOf (sym same) ∙ sym (of-fit k p e .standard) in
+    let from : Renumbering q (standardPlan p) (standardNumbers q) =
+    subst (λ (s : Plan). Renumbering q s (standardNumbers q)) one (fit-standard k q f) in (
+      composed (standardNumbers p) (inverseOf (standardNumbers q)),
+      compose p (a .count) (a .root) (a .entries) (standardPlan p) (standardNumbers p) (fit-standard k p e) q (inverseOf (standardNumbers q))
+          (inverse q (b .count) (b .root) (b .entries) (standardPlan p) (standardNumbers q) from),
+    )

@@ -1,3 +1,4 @@
 pub mod FitPlans
-pub mod Demand3
+pub mod Coders
 pub mod Records
+pub mod Demand3

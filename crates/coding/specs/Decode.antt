@@ -1,14 +1,20 @@
--- The word that a payload holds.
+-- Words and payloads of kinds 1 and 2.
 --
---   decodePayload k m ps  the word that the bytes ps hold as the payload of a record of kind k with m edges, if any
+--   encodePayload k w     the payload that holds the tree bits and labels of the word w
+--   decodePayload k m ps  the word that the bytes ps hold as the payload of a record with m edges, if any
 --   decodeRecord r        the word that the record r holds, if any
-use mathlib.Core.Bool.{cond}
+use mathlib.Core.Bool.{false, cond}
 use mathlib.Core.List.{List}
-use Prim.Native.Nat.{ℕ}
-use lib.ListN.{drop}
+use Prim.Native.Nat.{ℕ, _/_}
+use lib.ListN.{length, drop}
+use Rattle.model.specs.Traversal.{Letter}
+use Rattle.model.specs.Record.{payload}
 use Rattle.model.specs.Shelf.{kindOf, edgesOf}
-use Rattle.words.specs.Word.{Found, none, decodeWord}
+use Rattle.words.specs.Word.{Found, none, wordBits, wordLabels, decodeWord}
 use Rattle.packing.specs.Unlay.{payloadBits, payloadLabels, payloadClean}
+
+unfoldable pub encodePayload : ℕ → List Letter → List ℕ
+encodePayload k w = payload k (length w / 2) (wordBits false w) (wordLabels w)
 
 unfoldable pub decodePayload : ℕ → ℕ → List ℕ → Found
 decodePayload k m ps = cond (payloadClean k m ps) (decodeWord (payloadBits m ps) (payloadLabels k m ps)) none

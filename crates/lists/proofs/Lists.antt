@@ -1,4 +1,4 @@
--- Demand 3, from the laws of the coding.
+-- Demand 3, from the laws of the coders.
 --
 --   demand-3              the claim about any two lists of writing calls
 use Prim.Native.Nat.{ℕ, suc}
@@ -6,15 +6,16 @@ use mathlib.Core.Path.{_≡_, refl, sym, ap, ap₂, subst, _∙_}
 use mathlib.Core.Bool.{Bool, true, false, cond}
 use mathlib.Core.List.{List, [], _∷_, _++_}
 use lib.ListN.{length}
-use Rattle.model.specs.Map.{fit}
+use Rattle.model.specs.Map.{isKind, fit}
 use Rattle.model.specs.Record.{recordOf}
 use Rattle.model.specs.Calls.{lengthOfWritten}
 use Rattle.model.specs.Writings.{Writing, MeetsContract, refusalOf, isAccepted, bytesWritten, laidOut, accepted, Alike, PlaceByPlace, AllMeetContract, Demand3}
+use Rattle.model.proofs.Fitness.{fit-parts}
 use Rattle.renumbering.proofs.Connected.{at-most-one}
-use Rattle.lists.specs.Coding.{Coding}
+use Rattle.lists.specs.Coder.{Coder}
 use Rattle.lists.proofs.Calls.{refused-exactly, accepted-where, accepted-fit, answer-length, accepted-bytes, refused-bytes}
 use Rattle.lists.proofs.Split.{splits, framed-some}
-use Rattle.lists.proofs.Records.{record-length, record-framed, same-record, word-renumbering, renumbered-record}
+use Rattle.lists.proofs.Records.{record-length, record-framed, same-record, renumbered-record}
 
 -- every plan of the list is fit for its call's kind
 abbrev AllFit : List Writing → Type 0
@@ -44,14 +45,17 @@ match-length [] (d ∷ ds) m = absurd m
 match-length (c ∷ cs) [] m = absurd m
 match-length (c ∷ cs) (d ∷ ds) (a, m) = ap suc (match-length cs ds m)
 
-module _ (coding : Coding) where
+module _ (coders : (k : ℕ) → isKind k ≡ true → Coder k) where
+  coder : (c : Writing) → fit (c .kind) (c .plan) ≡ true → Coder (c .kind)
+  coder c e = coders (c .kind) (fit-parts (c .kind) (c .plan) e .kind)
+
   -- ---- one call
 
   gives-record : (c : Writing) → MeetsContract c → refusalOf c ≡ 0
       → (bytesWritten c ≡ recordOf (c .kind) (c .plan)) × (lengthOfWritten (c .answer) ≡ length (recordOf (c .kind) (c .plan)))
   gives-record c h e =
       let a = accepted-where c h e in
-      let n = record-length coding (c .kind) (c .plan) (accepted-fit c h a) in
+      let n = record-length (c .kind) (coder c (accepted-fit c h a)) (c .plan) (accepted-fit c h a) in
       (accepted-bytes c h a n, answer-length c h a ∙ sym n)
 
   laid-records : (cs : List Writing) → AllMeetContract cs → laidOut cs ≡ records (accepted cs)
@@ -62,7 +66,7 @@ module _ (coding : Coding) where
       go : (b : Bool) → isAccepted c ≡ b → laidOut cs ≡ records (accepted cs)
           → bytesWritten c ++ laidOut cs ≡ records (cond b (c ∷ accepted cs) (accepted cs))
       go true a rest = ap₂ (λ (xs ys : List ℕ). xs ++ ys)
-          (accepted-bytes c h a (record-length coding (c .kind) (c .plan) (accepted-fit c h a))) rest
+          (accepted-bytes c h a (record-length (c .kind) (coder c (accepted-fit c h a)) (c .plan) (accepted-fit c h a))) rest
       go false a rest = ap₂ (λ (xs ys : List ℕ). xs ++ ys) (refused-bytes c a) rest
 
   -- ---- two lists of fit plans
@@ -70,15 +74,13 @@ module _ (coding : Coding) where
   alike : (c d : Writing) → fit (c .kind) (c .plan) ≡ true → fit (d .kind) (d .plan) ≡ true
       → recordOf (c .kind) (c .plan) ≡ recordOf (d .kind) (d .plan) → Alike c d
   alike c d e f same =
-      let (kinds, words) = same-record coding (c .kind) (d .kind) (c .plan) (d .plan) e f same in
-      let (partners, carried) = word-renumbering coding (c .kind) (c .plan) (d .plan) e
-      (subst (λ (k : ℕ). fit k (d .plan) ≡ true) (sym kinds) f) words in
+      let (kinds, (partners, carried)) = same-record (c .kind) (d .kind) (coder c e) (coder d f) (c .plan) (d .plan) e f same in
       record { one-kind = kinds; partners = partners; carried = carried }
 
   alike-record : (c d : Writing) → fit (c .kind) (c .plan) ≡ true → fit (d .kind) (d .plan) ≡ true → Alike c d
       → recordOf (c .kind) (c .plan) ≡ recordOf (d .kind) (d .plan)
   alike-record c d e f a =
-      renumbered-record coding (c .kind) (c .plan) (d .plan) (a .partners) e
+      renumbered-record (c .kind) (coder c e) (c .plan) (d .plan) (a .partners) e
       (subst (λ (k : ℕ). fit k (d .plan) ≡ true) (sym (a .one-kind)) f) (a .carried)
       ∙ ap (λ (k : ℕ). recordOf k (d .plan)) (a .one-kind)
 
@@ -86,12 +88,12 @@ module _ (coding : Coding) where
   unfolding records
   records-match [] [] e f same = tt
   records-match [] (d ∷ ds) e (f, fs) same =
-      framed-some (recordOf (d .kind) (d .plan)) (records ds) (record-framed coding (d .kind) (d .plan) f) (sym same)
+      framed-some (recordOf (d .kind) (d .plan)) (records ds) (record-framed (d .kind) (coder d f) (d .plan) f) (sym same)
   records-match (c ∷ cs) [] (e, es) f same =
-      framed-some (recordOf (c .kind) (c .plan)) (records cs) (record-framed coding (c .kind) (c .plan) e) same
+      framed-some (recordOf (c .kind) (c .plan)) (records cs) (record-framed (c .kind) (coder c e) (c .plan) e) same
   records-match (c ∷ cs) (d ∷ ds) (e, es) (f, fs) same =
       let (here, rest) = splits (recordOf (c .kind) (c .plan)) (recordOf (d .kind) (d .plan)) (records cs) (records ds)
-      (record-framed coding (c .kind) (c .plan) e) (record-framed coding (d .kind) (d .plan) f) same in
+      (record-framed (c .kind) (coder c e) (c .plan) e) (record-framed (d .kind) (coder d f) (d .plan) f) same in
       (alike c d e f here, records-match cs ds es fs rest)
 
   match-records : (cs ds : List Writing) → AllFit cs → AllFit ds → PlaceByPlace cs ds → records cs ≡ records ds
@@ -118,5 +120,5 @@ module _ (coding : Coding) where
     alike-same-bytes = λ cs ds h g m. laid-records cs h ∙ match-records (accepted cs) (accepted ds) (accepted-all-fit cs h) (accepted-all-fit ds g) m
         ∙ sym (laid-records ds g);
     one-renumbering = λ k l p q f g e e′ r r′. at-most-one k p q f g e r r′;
-    equal-records = renumbered-record coding;
+    equal-records = λ k p q f e. renumbered-record k (coders k (fit-parts k p e .kind)) p q f e;
   }

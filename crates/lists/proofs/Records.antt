@@ -1,105 +1,156 @@
--- Records, words and renumberings of fit plans determine each other, by the laws of the coding.
+-- Records of fit plans, by the laws of a coder.
 --
---   record-length, record-framed   the record of a fit plan has the length for its kind, and its first two bytes say so
---   same-record           equal records: equal kinds and equal words
---   word-renumbering      equal words: a renumbering
+--   record-sized          a fit plan's payload has the length for its kind
+--   record-bytes, record-length   its record's entries are bytes, and it has the length for its kind
+--   record-kind, record-edges, record-passes, record-framed   its fields, that it passes 1, 2, 3 and 5, and that it begins with its length
+--   record-decodes        its payload is decoded to its word
+--   standard-record       its standard plan is fit and has the same record
+--   same-record           equal records: equal kinds, and a renumbering
 --   renumbered-record     a renumbering: equal records
-use Prim.Native.Nat.{ℕ, _/_}
+--   has-decodes           bytes that are a fit plan's record decode to its word
+--   none-has              bytes that do not decode are the record of no fit plan
+--   read-back             every fit plan with the record has the standard plan that the word builds
+--   decodes-has           bytes that decode are the record of the plan that their word builds
+--   decodes-edges, decodes-standard   that plan has as many edges as the head says, and is in standard numbers
+use Prim.Native.Nat.{ℕ, _*_, _/_}
 use native.Mathlib.Omega.{arith}
 use mathlib.Core.Path.{_≡_, sym, ap, ap₂, subst, _∙_}
-use mathlib.Core.Bool.{true, false}
+use mathlib.Core.Bool.{true}
 use mathlib.Core.List.{List}
-use lib.ListN.{length}
-use Rattle.model.specs.Map.{Plan, darts, edges, fit}
-use Rattle.model.specs.Traversal.{Letter, word, standardNumbers, standardPlan}
-use Rattle.model.specs.Record.{recordLength, layOut, recordOf}
+use lib.ListN.{length, drop}
+use Rattle.model.specs.Numbers.{allBelow}
+use Rattle.model.specs.Map.{Plan, edges, fit}
+use Rattle.model.specs.Traversal.{Letter, standardPlan}
+use Rattle.model.specs.Record.{recordLength, headed, payloadOf, recordOf}
+use Rattle.model.specs.Shelf.{kindOf, edgesOf, passes}
+use Rattle.model.specs.Calls.{HasRecord}
 use Rattle.model.specs.Renumbering.{Renumbering}
-use Rattle.model.proofs.Fitness.{fit-parts, count-parts}
-use Rattle.model.proofs.Standard.{standard-darts}
-use Rattle.words.specs.Word.{wordBits, wordLabels, planOf, found, decodeWord}
-use Rattle.words.proofs.Plans.{rotation-length}
-use Rattle.packing.specs.Unlay.{Laid}
-use Rattle.renumbering.specs.Isomorphism.{inverseOf, composed}
-use Rattle.renumbering.proofs.Renumberings.{inverse, compose}
-use Rattle.renumbering.proofs.Walk.{carries-word}
-use Rattle.lists.specs.Coding.{Coding, OfFit}
-use Rattle.lists.proofs.Split.{Framed}
+use Rattle.model.proofs.Below.{below-drop}
+use Rattle.words.specs.Word.{Found, found, none}
+use Rattle.words.proofs.Found.{none-found, found-same}
+use Rattle.packing.specs.Unlay.{Sized}
+use Rattle.packing.proofs.Headed.{headed-length, headed-payload, headed-bytes, headed-field, headed-kind, headed-edges, headed-passes, headed-injective, passes-sized, passes-headed}
+use Rattle.lists.specs.Coder.{rooted, Coder}
+use Rattle.lists.specs.Framed.{Framed}
 
-module _ (coding : Coding) where
+module _ (k : ℕ) (c : Coder k) where
   -- ---- one fit plan
-  module _ (k : ℕ) (p : Plan) (e : fit k p ≡ true) where
-    of-fit : OfFit k p
-    of-fit = coding .words-of-fit k p e
+  module _ (p : Plan) (e : fit k p ≡ true) where
+    abbrev m : ℕ
+    m = edges (p .rotation)
 
-    -- the word has a letter for each dart
-    word-length : length (word p) ≡ darts p
-    unfolding planOf
-    word-length = sym (rotation-length (word p)) ∙ ap darts (sym (of-fit .standard)) ∙ standard-darts p
-
-    laid : Laid k (edges (p .rotation)) (wordBits false (word p)) (wordLabels (word p))
+    half : length (c .codes p) / 2 ≡ m
     unfolding edges
-    laid =
-        let s = count-parts (darts p) (fit-parts k p e .count) in
-        let n = word-length in
-        let b = coding .bit-count k (word p) (of-fit .proper) in
-        let l = coding .label-count k (word p) (of-fit .proper) in
-        record {
-          kind = fit-parts k p e .kind;
-          some-edge = omega arith;
-          few-edges = omega arith;
-          bit-count = omega arith;
-          bits-fit = coding .bits-fit k (word p) (of-fit .proper);
-          label-count = omega arith;
-          labels-fit = coding .labels-fit k (word p) (of-fit .proper);
-        }
+    half = ap (λ (n : ℕ). n / 2) (c .letters p e)
 
-    -- the record, from the word
-    record-of-word : recordOf k p ≡ layOut k (edges (p .rotation)) (wordBits false (word p)) (wordLabels (word p))
+    pub record-sized : Sized k m (payloadOf k p)
+    record-sized = rw (c .written p e, ← half) (c .sized (c .codes p) (c .proper p e))
+
+    pub record-bytes : allBelow 256 (recordOf k p) ≡ true
     unfolding recordOf
-    record-of-word = ap₂ (layOut k (edges (p .rotation))) (of-fit .bits) (of-fit .marks)
+    record-bytes = headed-bytes k m (payloadOf k p) (rw (c .written p e) (c .bytes (c .codes p) (c .proper p e)))
 
-    pub record-length : length (recordOf k p) ≡ recordLength k (edges (p .rotation))
-    record-length = ap length record-of-word ∙ coding .layout-length k (edges (p .rotation)) _ _ laid
+    pub record-length : length (recordOf k p) ≡ recordLength k m
+    unfolding recordOf
+    record-length = headed-length k m (payloadOf k p) ∙ record-sized .long
+
+    pub record-kind : kindOf (recordOf k p) ≡ k
+    unfolding recordOf
+    record-kind = headed-kind k m (payloadOf k p) record-sized
+
+    pub record-edges : edgesOf (recordOf k p) ≡ m
+    unfolding recordOf
+    record-edges = headed-edges k m (payloadOf k p) record-sized
+
+    pub record-passes : passes (recordOf k p) ≡ true
+    unfolding recordOf
+    record-passes = headed-passes k m (payloadOf k p) record-sized
+
+    record-payload : drop 6 (recordOf k p) ≡ payloadOf k p
+    unfolding recordOf
+    record-payload = headed-payload k m (payloadOf k p)
 
     pub record-framed : Framed (recordOf k p)
-    record-framed = subst Framed (sym record-of-word) (record {
-      long = let n = coding .layout-long k (edges (p .rotation)) _ _ laid in omega arith;
-      field = coding .layout-field k (edges (p .rotation)) _ _ laid;
-    })
+    unfolding recordOf
+    record-framed = let l = headed-length k m (payloadOf k p) in
+        record { long = omega arith; field = headed-field k m (payloadOf k p) record-sized }
+
+    payload-decodes : c .decode m (payloadOf k p) ≡ found (c .codes p)
+    payload-decodes = rw (c .written p e, ← half) (c .reads (c .codes p) (c .proper p e))
+
+    pub record-decodes : c .decode (edgesOf (recordOf k p)) (drop 6 (recordOf k p)) ≡ found (c .codes p)
+    record-decodes = rw (record-edges, record-payload) payload-decodes
+
+    -- the standard plan is the one that the word builds
+    pub standard-record : (fit k (standardPlan p) ≡ true) × (recordOf k (standardPlan p) ≡ recordOf k p)
+    unfolding recordOf standardPlan edges
+    standard-record =
+        let (fits, same) = c .built (c .codes p) (c .proper p e) in
+        let q = rooted (c .builds (c .codes p)) in
+        let n = sym (c .letters q fits) ∙ ap length same ∙ c .letters p e in
+        subst (λ (rot : List ℕ). (fit k (rooted rot) ≡ true) × (recordOf k (rooted rot) ≡ recordOf k p)) (sym (c .standard p e))
+        (fits, ap₂ (λ (d : ℕ) (ps : List ℕ). headed k (d / 2) ps) n (c .written q fits ∙ ap (c .encode) same ∙ sym (c .written p e)))
 
   -- ---- two fit plans
 
-  found-same : (v w : List Letter) → found v ≡ found w → v ≡ w
-  found-same v w e = cc
+  -- one payload, one word, one plan up to renumbering
+  same-payload : (p q : Plan) → fit k p ≡ true → fit k q ≡ true → edges (p .rotation) ≡ edges (q .rotation) → payloadOf k p ≡ payloadOf k q
+      → (f : List ℕ) × Renumbering p q f
+  same-payload p q e f sizes payloads =
+      c .alike p q e f (found-same _ _ (sym (payload-decodes p e) ∙ ap₂ (c .decode) sizes payloads ∙ payload-decodes q f))
 
-  pub same-record : (k l : ℕ) (p q : Plan) → fit k p ≡ true → fit l q ≡ true → recordOf k p ≡ recordOf l q → (k ≡ l) × (word p ≡ word q)
-  same-record k l p q e f same =
-      let (kinds, sizes′, bits, marks) = coding .layout-injective k l (edges (p .rotation)) (edges (q .rotation))
-      (wordBits false (word p)) (wordLabels (word p)) (wordBits false (word q)) (wordLabels (word q)) (laid k p e) (laid l q f)
-      (sym (record-of-word k p e) ∙ same ∙ record-of-word l q f) in (
-        kinds,
-        found-same (word p) (word q)
-            (sym (coding .decoded k (word p) (of-fit k p e .proper)) ∙ ap₂ decodeWord bits marks ∙ coding .decoded l (word q) (of-fit l q f .proper)),
-      )
+  pub renumbered-record : (p q : Plan) (f : List ℕ) → fit k p ≡ true → fit k q ≡ true → Renumbering p q f → recordOf k p ≡ recordOf k q
+  unfolding recordOf edges
+  renumbered-record p q f e g r =
+      ap₂ (λ (n : ℕ) (ps : List ℕ). headed k (n / 2) ps) (r .same-darts)
+      (c .written p e ∙ ap (c .encode) (c .carried p q f e r) ∙ sym (c .written q g))
 
-  pub word-renumbering : (k : ℕ) (p q : Plan) → fit k p ≡ true → fit k q ≡ true → word p ≡ word q → (f : List ℕ) × Renumbering p q f
-  word-renumbering k p q e f same =
-      let a = fit-parts k p e in
-      let b = fit-parts k q f in
-      let one : standardPlan q ≡ standardPlan p = of-fit k q f .standard ∙ ap planOf (sym same) ∙ sym (of-fit k p e .standard) in
-      let to : Renumbering p (standardPlan p) (standardNumbers p) = coding .standard-renumbering k p e in
-      let from : Renumbering q (standardPlan p) (standardNumbers q) =
-      subst (λ (s : Plan). Renumbering q s (standardNumbers q)) one (coding .standard-renumbering k q f) in (
-        composed (standardNumbers p) (inverseOf (standardNumbers q)),
-        compose p (a .count) (a .root) (a .entries) (standardPlan p) (standardNumbers p) to q (inverseOf (standardNumbers q))
-            (inverse q (b .count) (b .root) (b .entries) (standardPlan p) (standardNumbers q) from),
-      )
+pub same-record : (k l : ℕ) (c : Coder k) (d : Coder l) (p q : Plan) → fit k p ≡ true → fit l q ≡ true → recordOf k p ≡ recordOf l q
+    → (k ≡ l) × ((f : List ℕ) × Renumbering p q f)
+unfolding recordOf
+same-record k l c d p q e f same =
+    let (kinds, sizes, payloads) = headed-injective k (edges (p .rotation)) (payloadOf k p) l (edges (q .rotation)) (payloadOf l q)
+    (record-sized k c p e) (record-sized l d q f) same in
+    let g : fit k q ≡ true = subst (λ (j : ℕ). fit j q ≡ true) (sym kinds) f in
+    (kinds, same-payload k c p q e g sizes (payloads ∙ ap (λ (j : ℕ). payloadOf j q) (sym kinds)))
 
-  pub renumbered-record : (k : ℕ) (p q : Plan) (f : List ℕ) → fit k p ≡ true → fit k q ≡ true → Renumbering p q f → recordOf k p ≡ recordOf k q
-  unfolding edges
-  renumbered-record k p q f e e′ r =
-      let a = fit-parts k p e in
-      let same = carries-word p (a .count) (a .root) (a .entries) q f r in
-      record-of-word k p e
-      ∙ ap₂ (λ (n : ℕ) (w : List Letter). layOut k (n / 2) (wordBits false w) (wordLabels w)) (r .same-darts) same
-      ∙ sym (record-of-word k q e′)
+-- ---- any bytes
+
+module _ (r : List ℕ) (c : Coder (kindOf r)) where
+  abbrev decoded : Found
+  decoded = c .decode (edgesOf r) (drop 6 r)
+
+  pub has-decodes : (p : Plan) → HasRecord r p → decoded ≡ found (c .codes p)
+  has-decodes p (f, e) =
+      ap (λ (s : List ℕ). c .decode (edgesOf s) (drop 6 s)) (sym e) ∙ record-decodes (kindOf r) c p f
+
+  pub none-has : decoded ≡ none → (p : Plan) → HasRecord r p → ⊥
+  none-has e p h = none-found _ (sym e ∙ has-decodes p h)
+
+  pub read-back : (v : List Letter) (p : Plan) → decoded ≡ found v → HasRecord r p → standardPlan p ≡ rooted (c .builds v)
+  unfolding standardPlan
+  read-back v p e h = ap rooted (c .standard p (h .0) ∙ ap (c .builds) (found-same _ v (sym (has-decodes p h) ∙ e)))
+
+  module _ (v : List Letter) (pass : passes r ≡ true) (bytes : allBelow 256 r ≡ true) (e : decoded ≡ found v) where
+    abbrev q : Plan
+    q = rooted (c .builds v)
+
+    made : c .Proper v × (c .encode v ≡ drop 6 r) × (length v ≡ 2 * edgesOf r)
+    made = c .made (edgesOf r) (drop 6 r) v (passes-sized r pass) (below-drop 256 6 r bytes) e
+
+    built : (fit (kindOf r) q ≡ true) × (c .codes q ≡ v)
+    built = c .built v (made .0)
+
+    pub decodes-edges : edges (q .rotation) ≡ edgesOf r
+    unfolding edges
+    decodes-edges = let n = c .letters q (built .0) in let s = ap length (built .1) in let l = made .2 in omega arith
+
+    pub decodes-has : HasRecord r q
+    unfolding recordOf
+    decodes-has = (
+      built .0,
+      ap₂ (headed (kindOf r)) decodes-edges (c .written q (built .0) ∙ ap (c .encode) (built .1) ∙ made .1) ∙ passes-headed r pass bytes,
+    )
+
+    pub decodes-standard : standardPlan q ≡ q
+    decodes-standard = read-back v q e decodes-has

@@ -1,6 +1,5 @@
 -- Bytes that begin with their length are told apart wherever they end. Assumes nothing.
 --
---   Framed r              r has two bytes at least, and they hold its length
 --   splits                a framed list before other bytes is cut off in one way only
 --   framed-some           no framed list is empty
 use Prim.Native.Nat.{ℕ, _≤_}
@@ -10,10 +9,7 @@ use mathlib.Core.List.{List, [], _∷_, _++_}
 use lib.ListN.{length, take, drop, List·getD-append}
 use lib.Seq.{take-at, drop-at}
 use Rattle.model.specs.Shelf.{word16}
-
-pub record Framed (r : List ℕ) : Type 0 where
-  pub long : 2 ≤ length r
-  pub field : word16 r 0 ≡ length r
+use Rattle.lists.specs.Framed.{Framed}
 
 -- more bytes do not change the field
 field-append : (r rest : List ℕ) → 2 ≤ length r → word16 (r ++ rest) 0 ≡ word16 r 0

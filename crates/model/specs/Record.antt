@@ -5,12 +5,13 @@
 --   bytesFor n w          how many groups of w hold n digits
 --   le16 n                n in two bytes, the low one first
 --   recordLength k m      the length of a record of kind k with m edges
---   payload k m bits labels   what follows the head
+--   payload k m bits labels   tree bits and labels in bytes
 --   labelBase k           labels of kind k are below it
---   layOut k m bits labels   a whole record
+--   headed k m rest       the payload rest behind its head
+--   payloadOf k p         the payload of plan p in kind k
 --   recordOf k p          the record of plan p in kind k
 use Prim.Native.Nat.{ℕ, zero, suc, _+_, _-_, _*_, _/_, _%_}
-use mathlib.Core.Bool.{Bool, cond}
+use mathlib.Core.Bool.{cond}
 use mathlib.Core.List.{List, [], _∷_, _++_}
 use lib.Dec.{eqb}
 use lib.ListN.{length, drop}
@@ -52,8 +53,11 @@ unfoldable pub labelBase : ℕ → ℕ
 labelBase k = cond (eqb k 1) 2 3
 
 -- "length of the whole record (2 bytes), kind (2 bytes, 1 or 2), m (2 bytes), payload"
-unfoldable pub layOut : ℕ → ℕ → List ℕ → List ℕ → List ℕ
-layOut k m bits labels = le16 (recordLength k m) ++ (le16 k ++ (le16 m ++ payload k m bits labels))
+unfoldable pub headed : ℕ → ℕ → List ℕ → List ℕ
+headed k m rest = le16 (6 + length rest) ++ (le16 k ++ (le16 m ++ rest))
+
+unfoldable pub payloadOf : ℕ → Plan → List ℕ
+payloadOf k p = payload k (edges (p .rotation)) (treeBits p) (labels p)
 
 unfoldable pub recordOf : ℕ → Plan → List ℕ
-recordOf k p = layOut k (edges (p .rotation)) (treeBits p) (labels p)
+recordOf k p = headed k (edges (p .rotation)) (payloadOf k p)

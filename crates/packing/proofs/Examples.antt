@@ -1,38 +1,37 @@
--- Records of one edge, taken apart by computing: what is read, and what is not readable. Assumes nothing.
+-- Payloads of kind 2 with one edge, made and taken apart by computing: what is clean, and what is not. Assumes nothing.
 use Prim.Native.Nat.{ℕ}
 use mathlib.Core.Path.{_≡_, refl}
 use mathlib.Core.Bool.{true, false}
-use mathlib.Core.List.{List, [], _∷_, _++_}
-use Rattle.model.specs.Record.{digitsFrom, pack, le16, recordLength, payload, layOut}
-use Rattle.model.specs.Shelf.{word16}
+use mathlib.Core.List.{List, [], _∷_}
+use Rattle.model.specs.Record.{digitsFrom, pack, payload}
 use Rattle.model.specs.Numbers.{allBelow}
 use Rattle.packing.specs.Unpack.{digitsOf, unpack, bits, groups}
-use Rattle.packing.specs.Unlay.{payloadBits, payloadLabels, payloadClean, bitsIn, labelsIn, unlay, readable}
+use Rattle.packing.specs.Unlay.{payloadBits, payloadLabels, payloadClean}
 
--- the head of a record of kind 2 with one edge
-abbrev head : List ℕ
-head = 8 ∷ 0 ∷ 2 ∷ 0 ∷ 1 ∷ 0 ∷ []
-
-made : layOut 2 1 (1 ∷ 0 ∷ []) (2 ∷ []) ≡ head ++ 128 ∷ 162 ∷ []
-unfolding layOut le16 recordLength payload pack digitsFrom
+made : payload 2 1 (1 ∷ 0 ∷ []) (2 ∷ []) ≡ 128 ∷ 162 ∷ []
+unfolding payload pack digitsFrom
 made = refl
 
-taken-apart : unlay (head ++ 128 ∷ 162 ∷ []) ≡ (1 ∷ 0 ∷ [], 2 ∷ [])
-unfolding bitsIn labelsIn word16 payloadBits payloadLabels bits groups unpack digitsOf
-taken-apart = refl
+bits-of : payloadBits 1 (128 ∷ 162 ∷ []) ≡ 1 ∷ 0 ∷ []
+unfolding payloadBits bits unpack digitsOf
+bits-of = refl
 
-clean : readable (head ++ 128 ∷ 162 ∷ []) ≡ true
-unfolding readable word16 payloadClean bits groups unpack digitsOf allBelow
+labels-of : payloadLabels 2 1 (128 ∷ 162 ∷ []) ≡ 2 ∷ []
+unfolding payloadLabels groups unpack digitsOf
+labels-of = refl
+
+clean : payloadClean 2 1 (128 ∷ 162 ∷ []) ≡ true
+unfolding payloadClean bits groups unpack digitsOf allBelow
 clean = refl
 
-padding-bit : readable (head ++ 129 ∷ 162 ∷ []) ≡ false
-unfolding readable word16 payloadClean bits groups unpack digitsOf allBelow
+padding-bit : payloadClean 2 1 (129 ∷ 162 ∷ []) ≡ false
+unfolding payloadClean bits groups unpack digitsOf allBelow
 padding-bit = refl
 
-fill-label : readable (head ++ 128 ∷ 163 ∷ []) ≡ false
-unfolding readable word16 payloadClean bits groups unpack digitsOf allBelow
+fill-label : payloadClean 2 1 (128 ∷ 163 ∷ []) ≡ false
+unfolding payloadClean bits groups unpack digitsOf allBelow
 fill-label = refl
 
-above-242 : readable (head ++ 128 ∷ 243 ∷ []) ≡ false
-unfolding readable word16 payloadClean bits groups unpack digitsOf allBelow
+above-242 : payloadClean 2 1 (128 ∷ 243 ∷ []) ≡ false
+unfolding payloadClean bits groups unpack digitsOf allBelow
 above-242 = refl

@@ -4,5 +4,5 @@ pub mod Packed
 pub mod Place
 pub mod Head
 pub mod Payload
-pub mod Unlay
+pub mod Headed
 pub mod Examples

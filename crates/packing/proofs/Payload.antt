@@ -40,11 +40,11 @@ module _ (b w : ℕ) (h : 0 < b) where
       → pack b w n (take l (unpack b w (length xs) xs)) ≡ xs
   pack-front n l xs e q z = rw q (pack-take b w h n l xs e q (rw q at z))
 
-pub payload-length : (k m : ℕ) (bs ls : List ℕ) → length (payload k m bs ls) + 6 ≡ recordLength k m
+pub payload-length : (k m : ℕ) (bs ls : List ℕ) → 6 + length (payload k m bs ls) ≡ recordLength k m
 unfolding payload recordLength
 payload-length k m bs ls = go (eqb k 1)
   where
-    go : (t : Bool) → length (cond t (pack 2 8 (bytesFor (3 * m) 8) (bs ++ ls)) (pack 2 8 (bytesFor (2 * m) 8) bs ++ pack 3 5 (bytesFor m 5) ls)) + 6
+    go : (t : Bool) → 6 + length (cond t (pack 2 8 (bytesFor (3 * m) 8) (bs ++ ls)) (pack 2 8 (bytesFor (2 * m) 8) bs ++ pack 3 5 (bytesFor m 5) ls))
         ≡ cond t (6 + bytesFor (3 * m) 8) (6 + bytesFor (2 * m) 8 + bytesFor m 5)
     go true = rw (pack-length 2 8 (bytesFor (3 * m) 8) (bs ++ ls)) (omega arith)
     go false =
@@ -162,7 +162,7 @@ module _ (k m : ℕ) (bs ls : List ℕ) (kind : isKind k ≡ true) where
 -- ---- any payload of the right length
 
 module _ (m : ℕ) (ps : List ℕ) where
-  one-parts : length ps + 6 ≡ recordLength 1 m → Parts 1 m (payloadBits m ps) (payloadLabels 1 m ps)
+  one-parts : 6 + length ps ≡ recordLength 1 m → Parts 1 m (payloadBits m ps) (payloadLabels 1 m ps)
   unfolding payloadBits payloadLabels recordLength labelBase bits
   one-parts q =
       let u = length-unpack 2 8 (length ps) ps in
@@ -174,7 +174,7 @@ module _ (m : ℕ) (ps : List ℕ) where
         labels-fit = below-take 2 m (drop (2 * m) (bits ps)) (below-drop 2 (2 * m) (bits ps) (unpack-below 2 8 (omega arith) (length ps) ps));
       }
 
-  two-parts : length ps + 6 ≡ recordLength 2 m → Parts 2 m (payloadBits m ps) (payloadLabels 2 m ps)
+  two-parts : 6 + length ps ≡ recordLength 2 m → Parts 2 m (payloadBits m ps) (payloadLabels 2 m ps)
   unfolding payloadBits payloadLabels recordLength labelBase bits groups
   two-parts q =
       let u = length-unpack 2 8 (length ps) ps in
@@ -188,7 +188,7 @@ module _ (m : ℕ) (ps : List ℕ) where
         labels-fit = below-take 3 m (groups gs) (unpack-below 3 5 (omega arith) (length gs) gs);
       }
 
-  one-again : length ps + 6 ≡ recordLength 1 m → allBelow 256 ps ≡ true → payloadClean 1 m ps ≡ true
+  one-again : 6 + length ps ≡ recordLength 1 m → allBelow 256 ps ≡ true → payloadClean 1 m ps ≡ true
       → payload 1 m (payloadBits m ps) (payloadLabels 1 m ps) ≡ ps
   unfolding payload payloadBits payloadLabels payloadClean recordLength bits
   one-again q e z =
@@ -202,7 +202,7 @@ module _ (m : ℕ) (ps : List ℕ) where
   abbrev back : List ℕ
   back = drop (bytesFor (2 * m) 8) ps
 
-  module _ (q : length ps + 6 ≡ recordLength 2 m) where
+  module _ (q : 6 + length ps ≡ recordLength 2 m) where
     front-count : length front ≡ bytesFor (2 * m) 8
     unfolding recordLength
     front-count = length-take-le (bytesFor (2 * m) 8) ps (omega arith)
@@ -235,13 +235,13 @@ module _ (m : ℕ) (ps : List ℕ) where
         ) (take-append-drop (bytesFor (2 * m) 8) ps)
 
 module _ (k m : ℕ) (ps : List ℕ) (kind : isKind k ≡ true) where
-  pub unpayload-parts : length ps + 6 ≡ recordLength k m → Parts k m (payloadBits m ps) (payloadLabels k m ps)
+  pub unpayload-parts : 6 + length ps ≡ recordLength k m → Parts k m (payloadBits m ps) (payloadLabels k m ps)
   unpayload-parts =
-      kind-cases (λ (x : ℕ). length ps + 6 ≡ recordLength x m → Parts x m (payloadBits m ps) (payloadLabels x m ps))
+      kind-cases (λ (x : ℕ). 6 + length ps ≡ recordLength x m → Parts x m (payloadBits m ps) (payloadLabels x m ps))
       (one-parts m ps) (two-parts m ps) k kind
 
-  pub payload-unpayload : length ps + 6 ≡ recordLength k m → allBelow 256 ps ≡ true → payloadClean k m ps ≡ true
+  pub payload-unpayload : 6 + length ps ≡ recordLength k m → allBelow 256 ps ≡ true → payloadClean k m ps ≡ true
       → payload k m (payloadBits m ps) (payloadLabels k m ps) ≡ ps
   payload-unpayload =
-      kind-cases (λ (x : ℕ). length ps + 6 ≡ recordLength x m → allBelow 256 ps ≡ true → payloadClean x m ps ≡ true
+      kind-cases (λ (x : ℕ). 6 + length ps ≡ recordLength x m → allBelow 256 ps ≡ true → payloadClean x m ps ≡ true
       → payload x m (payloadBits m ps) (payloadLabels x m ps) ≡ ps) (one-again m ps) (two-again m ps) k kind

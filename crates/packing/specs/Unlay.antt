@@ -1,5 +1,6 @@
--- A record taken apart into its tree bits and labels: the inverse of `layOut`.
+-- A payload taken apart into its tree bits and labels: the inverse of `payload`.
 --
+--   Sized k m ps          ps is as long as the payload of a record of kind k with m edges
 --   Laid k m bits labels  tree bits and labels that a record of kind k with m edges holds
 --   blankFrom l ds        every digit from place l on is 0
 --   payloadBits m ps      the tree bits in the payload ps
@@ -8,7 +9,7 @@
 --   bitsIn r, labelsIn r  the tree bits and the labels in the record r
 --   unlay r               both
 --   readable r            the payload of r is clean
-use Prim.Native.Nat.{ℕ, _*_, _≤_}
+use Prim.Native.Nat.{ℕ, _+_, _*_, _≤_}
 use mathlib.Core.Path.{_≡_}
 use mathlib.Core.Bool.{Bool, true, _&&_, cond}
 use mathlib.Core.List.{List}
@@ -16,9 +17,15 @@ use lib.Dec.{eqb}
 use lib.ListN.{length, take, drop}
 use Rattle.model.specs.Numbers.{allBelow}
 use Rattle.model.specs.Map.{isKind}
-use Rattle.model.specs.Record.{bytesFor, labelBase}
+use Rattle.model.specs.Record.{bytesFor, labelBase, recordLength}
 use Rattle.model.specs.Shelf.{kindOf, edgesOf}
 use Rattle.packing.specs.Unpack.{bits, groups}
+
+pub record Sized (k m : ℕ) (ps : List ℕ) : Type 0 where
+  pub kind : isKind k ≡ true
+  pub some-edge : 1 ≤ m
+  pub few-edges : m ≤ 4096
+  pub long : 6 + length ps ≡ recordLength k m
 
 pub record Laid (k m : ℕ) (bs ls : List ℕ) : Type 0 where
   pub kind : isKind k ≡ true

@@ -4,3 +4,4 @@ pub mod Leaves
 pub mod Plans
 pub mod Validity
 pub mod Counts
+pub mod Found

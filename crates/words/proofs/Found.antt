@@ -1,0 +1,24 @@
+-- A word or none.
+--
+--   wordIn r             the word that was found
+--   none-found           none is no word
+--   found-same           words that are found alike are equal
+use mathlib.Core.Path.{_≡_, ap}
+use mathlib.Core.Bool.{Bool, true, false, false≢true}
+use mathlib.Core.List.{List, []}
+use Rattle.model.specs.Traversal.{Letter}
+use Rattle.words.specs.Word.{Found, found, none}
+
+abbrev pub wordIn : Found → List Letter
+wordIn none = []
+wordIn (found w) = w
+
+abbrev isFound : Found → Bool
+isFound none = false
+isFound (found w) = true
+
+pub none-found : (w : List Letter) {A : Type 0} → none ≡ found w → A
+none-found w e = absurd (false≢true (ap isFound e))
+
+pub found-same : (v w : List Letter) → found v ≡ found w → v ≡ w
+found-same v w e = ap wordIn e
