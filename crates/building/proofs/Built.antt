@@ -21,7 +21,7 @@ use Rattle.traversal.proofs.Toured.{walk-toured}
 use Rattle.planarity.proofs.Planar.{planar-bracketed}
 use Rattle.standard.proofs.DeadEnds.{dead-end-word}
 use Rattle.building.specs.Position.{letter, Balance}
-use Rattle.building.proofs.Machine.{balance}
+use Rattle.building.proofs.Machine.{balance, strict}
 use Rattle.building.proofs.Rotation.{rotation-listed}
 use Rattle.building.proofs.Walk.{walked}
 use Rattle.building.proofs.Planar.{built-planar}
@@ -31,7 +31,7 @@ use Rattle.building.proofs.Standard.{standard-same}
 
 module _ (k : ℕ) (w : List Letter) (v : valid k w ≡ true) where
   brackets : Balance (letter w) (length w)
-  brackets = balance w (valid-nested k w v)
+  brackets = balance false w (valid-nested k w v)
 
   some : 0 < length w
   some = count-positive (length w) (valid-fits k w v)
@@ -87,6 +87,6 @@ module _ (k : ℕ) (w : List Letter) (v : valid k w ≡ true) where
     entries = entries;
     joined = joined;
     flat = flat;
-    loopless = built-no-loop w brackets;
+    loopless = built-no-loop w brackets (strict w (valid-nested k w v));
     degrees = degrees;
   })

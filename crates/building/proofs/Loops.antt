@@ -14,13 +14,13 @@ use Rattle.model.proofs.Fitness.{at-loopless}
 use Rattle.words.specs.Word.{rotationOf}
 use Rattle.words.specs.Toured.{fellow}
 use Rattle.words.proofs.Plans.{rotation-length}
-use Rattle.building.specs.Position.{letter, vertexNo, dartNo, Balance}
-use Rattle.building.proofs.Mates.{mate, mate-inv, fellows, vertex-new, vertex-lower, vertex-entered}
+use Rattle.building.specs.Position.{letter, vertexNo, dartNo, Balance, Strict}
+use Rattle.building.proofs.Mates.{mate, mate-inv, fellows, vertex-new, vertex-strict, vertex-entered}
 use Rattle.building.proofs.Darts.{dart-mate}
 use Rattle.building.proofs.Rotation.{pos, pos-bound, dart-pos}
 use Rattle.building.proofs.Vertices.{vertex-number}
 
-module _ (w : List Letter) (b : Balance (letter w) (length w)) where
+module _ (w : List Letter) (b : Balance (letter w) (length w)) (strict : Strict (letter w) (length w)) where
   abbrev N : ℕ
   N = length w
 
@@ -38,7 +38,7 @@ module _ (w : List Letter) (b : Balance (letter w) (length w)) where
   ends-down i h e q = omega (arith, vertex-new ℓ N b i h e, vertex-entered ℓ N b i (le-of-lt h))
 
   ends-second : (i : ℕ) → i < N → ℓ i ≡ second → vertexNo ℓ i ≡ vertexNo ℓ (m i) → ⊥
-  ends-second i h e q = omega (arith, vertex-lower ℓ N b i h e)
+  ends-second i h e q = omega (arith, vertex-strict ℓ N b strict i h e)
 
   ends-differ : (i : ℕ) → i < N → vertexNo ℓ i ≡ vertexNo ℓ (m i) → ⊥
   ends-differ i h q = go (ℓ i) refl

@@ -11,7 +11,7 @@
 --   vertex-end      it ends at the root
 --   stack-down      the position on top of the stack of tree edges
 --   vertex-new      down enters a new vertex
---   vertex-lower    an edge outside the tree ends lower than it began
+--   vertex-lower, vertex-strict   an edge outside the tree ends no higher than it began; lower, where no loop is taken
 --   vertex-entered  the present vertex has been entered
 use Prim.Native.Nat.{ℕ, suc, _≤_, _<_}
 use native.Mathlib.Omega.{arith}
@@ -27,7 +27,7 @@ use Rattle.orbits.proofs.Match.{match-open, match-close, match-flat, mate-close
 use Rattle.words.specs.Toured.{fellow, isTree}
 use Rattle.words.specs.Entered.{isDown}
 use Rattle.words.proofs.Letters.{tree-fellow}
-use Rattle.building.specs.Position.{treeKind, chordKind, treeWord, chordWord, treeStack, entered, vertexTop, vertexNo, Balance}
+use Rattle.building.specs.Position.{treeKind, chordKind, treeWord, chordWord, treeStack, entered, vertexTop, vertexNo, Balance, Strict}
 use Rattle.building.proofs.Letters.{is-down, is-up, is-first, is-second, flat-chord, flat-tree}
 
 -- ---- the fellow of a position
@@ -134,10 +134,15 @@ module _ (ℓ : ℕ → Letter) (N : ℕ) (b : Balance ℓ N) where
       ap (vertexNo ℓ) (sym (τ-tree i (ap isTree e))) ∙ sym (vertex-turn i h)
       ∙ ap (λ (l : Letter). vertexTop ℓ (push (treeKind l) i (treeStack ℓ i))) e
 
-  pub vertex-lower : (i : ℕ) → i < N → ℓ i ≡ second → vertexNo ℓ i < vertexNo ℓ (mate i)
+  pub vertex-lower : (i : ℕ) → i < N → ℓ i ≡ second → vertexNo ℓ i ≤ vertexNo ℓ (mate i)
   vertex-lower i h e =
-      subst (λ (k : ℕ). vertexNo ℓ i < vertexNo ℓ k) (χ-chord i (ap isTree e))
+      subst (λ (k : ℕ). vertexNo ℓ i ≤ vertexNo ℓ k) (χ-chord i (ap isTree e))
       (b .lower i h e (χ i) _ (close-top (chordWord ℓ) N (b .chords) i h (ap chordKind e)))
+
+  pub vertex-strict : Strict ℓ N → (i : ℕ) → i < N → ℓ i ≡ second → vertexNo ℓ i < vertexNo ℓ (mate i)
+  vertex-strict strict i h e =
+      subst (λ (k : ℕ). vertexNo ℓ i < vertexNo ℓ k) (χ-chord i (ap isTree e))
+      (strict i h e (χ i) _ (close-top (chordWord ℓ) N (b .chords) i h (ap chordKind e)))
 
   pub stack-down : (i : ℕ) → i ≤ N → (a : ℕ) (s : List ℕ) → treeStack ℓ i ≡ a ∷ s → (a < i) × (ℓ a ≡ down)
   stack-down i h a s e = (stack-below (treeWord ℓ) N (b .trees) i h a s e, is-down (ℓ a) (stack-kind (treeWord ℓ) N (b .trees) i h a s e))

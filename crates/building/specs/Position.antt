@@ -10,8 +10,9 @@
 --   vertexNo ℓ i          the number of the vertex where the traversal stands before i, in the order of entering
 --   belowOf ℓ s           the numbers of the vertices that it hangs from
 --   dartBy ℓ i l, dartNo ℓ i   the standard dart at position i
---   Balance ℓ N           the brackets match, and an edge outside the tree ends at a vertex with a lower number than where it began
-use Prim.Native.Nat.{ℕ, suc, _+_, _*_, _<_}
+--   Balance ℓ N           the brackets match, and an edge outside the tree ends at no vertex with a higher number than where it began
+--   Strict ℓ N            it ends at one with a lower number
+use Prim.Native.Nat.{ℕ, suc, _+_, _*_, _≤_, _<_}
 use mathlib.Core.Path.{_≡_}
 use mathlib.Core.List.{List, [], _∷_, map}
 use lib.ListN.{getD}
@@ -79,4 +80,7 @@ dartNo ℓ i = dartBy ℓ i (ℓ i)
 pub record Balance (ℓ : ℕ → Letter) (N : ℕ) : Type 0 where
   pub trees : Balanced (treeWord ℓ) N
   pub chords : Balanced (chordWord ℓ) N
-  pub lower : (i : ℕ) → i < N → ℓ i ≡ second → (a : ℕ) (s : List ℕ) → chordStack ℓ i ≡ a ∷ s → vertexNo ℓ i < vertexNo ℓ a
+  pub lower : (i : ℕ) → i < N → ℓ i ≡ second → (a : ℕ) (s : List ℕ) → chordStack ℓ i ≡ a ∷ s → vertexNo ℓ i ≤ vertexNo ℓ a
+
+abbrev pub Strict : (ℕ → Letter) → ℕ → Type 0
+Strict ℓ N = (i : ℕ) → i < N → ℓ i ≡ second → (a : ℕ) (s : List ℕ) → chordStack ℓ i ≡ a ∷ s → vertexNo ℓ i < vertexNo ℓ a

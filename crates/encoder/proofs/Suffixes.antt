@@ -21,9 +21,9 @@ pub record Goes (w : List Letter) : Type 0 where
   pub here : ℕ
   pub below : List ℕ
   pub opens : List ℕ
-  pub well : nested n here below opens w ≡ true
+  pub well : nested false n here below opens w ≡ true
 
-rest : (l : Letter) (w : List Letter) (n here : ℕ) (below opens : List ℕ) → nested n here below opens (l ∷ w) ≡ true → Goes w
+rest : (l : Letter) (w : List Letter) (n here : ℕ) (below opens : List ℕ) → nested false n here below opens (l ∷ w) ≡ true → Goes w
 unfolding nested
 rest down w n here below opens e = record { n = suc n; here = n; below = here ∷ below; opens = opens; well = e }
 rest up w n here [] opens e = absurd (false≢true e)

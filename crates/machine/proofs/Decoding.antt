@@ -171,7 +171,7 @@ module _ (k : ℕ) (bits labels : List ℕ) (w : List Letter) (low : allBelow 2 
   unfolding start wordLabels
   decoded-labels = sym (from-start .labels-are)
 
-  decoded-nests : nested 1 0 [] [] w ≡ true
+  decoded-nests : nested false 1 0 [] [] w ≡ true
   unfolding start
   decoded-nests = from-start .nests
 

@@ -105,7 +105,7 @@ module _ (m : ℕ) (s : Machine) (w : List Letter) (i : Within m s) where
   pub on-back : Reads s (first ∷ w) → Onward m s (first ∷ []) w
   unfolding nested ends endsOne startsSecond wordBits
   on-back r =
-      let e : nested (s .n) (s .here) (s .below) (s .here ∷ s .opens) w ≡ true = r .nests in
+      let e : nested false (s .n) (s .here) (s .below) (s .here ∷ s .opens) w ≡ true = r .nests in
       let l = head (ends w .seconds) in
       record {
         next = backed s l (wordBits false w) (ends w .labels);
@@ -126,7 +126,7 @@ module _ (m : ℕ) (s : Machine) (w : List Letter) (i : Within m s) where
   pub on-tree : startsUp w ≡ false → Reads s (down ∷ w) → Onward m s (down ∷ []) w
   unfolding nested ends endsOne startsSecond wordBits
   on-tree u r =
-      let e : nested (suc (s .n)) (s .n) (s .here ∷ s .below) (s .opens) w ≡ true = r .nests in
+      let e : nested false (suc (s .n)) (s .n) (s .here ∷ s .below) (s .opens) w ≡ true = r .nests in
       let z = no-second (suc (s .n)) (s .n) (s .here ∷ s .below) (s .opens) w (head-low (s .n) (s .opens) (i .opens-in)) e in
       let g = bits-on (suc (s .n)) (s .n) (s .here) (s .below) (s .opens) w e u z in
       let l = head (ends w .ups) in
@@ -170,7 +170,7 @@ encoded m s (up ∷ w) i r = let o = on-up m s w i r in reads-on m s (up ∷ [])
 encoded m s (first ∷ w) i r = let o = on-back m s w i r in reads-on m s (first ∷ []) w o (encoded m (o .next) w (o .within) (o .reads))
 encoded m s (second ∷ w) i r = let o = on-second m s w i r in reads-on m s (second ∷ []) w o (encoded m (o .next) w (o .within) (o .reads))
 
-pub starts-reading : (w : List Letter) → nested 1 0 [] [] w ≡ true → Reads (start (wordBits false w) (wordLabels w)) w
+pub starts-reading : (w : List Letter) → nested false 1 0 [] [] w ≡ true → Reads (start (wordBits false w) (wordLabels w)) w
 unfolding start wordLabels
 starts-reading w e = record {
   nests = e;

@@ -26,7 +26,7 @@ pub head-tail : (xs : List ℕ) (k : ℕ) → length xs ≡ suc k → head xs �
 head-tail [] k e = absurd (omega arith)
 head-tail (x ∷ xs) k e = refl
 
-pub ups-count : (n here : ℕ) (below opens : List ℕ) (w : List Letter) → nested n here below opens w ≡ true → length (ends w .ups) ≡ length below
+pub ups-count : (n here : ℕ) (below opens : List ℕ) (w : List Letter) → nested false n here below opens w ≡ true → length (ends w .ups) ≡ length below
 unfolding nested ends endsOne
 ups-count n here [] [] [] e = refl
 ups-count n here [] (o ∷ os) [] e = absurd (false≢true e)
@@ -38,7 +38,7 @@ ups-count n here below opens (first ∷ w) e = ups-count n here below (here ∷ 
 ups-count n here below [] (second ∷ w) e = absurd (false≢true e)
 ups-count n here below (o ∷ os) (second ∷ w) e = ups-count n here below os w (second-rest n here below o os w e .1)
 
-pub seconds-count : (n here : ℕ) (below opens : List ℕ) (w : List Letter) → nested n here below opens w ≡ true
+pub seconds-count : (n here : ℕ) (below opens : List ℕ) (w : List Letter) → nested false n here below opens w ≡ true
     → length (ends w .seconds) ≡ length opens
 unfolding nested ends endsOne
 seconds-count n here [] [] [] e = refl
@@ -51,7 +51,7 @@ seconds-count n here below opens (first ∷ w) e = length-tail (ends w .seconds)
 seconds-count n here below [] (second ∷ w) e = absurd (false≢true e)
 seconds-count n here below (o ∷ os) (second ∷ w) e = ap suc (seconds-count n here below os w (second-rest n here below o os w e .1))
 
-pub bits-count : (b : Bool) (n here : ℕ) (below opens : List ℕ) (w : List Letter) → nested n here below opens w ≡ true
+pub bits-count : (b : Bool) (n here : ℕ) (below opens : List ℕ) (w : List Letter) → nested false n here below opens w ≡ true
     → length (wordBits b w) + length opens ≡ length w
 unfolding nested wordBits
 bits-count b n here [] [] [] e = refl
@@ -65,7 +65,7 @@ bits-count b n here below [] (second ∷ w) e = absurd (false≢true e)
 bits-count b n here below (o ∷ os) (second ∷ w) e =
     let h = bits-count false n here below os w (second-rest n here below o os w e .1) in omega arith
 
-pub letters-count : (n here : ℕ) (below opens : List ℕ) (w : List Letter) → nested n here below opens w ≡ true
+pub letters-count : (n here : ℕ) (below opens : List ℕ) (w : List Letter) → nested false n here below opens w ≡ true
     → length w ≡ 2 * length (wordLabels w) + (length below + length opens)
 unfolding nested wordLabels ends endsOne
 letters-count n here [] [] [] e = refl

@@ -20,35 +20,35 @@ use Rattle.model.specs.Traversal.{Letter, down, up, first, second}
 use Rattle.words.specs.Word.{nested, startsUp, startsSecond, head, wordBits}
 
 module _ (n here : ℕ) where
-  pub nest-end : (below opens : List ℕ) → nested n here below opens [] ≡ true → (below ≡ []) × (opens ≡ [])
+  pub nest-end : (below opens : List ℕ) → nested false n here below opens [] ≡ true → (below ≡ []) × (opens ≡ [])
   unfolding nested
   nest-end [] [] e = (refl, refl)
   nest-end [] (o ∷ os) e = absurd (false≢true e)
   nest-end (v ∷ vs) opens e = absurd (false≢true e)
 
-  pub nest-up : (below opens : List ℕ) (w : List Letter) → nested n here below opens (up ∷ w) ≡ true
-      → (v : ℕ) × (vs : List ℕ) × (below ≡ v ∷ vs) × (nested n v vs opens w ≡ true)
+  pub nest-up : (below opens : List ℕ) (w : List Letter) → nested false n here below opens (up ∷ w) ≡ true
+      → (v : ℕ) × (vs : List ℕ) × (below ≡ v ∷ vs) × (nested false n v vs opens w ≡ true)
   unfolding nested
   nest-up [] opens w e = absurd (false≢true e)
   nest-up (v ∷ vs) opens w e = (v, vs, refl, e)
 
-  pub second-rest : (below : List ℕ) (o : ℕ) (os : List ℕ) (w : List Letter) → nested n here below (o ∷ os) (second ∷ w) ≡ true
-      → (here < o) × (nested n here below os w ≡ true)
+  pub second-rest : (below : List ℕ) (o : ℕ) (os : List ℕ) (w : List Letter) → nested false n here below (o ∷ os) (second ∷ w) ≡ true
+      → (here < o) × (nested false n here below os w ≡ true)
   unfolding nested
-  second-rest below o os w e = let r = and-eq-true-iff (ltb here o) (nested n here below os w) .0 e in (ltb-true here o (r .0), r .1)
+  second-rest below o os w e = let r = and-eq-true-iff (ltb here o) (nested false n here below os w) .0 e in (ltb-true here o (r .0), r .1)
 
-  pub second-nests : (below : List ℕ) (o : ℕ) (os : List ℕ) (w : List Letter) → here < o → nested n here below os w ≡ true
-      → nested n here below (o ∷ os) (second ∷ w) ≡ true
+  pub second-nests : (below : List ℕ) (o : ℕ) (os : List ℕ) (w : List Letter) → here < o → nested false n here below os w ≡ true
+      → nested false n here below (o ∷ os) (second ∷ w) ≡ true
   unfolding nested
-  second-nests below o os w h e = and-eq-true-iff (ltb here o) (nested n here below os w) .1 (lt-ltb here o h, e)
+  second-nests below o os w h e = and-eq-true-iff (ltb here o) (nested false n here below os w) .1 (lt-ltb here o h, e)
 
-  pub nest-second : (below opens : List ℕ) (w : List Letter) → nested n here below opens (second ∷ w) ≡ true
-      → (o : ℕ) × (os : List ℕ) × (opens ≡ o ∷ os) × (here < o) × (nested n here below os w ≡ true)
+  pub nest-second : (below opens : List ℕ) (w : List Letter) → nested false n here below opens (second ∷ w) ≡ true
+      → (o : ℕ) × (os : List ℕ) × (opens ≡ o ∷ os) × (here < o) × (nested false n here below os w ≡ true)
   unfolding nested
   nest-second below [] w e = absurd (false≢true e)
   nest-second below (o ∷ os) w e = let r = second-rest below o os w e in (o, os, refl, r .0, r .1)
 
-  pub no-second : (below opens : List ℕ) (w : List Letter) → head opens ≤ here → nested n here below opens w ≡ true → startsSecond w ≡ 0
+  pub no-second : (below opens : List ℕ) (w : List Letter) → head opens ≤ here → nested false n here below opens w ≡ true → startsSecond w ≡ 0
   unfolding nested startsSecond
   no-second below opens [] h e = refl
   no-second below opens (down ∷ w) h e = refl
@@ -57,7 +57,7 @@ module _ (n here : ℕ) where
   no-second below [] (second ∷ w) h e = absurd (false≢true e)
   no-second below (o ∷ os) (second ∷ w) h e = let l = second-rest below o os w e .0 in absurd (omega arith)
 
-  pub bits-on : (v : ℕ) (vs opens : List ℕ) (w : List Letter) → nested n here (v ∷ vs) opens w ≡ true → startsUp w ≡ false → startsSecond w ≡ 0
+  pub bits-on : (v : ℕ) (vs opens : List ℕ) (w : List Letter) → nested false n here (v ∷ vs) opens w ≡ true → startsUp w ≡ false → startsSecond w ≡ 0
       → (bs : List ℕ) × (wordBits true w ≡ 1 ∷ bs) × (wordBits false w ≡ 1 ∷ bs)
   unfolding nested startsUp startsSecond wordBits
   bits-on v vs opens [] e u z = absurd (false≢true e)

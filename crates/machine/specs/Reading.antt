@@ -12,7 +12,7 @@ use Rattle.model.specs.Traversal.{Letter}
 use Rattle.words.specs.Word.{nested, startsSecond, ends, wordBits, Found, Machine, decode}
 
 pub record Reads (s : Machine) (w : List Letter) : Type 0 where
-  pub nests : nested (s .n) (s .here) (s .below) (s .opens) w ≡ true
+  pub nests : nested false (s .n) (s .here) (s .below) (s .opens) w ≡ true
   pub ups-are : s .ups ≡ ends w .ups
   pub seconds-are : s .seconds ≡ ends w .seconds
   pub label-is : s .label ≡ startsSecond w

@@ -3,7 +3,8 @@
 --   same-vertex        positions at one vertex have one entry
 --   entered-vertex     the position where a vertex was entered lies at it
 --   same-entry         positions with one entry lie at one vertex
---   second-descends    a second that is not of a loop lies at a vertex entered before that of its first
+--   second-lower       a second lies at a vertex entered no later than that of its first
+--   second-descends    and entered before it, if the edge is no loop
 use Prim.Native.Nat.{ℕ, zero, suc, _≤_, _<_}
 use native.Mathlib.Nat.{le-refl, le-of-lt}
 use native.Mathlib.Omega.{arith}
@@ -108,14 +109,18 @@ module _ (p : Plan) (t : Toured p) (fits : dartCountFits (darts p) ≡ true) (pe
       omega (arith, r .2))
       (entered-cases p t fits perm j)
 
-  pub second-descends : (j : ℕ) → j < darts p → letterOf p j ≡ second
-      → vertexOf (p .rotation) (dartAt p (mateOf p j)) ≢ vertexOf (p .rotation) (dartAt p j) → enteredAt p j < enteredAt p (mateOf p j)
-  second-descends j h e apart =
+  pub second-lower : (j : ℕ) → j < darts p → letterOf p j ≡ second → enteredAt p j ≤ enteredAt p (mateOf p j)
+  second-lower j h e =
       let i = mateOf p j in
       let hi = mate-bound p t fits j h in
       let (q, l, v) = t .old i hi (mate-letter p t j h second e) in
       let opp : opposite (dartAt p i) ≡ dartAt p j = sym (mate-dart p t fits i hi) ∙ ap (dartAt p) (mate-back p t fits j h) in
       let same = same-vertex q j (omega arith) h (v ∙ ap (vertexOf (p .rotation)) opp) in
-      le-split (entered-between q i j l (le-of-lt (mate-before p t fits j h (ap opens e))) same)
-      (λ s. absurd (apart (same-entry i j hi h (sym s))))
+      entered-between q i j l (le-of-lt (mate-before p t fits j h (ap opens e))) same
+
+  pub second-descends : (j : ℕ) → j < darts p → letterOf p j ≡ second
+      → vertexOf (p .rotation) (dartAt p (mateOf p j)) ≢ vertexOf (p .rotation) (dartAt p j) → enteredAt p j < enteredAt p (mateOf p j)
+  second-descends j h e apart =
+      le-split (second-lower j h e)
+      (λ s. absurd (apart (same-entry (mateOf p j) j (mate-bound p t fits j h) h (sym s))))
       (λ s. s)

@@ -4,7 +4,8 @@
 --   downsBefore p i       how many downs stand before position i
 --   last-rises            more downs stand before the last open down than before what comes earlier
 --   entered-top           the last open down is on top of the stack of open tree edges
---   word-nested           the word is nested
+--   word-nested           the word is nested, if no edge is a loop
+--   word-nested-loops     it is where loops are taken
 use Prim.Native.Nat.{ℕ, zero, suc, _≤_, _<_}
 use native.Mathlib.Nat.{not-suc-le-zero, le-of-suc-le-suc, le-of-lt, le-refl}
 use native.Mathlib.Omega.{arith}
@@ -13,7 +14,7 @@ use mathlib.Core.Bool.{Bool, true, false, _&&_, cond}
 use mathlib.Core.List.{List, [], _∷_, map}
 use lib.Dec.{leb}
 use lib.ListN.{drop}
-use borrow.Author.Tests.{lt-ltb, lt-leb}
+use borrow.Author.Tests.{lt-ltb, lt-leb, le-leb}
 use Rattle.model.specs.Numbers.{tick, count}
 use Rattle.model.specs.Map.{Plan, darts, dartCountFits}
 use Rattle.model.specs.Traversal.{Letter, down, up, first, second, opens, word}
@@ -21,7 +22,7 @@ use Rattle.model.proofs.Booleans.{and-left, both}
 use Rattle.orbits.specs.Stack.{stack, keep, pending}
 use Rattle.orbits.proofs.Tally.{count-grows, count-below}
 use Rattle.orbits.proofs.Order.{from-end}
-use Rattle.words.specs.Word.{nested}
+use Rattle.words.specs.Word.{closes, nested}
 use Rattle.words.specs.Toured.{letterOf, mateOf, isTree, Toured, Bracketed}
 use Rattle.words.specs.Entered.{isDown, stillOpen, lastOpen, enteredAt}
 use Rattle.words.proofs.Positions.{mate-before, word-left, word-end}
@@ -102,22 +103,19 @@ module _ (p : Plan) (t : Toured p) (b : Bracketed p) (fits : dartCountFits (dart
   abbrev begun : List ℕ → List ℕ
   begun s = map (λ a. downsBefore p (enteredAt p a)) s
 
-  abbrev Nests : ℕ → Type 0
-  Nests i = nested (suc (downsBefore p i)) (here (openTrees p i)) (below (openTrees p i)) (begun (openChords p i)) (drop i (word p)) ≡ true
+  abbrev Nests : Bool → ℕ → Type 0
+  Nests loops i =
+      nested loops (suc (downsBefore p i)) (here (openTrees p i)) (below (openTrees p i)) (begun (openChords p i)) (drop i (word p)) ≡ true
 
-  module _ (descends : (j : ℕ) → j < darts p → letterOf p j ≡ second → enteredAt p j < enteredAt p (mateOf p j)) where
-    -- a second ends at a vertex with a lower number
-    lower : (i : ℕ) → i < darts p → letterOf p i ≡ second → here (openTrees p i) < downsBefore p (enteredAt p (mateOf p i))
-    unfolding enteredAt
-    lower i h e =
-        let at = entered-top i (le-of-lt h) in
-        last-rises p (mateOf p i) (mateOf p i) (top (openTrees p i))
-        (subst (λ (x : ℕ). x < enteredAt p (mateOf p i)) at (descends i h e))
+  -- where a second ends: at a vertex with a lower number than where its edge began, or, a loop's, at its own
+  abbrev Lower : Bool → Type 0
+  Lower loops = (i : ℕ) → i < darts p → letterOf p i ≡ second → closes loops (here (openTrees p i)) (downsBefore p (enteredAt p (mateOf p i))) ≡ true
 
-    nests-step : (i : ℕ) → i < darts p → Nests (suc i) → Nests i
+  module _ (loops : Bool) (lower : Lower loops) where
+    nests-step : (i : ℕ) → i < darts p → Nests loops (suc i) → Nests loops i
     unfolding nested
     nests-step i h ih =
-        ap (nested (suc (downsBefore p i)) (here (openTrees p i)) (below (openTrees p i)) (begun (openChords p i))) (word-left p t i h)
+        ap (nested loops (suc (downsBefore p i)) (here (openTrees p i)) (below (openTrees p i)) (begun (openChords p i))) (word-left p t i h)
         ∙ go (letterOf p i) refl
       where
         n : ℕ
@@ -132,26 +130,38 @@ module _ (p : Plan) (t : Toured p) (b : Bracketed p) (fits : dartCountFits (dart
         C : List ℕ
         C = openChords p i
 
-        go : (l : Letter) → letterOf p i ≡ l → nested n (here T) (below T) (begun C) (l ∷ rest) ≡ true
+        go : (l : Letter) → letterOf p i ≡ l → nested loops n (here T) (below T) (begun C) (l ∷ rest) ≡ true
         go down e = let (u, v) = after-down p t b fits i h e in rw (u, v, downs-down p i (ap isDown e)) at ih
         go up e =
             let (u, v) = after-up p t b fits i h e in
             let r = rw (v, downs-other p i (ap isDown e)) at ih in
-            ap (λ (s : List ℕ). nested n (here s) (below s) (begun C) (up ∷ rest)) u ∙ r
+            ap (λ (s : List ℕ). nested loops n (here s) (below s) (begun C) (up ∷ rest)) u ∙ r
         go first e =
             let (u, v) = after-first p t b fits i h e in
             let r = rw (u, v, downs-other p i (ap isDown e)) at ih in
-            ap (λ (x : ℕ). nested n (here T) (below T) (downsBefore p x ∷ begun C) rest) (sym (entered-top i (le-of-lt h))) ∙ r
+            ap (λ (x : ℕ). nested loops n (here T) (below T) (downsBefore p x ∷ begun C) rest) (sym (entered-top i (le-of-lt h))) ∙ r
         go second e =
             let (u, v) = after-second p t b fits i h e in
             let r = rw (u, downs-other p i (ap isDown e)) at ih in
-            ap (λ (s : List ℕ). nested n (here T) (below T) (begun s) (second ∷ rest)) v
-            ∙ both (lt-ltb (here T) (downsBefore p (enteredAt p (mateOf p i))) (lower i h e)) r
+            ap (λ (s : List ℕ). nested loops n (here T) (below T) (begun s) (second ∷ rest)) v ∙ both (lower i h e) r
 
-    nests-end : Nests (darts p)
+    nests-end : Nests loops (darts p)
     unfolding nested
     nests-end = rw (trees-end p t b fits, chords-end p t b fits, word-end p t)
 
-    pub word-nested : nested 1 0 [] [] (word p) ≡ true
+    nests-whole : nested loops 1 0 [] [] (word p) ≡ true
     unfolding held stack downsBefore count
-    word-nested = from-end Nests (darts p) nests-end nests-step 0 (omega arith)
+    nests-whole = from-end (Nests loops) (darts p) nests-end nests-step 0 (omega arith)
+
+  pub word-nested : ((j : ℕ) → j < darts p → letterOf p j ≡ second → enteredAt p j < enteredAt p (mateOf p j)) → nested false 1 0 [] [] (word p) ≡ true
+  unfolding enteredAt
+  word-nested descends =
+      nests-whole false (λ i h e. lt-ltb _ _ (last-rises p (mateOf p i) (mateOf p i) _
+      (subst (λ (x : ℕ). x < enteredAt p (mateOf p i)) (entered-top i (le-of-lt h)) (descends i h e))))
+
+  pub word-nested-loops : ((j : ℕ) → j < darts p → letterOf p j ≡ second → enteredAt p j ≤ enteredAt p (mateOf p j))
+      → nested true 1 0 [] [] (word p) ≡ true
+  unfolding downsBefore
+  word-nested-loops descends =
+      nests-whole true (λ i h e. le-leb _ _ (count-grows (λ a. isDown (letterOf p a)) _ _
+      (subst (λ (x : ℕ). x ≤ enteredAt p (mateOf p i)) (entered-top i (le-of-lt h)) (descends i h e))))

@@ -1,7 +1,8 @@
 -- The contour word: the letters of a plan's traversal. The record, the standard plan and fitness can all be read off it.
 --
---   nested n here below opens w   the word w goes on well from this state: n vertices entered, `here` the present one, `below` those that it hangs from,
---                         `opens` the vertices where edges outside the tree are open, the last opened first
+--   closes loops here o   an edge outside the tree that began at vertex o may end at `here`; `loops` says whether loops are taken
+--   nested loops n here below opens w   the word w goes on well from this state: n vertices entered, `here` the present one, `below` those that it
+--                         hangs from, `opens` the vertices where edges outside the tree are open, the last opened first
 --   startsUp w            w begins with up
 --   bareLeaf w            some vertex but the root has degree one: a down stands right before an up
 --   valid k w             w is the word of a plan that is fit for kind k
@@ -29,7 +30,7 @@
 use Prim.Native.Nat.{ℕ, zero, suc, _+_, _*_}
 use mathlib.Core.Bool.{Bool, true, false, not, _&&_, _||_, cond}
 use mathlib.Core.List.{List, [], _∷_, _++_}
-use lib.Dec.{eqb, ltb}
+use lib.Dec.{eqb, ltb, leb}
 use lib.ListN.{length, set, replicate}
 use Rattle.model.specs.Map.{Plan, dartCountFits, isKind, opposite}
 use Rattle.model.specs.Traversal.{Letter, down, up, first, second}
@@ -37,17 +38,22 @@ use Rattle.model.specs.LabelledTree.{star}
 
 -- ---- which words are words of fit plans
 
--- An edge outside the tree ends at a proper ancestor of the vertex where it began: one that was entered earlier and is not left yet.
-unfoldable pub nested : ℕ → ℕ → List ℕ → List ℕ → List Letter → Bool
-nested n here [] [] [] = true
-nested n here [] (o ∷ os) [] = false
-nested n here (b ∷ bs) opens [] = false
-nested n here below opens (down ∷ w) = nested (suc n) n (here ∷ below) opens w
-nested n here [] opens (up ∷ w) = false
-nested n here (b ∷ bs) opens (up ∷ w) = nested n b bs opens w
-nested n here below opens (first ∷ w) = nested n here below (here ∷ opens) w
-nested n here below [] (second ∷ w) = false
-nested n here below (o ∷ os) (second ∷ w) = ltb here o && nested n here below os w
+-- at an earlier vertex, or, where loops are taken, at o itself
+abbrev pub closes : Bool → ℕ → ℕ → Bool
+closes true here o = leb here o
+closes false here o = ltb here o
+
+-- An edge outside the tree ends at an ancestor of the vertex where it began: one that was entered earlier and is not left yet.
+unfoldable pub nested : Bool → ℕ → ℕ → List ℕ → List ℕ → List Letter → Bool
+nested loops n here [] [] [] = true
+nested loops n here [] (o ∷ os) [] = false
+nested loops n here (b ∷ bs) opens [] = false
+nested loops n here below opens (down ∷ w) = nested loops (suc n) n (here ∷ below) opens w
+nested loops n here [] opens (up ∷ w) = false
+nested loops n here (b ∷ bs) opens (up ∷ w) = nested loops n b bs opens w
+nested loops n here below opens (first ∷ w) = nested loops n here below (here ∷ opens) w
+nested loops n here below [] (second ∷ w) = false
+nested loops n here below (o ∷ os) (second ∷ w) = closes loops here o && nested loops n here below os w
 
 unfoldable pub startsUp : List Letter → Bool
 startsUp [] = false
@@ -64,7 +70,7 @@ bareLeaf (first ∷ w) = bareLeaf w
 bareLeaf (second ∷ w) = bareLeaf w
 
 unfoldable pub valid : ℕ → List Letter → Bool
-valid k w = isKind k && (dartCountFits (length w) && (nested 1 0 [] [] w && not (eqb k 1 && bareLeaf w)))
+valid k w = isKind k && (dartCountFits (length w) && (nested false 1 0 [] [] w && not (eqb k 1 && bareLeaf w)))
 
 -- ---- labels and bits
 
