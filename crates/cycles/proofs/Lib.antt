@@ -1,5 +1,5 @@
-pub mod Steps
-pub mod Naming
-pub mod Following
-pub mod Turns
+mod Steps
+mod Naming
+mod Following
+mod Turns
 pub mod Names

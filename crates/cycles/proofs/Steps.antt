@@ -1,41 +1,22 @@
--- The step round a vertex and the step along a face are permutations of the darts.
+-- The step round a vertex and the step along a face.
 --
---   next-perm, face-perm, step-perm     the steps of a rotation
---   step-across, step-round             a step by the entry that it reads
-use mathlib.Core.Path.{_≡_, sym, ap, _∙_}
+--   step-perm                  either is a permutation of the darts
+--   step-across, step-round    a step by the entry that it reads
+use mathlib.Core.Path.{_≡_}
 use mathlib.Core.Bool.{Bool, true, false}
 use mathlib.Core.List.{List}
-use Prim.Native.Nat.{ℕ, _%_}
+use Prim.Native.Nat.{ℕ}
 use lib.ListN.{length, getD}
-use Rattle.model.specs.Numbers.{allBelow, distinct, isPermutation}
+use Rattle.model.specs.Numbers.{isPermutation}
 use Rattle.model.specs.Map.{opposite, next, faceNext, dartCountFits}
-use Rattle.model.proofs.Booleans.{and-left, and-right}
-use Rattle.model.proofs.Fitness.{opposite-opposite, opposite-bound, below-all, distinct-at, count-parts}
+use Rattle.model.proofs.Fitness.{count-parts}
 use Rattle.orbits.specs.Permutation.{Perm}
+use Rattle.orbits.proofs.Maps.{next-perm, face-perm}
 use Rattle.cycles.specs.Cycles.{stepOf}
 
-opposite-inj : (i j : ℕ) → opposite i ≡ opposite j → i ≡ j
-opposite-inj i j e = sym (opposite-opposite i) ∙ ap opposite e ∙ opposite-opposite j
-
-module _ (rot : List ℕ) (entries : isPermutation rot ≡ true) where
-  pub next-perm : Perm (length rot) (next rot)
-  unfolding isPermutation next
-  next-perm = record {
-    bound = below-all (length rot) rot (and-left (allBelow (length rot) rot) (distinct rot) entries);
-    inj = distinct-at rot (and-right (allBelow (length rot) rot) (distinct rot) entries);
-  }
-
-  pub face-perm : length rot % 2 ≡ 0 → Perm (length rot) (faceNext rot)
-  unfolding faceNext
-  face-perm even = record {
-    bound = λ i h. next-perm .bound (opposite i) (opposite-bound (length rot) i even h);
-    inj = λ i j hi hj e. opposite-inj i j
-        (next-perm .inj (opposite i) (opposite j) (opposite-bound (length rot) i even hi) (opposite-bound (length rot) j even hj) e);
-  }
-
-  pub step-perm : (across : Bool) → dartCountFits (length rot) ≡ true → Perm (length rot) (stepOf rot across)
-  step-perm false size = next-perm
-  step-perm true size = face-perm (count-parts (length rot) size .1)
+pub step-perm : (rot : List ℕ) → isPermutation rot ≡ true → dartCountFits (length rot) ≡ true → (across : Bool) → Perm (length rot) (stepOf rot across)
+step-perm rot entries size false = next-perm rot entries
+step-perm rot entries size true = face-perm rot entries (count-parts (length rot) size .1)
 
 pub step-across : (rot : List ℕ) (across : Bool) (o d : ℕ) → across ≡ true → o ≡ opposite d → getD rot o 0 ≡ stepOf rot across d
 unfolding faceNext next

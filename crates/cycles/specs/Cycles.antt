@@ -1,11 +1,11 @@
 -- What naming the cycles of a rotation or of its face walk leaves behind.
 --
 --   stepOf rot across    the step round a vertex, or along a face
---   Named             each dart's cycle is named by its least dart, and the cycles are counted
+--   Named                each dart's cycle is named by its least dart, and the cycles are counted
 --   unnamed              no cycle's name
 --   nameBelow f n d x    the name of x's cycle if it is below d; unnamed otherwise
 --   namesBelow f n d     these names of the darts below n
---   Begun                from place a on stand the names below d, and d is the least dart of its cycle
+--   HalfNamed            from place a on stand the names below d, and d is the least dart of its cycle
 use Prim.Native.Nat.{ℕ, _+_, _≤_, _<_}
 use mathlib.Core.Path.{_≡_}
 use mathlib.Core.Bool.{Bool, true, false, cond}
@@ -36,7 +36,7 @@ nameBelow f n d x = cond (ltb (least f n x) d) (least f n x) unnamed
 unfoldable pub namesBelow : (ℕ → ℕ) → ℕ → ℕ → List ℕ
 namesBelow f n d = tabulate (nameBelow f n d) 0 n
 
-pub record Begun (rot : List ℕ) (across : Bool) (a d : ℕ) (w : List ℕ) : Type 0 where
+pub record HalfNamed (rot : List ℕ) (across : Bool) (a d : ℕ) (w : List ℕ) : Type 0 where
   pub size : dartCountFits (length rot) ≡ true
   pub entries : isPermutation rot ≡ true
   pub below : d < length rot

@@ -7,10 +7,10 @@ ghost use lib.ListN.{length};
 ghost use Rattle.model.specs.Numbers.{isPermutation};
 ghost use Rattle.model.specs.Map.{opposite, dartCountFits};
 ghost use Rattle.work.specs.Area.{placed};
-ghost use Rattle.cycles.specs.Cycles.{stepOf, Named, namesBelow, Begun};
+ghost use Rattle.cycles.specs.Cycles.{stepOf, Named, namesBelow, HalfNamed};
 
 // No cycle's name: names are below 8,192.
-pub const UNNAMED: u16 = 65535;
+const UNNAMED: u16 = 65535;
 
 // The other dart of d's edge.
 pub fn other(d: usize) -> usize
@@ -34,7 +34,7 @@ fn step(order: &[u16], across: bool, d: usize) -> usize
 
 // Names every dart of the cycle of start, which is its least.
 fn follow(order: &[u16], across: bool, w: &mut [u16], a: usize, start: usize)
-    requires { ⌜ Begun (now order) across a start (now w) ⌝ }
+    requires { ⌜ HalfNamed (now order) across a start (now w) ⌝ }
     ensures { λ _. ⌜ now (w .exit) ≡ placed a (namesBelow (stepOf (now (order .entry)) across) (length (now (order .entry))) (start + 1)) (now (w .entry)) ⌝ }
 {
     let name = start as u16;

@@ -1,12 +1,11 @@
 use mathlib.Core.Path.{_≡_}
-use Prim.Native.Nat.{_+_, _<_}
+use Prim.Native.Nat.{_<_}
 use native.Mathlib.Omega.{arith}
 use lib.ListN.{length}
 use Rattle.model.proofs.Fitness.{count-parts}
 use Rattle.cycles.specs.Cycles.{stepOf}
-use Rattle.cycles.proofs.Steps.{step-perm}
-use Rattle.cycles.proofs.Naming.{free, free-set}
-use Rattle.cycles.proofs.Following.{Following, following-start, following-step, following-end}
+use Rattle.cycles.proofs.Naming.{free}
+use Rattle.cycles.proofs.Following.{Following, following-start, following-less, following-step, following-end}
 use borrow.Author.Needs.{needs}
 use Rattle.cycles.proofs.follow.Statement.{statement}
 use Rattle.cycles.proofs.follow.Tie as tie
@@ -24,36 +23,19 @@ cast-name c =
     omega arith
 
 loop-holds : tie.Need-loop-holds Inv-loop μ-loop
-loop-holds c =
-    let st = c .before .before in
-    let n = count-parts _ (st .pre .size) in
-    let perm = step-perm (st .args .order .now) (st .pre .entries) (st .args .across) (st .pre .size) in
-    (search needs, search needs, following-start _ _ perm (n .2) _ (st .pre .below) _ _ (st .pre .fits) (st .pre .names) (st .pre .own))
+loop-holds c = (search needs, search needs, following-start (c .before .before .pre))
 
 loop-less : tie.Need-loop-less Inv-loop μ-loop
 loop-less c =
-    let at = c .before .before .before .loop in
-    let st = c .before .before .before .before .before .before in
-    let n = count-parts _ (st .pre .size) in
-    let z = free-set (at .w) (st .args .a + at .x) (st .args .start) (omega arith) (c .before .if1 .taken) (λ e. omega arith) in
-    omega arith
+    following-less (c .before .before .before .before .before .before .pre) (c .before .before .before .loop .inv .2) (c .before .if1 .taken)
 
 loop-again : tie.Need-loop-again Inv-loop μ-loop
 loop-again c =
-    let at = c .before .before .before .loop in
-    let st = c .before .before .before .before .before .before in
-    let n = count-parts _ (st .pre .size) in
-    let perm = step-perm (st .args .order .now) (st .pre .entries) (st .args .across) (st .pre .size) in
-    let s = following-step _ _ perm (n .2) _ (st .pre .below) _ _ (st .pre .fits) _ _ (at .inv .2) in
+    let s = following-step (c .before .before .before .before .before .before .pre) (c .before .before .before .loop .inv .2) in
     rw (c .step .ensures) (s .naming .here, s .as-long, s)
 
 returns : tie.Need-returns Inv-loop μ-loop
-returns c =
-    let at = c .before .before .loop in
-    let st = c .before .before .before .before .before in
-    let n = count-parts _ (st .pre .size) in
-    let perm = step-perm (st .args .order .now) (st .pre .entries) (st .args .across) (st .pre .size) in
-    following-end _ _ perm (n .2) _ (st .pre .below) _ _ (st .pre .fits) _ _ (at .inv .2) (c .if1 .left)
+returns c = following-end (c .before .before .before .before .before .pre) (c .before .before .loop .inv .2) (c .if1 .left)
 
 pub follow-spec : {M : Type 1} → statement M
 follow-spec =

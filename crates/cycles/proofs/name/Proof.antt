@@ -3,10 +3,8 @@ use mathlib.Core.Logic.{⊎-elim}
 use Prim.Native.Nat.{_-_, _≤_}
 use native.Mathlib.Omega.{arith}
 use lib.ListN.{length}
-use Rattle.model.proofs.Fitness.{count-parts}
 use Rattle.cycles.specs.Cycles.{stepOf}
-use Rattle.cycles.proofs.Steps.{step-perm}
-use Rattle.cycles.proofs.Turns.{Half, half-count, half-start, ready-names, ready-own, half-new, half-old, half-end}
+use Rattle.cycles.proofs.Turns.{Half, half-start, half-end, Turn, turn-count, turn-ready, turn-new, turn-old}
 use borrow.Author.Needs.{needs}
 use Rattle.cycles.proofs.name.Statement.{statement}
 use Rattle.cycles.proofs.name.Tie as tie
@@ -18,48 +16,37 @@ Inv-loop order across w₀ a n count₀ d₀ w count d =
 abbrev μ-loop : tie.MeasureT-loop
 μ-loop order across w₀ a n count₀ d₀ w count d = length order - d
 
+-- dart d has its turn
+turn : (c : tie.After-slice-known3 Inv-loop μ-loop) → let a = c .before .before .before .before .before .before .before .before .before in
+    let at = c .before .before .loop in Turn (a .args .order .now) (a .args .across) (a .args .a) (c .before .before .before .before .before .fill .last .0) (at .d) (at .count) (at .w)
+turn c =
+    let a = c .before .before .before .before .before .before .before .before .before in
+    let at = c .before .before .loop in record {
+      size = a .pre .0;
+      entries = a .pre .1;
+      fits = search needs;
+      below = c .before .loop-test .taken;
+      as-long = at .inv .1;
+      half = at .inv .2;
+    }
+
 loop-holds : tie.Need-loop-holds Inv-loop μ-loop
 loop-holds c =
     let st = c .before .before .before .before .before .before in
     (search needs, search needs, half-start _ _ _ (st .args .w .now) (st .pre .2) _ (c .before .before .fill .ensures))
 
 follow-requires : tie.Need-follow-requires Inv-loop μ-loop
-follow-requires c κs =
-    let at = c .before .before .before .before .loop in
-    let st = c .before .before .before .before .before .before .before .before .before .before .before in
-    let n = count-parts _ (st .pre .0) in
-    let perm = step-perm (st .args .order .now) (st .pre .1) (st .args .across) (st .pre .0) in
-    record {
-      size = st .pre .0;
-      entries = st .pre .1;
-      below = omega arith;
-      fits = omega arith;
-      names = ready-names _ _ _ _ (omega arith) perm (n .2) (at .d) _ (omega arith) (at .w) (at .inv .2);
-      own = ready-own _ _ _ _ (omega arith) perm (n .2) (at .d) _ (omega arith) (at .w) (at .inv .2) (c .before .if1 .taken);
-    }
+follow-requires c κs = turn-ready (turn (c .before .before)) (c .before .if1 .taken)
 
 add-count : tie.Need-add-count Inv-loop μ-loop
-add-count c =
-    let k = half-count _ _ _ _ _ _ _ (c .before .before .before .before .before .before .before .loop .inv .2) in
-    omega arith
+add-count c = let k = turn-count (turn (c .before .before .before .before .before)) in omega arith
 
 loop-again : tie.Need-loop-again Inv-loop μ-loop
 loop-again c =
-    let at = c .before .before .before .loop in
-    let st = c .before .before .before .before .before .before .before .before .before .before in
-    let n = count-parts _ (st .pre .0) in
-    let perm = step-perm (st .args .order .now) (st .pre .1) (st .args .across) (st .pre .0) in
+    let t = turn (c .before) in
     ⊎-elim
-    (λ u. (
-      omega arith,
-      ap length (u .5) ∙ (u .2 .kept .1 .1 .0 ∙ at .inv .1),
-      half-new _ _ _ _ (omega arith) perm (n .2) (at .d) _ (omega arith) (at .w) (at .inv .2) _ _ (u .0 .taken) (u .6) (u .5 ∙ u .2 .ensures),
-    ))
-    (λ v. (
-      omega arith,
-      ap length (v .1) ∙ at .inv .1,
-      half-old _ _ _ _ (omega arith) perm (n .2) (at .d) _ (omega arith) (at .w) (at .inv .2) _ _ (v .0 .left) (v .2) (v .1),
-    ))
+    (λ u. (omega arith, ap length (u .5) ∙ (u .2 .kept .1 .1 .0 ∙ t .as-long), turn-new t (u .0 .taken) (u .6) (u .5 ∙ u .2 .ensures)))
+    (λ v. (omega arith, ap length (v .1) ∙ t .as-long, turn-old t (v .0 .left) (v .2) (v .1)))
     (c .if1 .came)
 
 returns : tie.Need-returns Inv-loop μ-loop
