@@ -1,6 +1,6 @@
-pub mod Suffixes
-pub mod Letters
-pub mod Stacks
-pub mod Labelling
-pub mod Bitting
-pub mod Scanning
+mod Suffixes
+mod Letters
+mod Stacks
+mod Labelling
+mod Bitting
+mod Scanning

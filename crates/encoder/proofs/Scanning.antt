@@ -18,7 +18,7 @@ use Rattle.work.proofs.Stacks.{stack-set}
 use Rattle.work.specs.Letters.{lettersIn}
 use Rattle.work.proofs.Letters.{letters-set-behind}
 use Rattle.encoder.specs.declared.Scan.{Scan}
-use Rattle.encoder.specs.Payload.{Put}
+use Rattle.encoder.specs.Encoded.{Encoded}
 use Rattle.encoder.specs.Passes.{held, Labelled, LabelStepped, downBefore, bitsFrom, Bitted, BitStepped, Scanned, Stepped}
 use Rattle.encoder.proofs.Labelling.{labels-start, labels-end, down-step, up-step, first-step, second-step}
 use Rattle.encoder.proofs.Bitting.{bits-start, bits-end, down-bit, up-bit, first-bits, second-bits}
@@ -38,7 +38,7 @@ scan-next n i w s h at =
     let z : i ≡ i - 1 + 1 = omega arith in
     (omega arith, subst (λ (k : ℕ). Scanned n w k s) z at)
 
-pub scan-end : (n i : ℕ) (w₀ w : List ℕ) (s : Scan) → i ≡ 0 → Scanned n w i s → lettersIn n w ≡ lettersIn n w₀ → length w ≡ length w₀ → Put n w₀ w
+pub scan-end : (n i : ℕ) (w₀ w : List ℕ) (s : Scan) → i ≡ 0 → Scanned n w i s → lettersIn n w ≡ lettersIn n w₀ → length w ≡ length w₀ → Encoded n w₀ w
 scan-end n i w₀ w s done scanned l k =
     let at = subst (λ (j : ℕ). Scanned n w j s) done scanned in
     record { labels = labels-end n _ _ _ w₀ w (at .labelled) l; bits = bits-end n _ w₀ w (at .bitted) l; kept = k }

@@ -8,7 +8,7 @@ ghost use lib.ListN.{length, getD, drop};
 ghost use Rattle.model.specs.LabelledTree.{star};
 ghost use Rattle.words.specs.Word.{valid, startsUp, startsSecond};
 ghost use Rattle.work.specs.Letters.{lettersIn};
-ghost use Rattle.encoder.specs.Payload.{Put};
+ghost use Rattle.encoder.specs.Encoded.{Encoded};
 ghost use Rattle.encoder.specs.Passes.{downBefore, Scanned, Stepped};
 
 // The letters by number, but second: every other code is taken for it.
@@ -183,9 +183,9 @@ fn step(w: &mut [u16], n: usize, i: usize, s: Scan) -> Scan
 }
 
 // The labels of the word at 9n and its tree bits at 8n, in one pass from its end.
-pub fn put(w: &mut [u16], n: usize)
+pub fn encode(w: &mut [u16], n: usize)
     requires { ⌜ (valid 2 (lettersIn n (now w)) ≡ true) × (16 * n ≤ length (now w)) ⌝ }
-    ensures { λ _. ⌜ Put n (now (w .entry)) (now (w .exit)) ⌝ }
+    ensures { λ _. ⌜ Encoded n (now (w .entry)) (now (w .exit)) ⌝ }
 {
     let mut s = Scan {
         labels: n / 2,

@@ -1,2 +1,2 @@
-pub mod Numerals
-pub mod Parts
+mod Numerals
+mod Parts

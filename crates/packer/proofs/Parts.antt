@@ -7,7 +7,7 @@
 --   plain-placed, starred-placed   the payload, by its groups
 --   kind-two           a kind but 1 is 2
 --   plain-bound, starred-bound   the bound of the labels, by kind
---   laid-out           head and payload are the record
+--   whole-record       head and payload are the record
 use Prim.Native.Nat.{ℕ, suc, _+_, _-_, _*_, _/_, _%_, _≤_}
 use native.Mathlib.Omega.{arith}
 use native.Mathlib.Numerals.{add-one}
@@ -26,7 +26,7 @@ use Rattle.work.proofs.Regions.{region-split, placed-none, placed-cons, placed-
 use Rattle.packing.proofs.Packed.{pack-length}
 use Rattle.packing.proofs.Head.{recordLength-range}
 use Rattle.work.specs.Letters.{workBits, workLabels}
-use Rattle.packer.specs.Laying.{LaidOut}
+use Rattle.packer.specs.Packed.{Packed}
 
 pub two-bytes : (at x : ℕ) (out : List ℕ) → at + 2 ≤ length out → set (set out at (x % 256)) (at + 1) (x / 256 % 256) ≡ placed at (le16 x) out
 unfolding le16
@@ -114,11 +114,11 @@ unfolding labelBase
 starred-bound k xs d h = rw (ne-eqb k 1 d) at h
 
 -- the payload is that of kind j, which is k
-pub laid-out : (k j m total : ℕ) (w out mid out′ : List ℕ) → k ≡ j → total ≡ recordLength k m → 1 ≤ m → m ≤ 4096 → recordLength k m ≤ length out
+pub whole-record : (k j m total : ℕ) (w out mid out′ : List ℕ) → k ≡ j → total ≡ recordLength k m → 1 ≤ m → m ≤ 4096 → recordLength k m ≤ length out
     → mid ≡ placed 0 (le16 total ++ (le16 k ++ le16 m)) out → out′ ≡ placed 6 (payload j m (workBits (2 * m) w) (workLabels (2 * m) w)) mid
-    → LaidOut k m w out total out′
+    → Packed k m w out total out′
 unfolding layOut le16
-laid-out k j m total w out mid out′ e t o h l p q =
+whole-record k j m total w out mid out′ e t o h l p q =
     let tail = payload k m (workBits (2 * m) w) (workLabels (2 * m) w) in
     let s = recordLength-range k m o h in
     record {

@@ -1,1 +1,1 @@
-pub mod Laying
+pub mod Packed

@@ -9,7 +9,7 @@ ghost use Rattle.model.specs.Map.{isKind};
 ghost use Rattle.model.specs.Record.{digits, pack, le16, payload, recordLength, labelBase, bytesFor};
 ghost use Rattle.work.specs.Area.{region, placed};
 ghost use Rattle.work.specs.Letters.{workBits, workLabels};
-ghost use Rattle.packer.specs.Laying.{LaidOut};
+ghost use Rattle.packer.specs.Packed.{Packed};
 
 // Digit i of those from a to e, 0 past them.
 fn digit(w: &[u16], a: usize, e: usize, i: usize) -> u16
@@ -38,7 +38,7 @@ fn digits(w: &[u16], a: usize, e: usize, base: u16, width: usize) -> u16
 }
 
 // The digits from a to e, in groups of this width, as bytes from place at on.
-fn pack(
+fn put_groups(
     w: &[u16],
     a: usize,
     e: usize,
@@ -95,7 +95,7 @@ fn put_plain(w: &[u16], m: usize, out: &mut [u8])
 {
     let n = 2 * m;
     let count = groups(3 * m, 8);
-    pack(w, 8 * n, 9 * n + m, 2, 8, out, 6, count);
+    put_groups(w, 8 * n, 9 * n + m, 2, 8, out, 6, count);
 }
 
 // The payload of kind 2, at place 6: tree bits, then labels in groups of five.
@@ -107,15 +107,15 @@ fn put_starred(w: &[u16], m: usize, out: &mut [u8])
     let n = 2 * m;
     let bytes = groups(n, 8);
     let count = groups(m, 5);
-    pack(w, 8 * n, 9 * n, 2, 8, out, 6, bytes);
-    pack(w, 9 * n, 9 * n + m, 3, 5, out, 6 + bytes, count);
+    put_groups(w, 8 * n, 9 * n, 2, 8, out, 6, bytes);
+    put_groups(w, 9 * n, 9 * n + m, 3, 5, out, 6 + bytes, count);
 }
 
 // The whole record, from tree bits and labels.
-pub fn lay_out(w: &[u16], kind: u16, m: usize, out: &mut [u8]) -> u16
+pub fn pack(w: &[u16], kind: u16, m: usize, out: &mut [u8]) -> u16
     requires { ⌜ (isKind kind ≡ true) × (1 ≤ m) × (m ≤ 4096) × (32 * m ≤ length (now w)) × (recordLength kind m ≤ length (now out))
         × (allBelow 2 (workBits (2 * m) (now w)) ≡ true) × (allBelow (labelBase kind) (workLabels (2 * m) (now w)) ≡ true) ⌝ }
-    ensures { λ r. ⌜ LaidOut kind m (now (w .entry)) (now (out .entry)) r (now (out .exit)) ⌝ }
+    ensures { λ r. ⌜ Packed kind m (now (w .entry)) (now (out .entry)) r (now (out .exit)) ⌝ }
 {
     let edges = m as u16;
     let length = heads::record_length(kind, edges) as u16;

@@ -21,8 +21,8 @@ use Rattle.machine.proofs.Sizes.{labels-bound}
 use Rattle.machine.proofs.Bounds.{bits-below}
 use Rattle.work.proofs.Letters.{length-letters}
 use Rattle.work.specs.Letters.{lettersIn, workBits, workLabels}
-use Rattle.encoder.specs.Payload.{Put}
-use Rattle.packer.specs.Laying.{LaidOut}
+use Rattle.encoder.specs.Encoded.{Encoded}
+use Rattle.packer.specs.Packed.{Packed}
 use Rattle.writing.specs.Early.{Ready, Recorded}
 
 pub valid-two : (k : ℕ) (v : List Letter) → valid k v ≡ true → valid 2 v ≡ true
@@ -48,7 +48,7 @@ module _ (n k : ℕ) (w out : List ℕ) (r : Ready n k w out) where
   pub word-asked : (valid 2 (lettersIn n w) ≡ true) × (16 * n ≤ length w)
   word-asked = (valid-two k (lettersIn n w) (r .proper), r .room)
 
-  module _ (w₁ : List ℕ) (t : Put n w w₁) where
+  module _ (w₁ : List ℕ) (t : Encoded n w w₁) where
     pub bytes-asked : (isKind k ≡ true) × (1 ≤ n / 2) × (n / 2 ≤ 4096) × (32 * (n / 2) ≤ length w₁) × (recordLength k (n / 2) ≤ length out)
         × (allBelow 2 (workBits (2 * (n / 2)) w₁) ≡ true) × (allBelow (labelBase k) (workLabels (2 * (n / 2)) w₁) ≡ true)
     bytes-asked =
@@ -64,7 +64,7 @@ module _ (n k : ℕ) (w out : List ℕ) (r : Ready n k w out) where
               ∙ labels-bound k (lettersIn n w) (r .proper),
         )
 
-    pub laid : (answer : ℕ) (out′ : List ℕ) → LaidOut k (n / 2) w₁ out answer out′ → Recorded n k w out answer w₁ out′
+    pub laid : (answer : ℕ) (out′ : List ℕ) → Packed k (n / 2) w₁ out answer out′ → Recorded n k w out answer w₁ out′
     laid answer out′ u = record {
       answered = u .answered;
       filled = u .filled ∙ ap (λ (m : ℕ). front (layOut k (n / 2) (workBits m w₁) (workLabels m w₁)) out) half

@@ -43,8 +43,8 @@ fn laid_out(w: &mut [u16], n: usize, kind: u16, out: &mut [u8]) -> u16
     requires { ⌜ Ready n kind (now w) (now out) ⌝ }
     ensures { λ r. ⌜ Recorded n kind (now (w .entry)) (now (out .entry)) r (now (w .exit)) (now (out .exit)) ⌝ }
 {
-    encoder::put(w, n);
-    packer::lay_out(w, kind, n / 2, out)
+    encoder::encode(w, n);
+    packer::pack(w, kind, n / 2, out)
 }
 
 fn made(order: &[u16], root: u16, kind: u16, w: &mut [u16], out: &mut [u8]) -> Written

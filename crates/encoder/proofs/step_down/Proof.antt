@@ -1,4 +1,3 @@
--- `step_down`: the label of the edge, and a bit.
 use Prim.Native.Nat.{_<_}
 use native.Mathlib.Omega.{arith}
 use lib.ListN.{length-set}

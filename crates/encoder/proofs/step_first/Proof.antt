@@ -1,4 +1,3 @@
--- `step_first`: the label of the edge, and two bits.
 use Prim.Native.Nat.{_<_}
 use native.Mathlib.Omega.{arith}
 use mathlib.Core.Path.{refl}

@@ -1,4 +1,3 @@
--- `step_second`: the label of the edge told to the stack.
 use Rattle.encoder.proofs.Scanning.{second-letter}
 use borrow.Author.Needs.{needs}
 use Rattle.encoder.proofs.step_second.Statement.{statement}

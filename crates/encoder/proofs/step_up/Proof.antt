@@ -1,4 +1,3 @@
--- `step_up`: the label of the edge told to the stack, and a bit.
 use Prim.Native.Nat.{_<_}
 use native.Mathlib.Omega.{arith}
 use lib.ListN.{length-set}

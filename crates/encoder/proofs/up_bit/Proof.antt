@@ -1,4 +1,3 @@
--- `up_bit`: whether the letter before is down.
 use native.Mathlib.Omega.{arith}
 use Rattle.encoder.proofs.Bitting.{before-first, before-down, before-other}
 use borrow.Author.Needs.{needs}

@@ -1,79 +1,66 @@
-use Prim.Native.Nat.{_+_, _-_, _*_, _≤_}
 use native.Mathlib.Omega.{arith}
-use mathlib.Core.Path.{_≡_, sym, _∙_}
-use lib.ListN.{length, drop, length-set}
-use Rattle.work.specs.Area.{region, placed}
-use Rattle.packer.proofs.Numerals.{group-fits, all-group, pack-start, pack-again, pack-end}
-use Rattle.model.specs.Record.{pack as packed}
+use Rattle.packing.proofs.Head.{recordLength-range}
+use Rattle.heads.proofs.Head.{kind-one, kind-other}
+use Rattle.packer.proofs.Parts.{kind-two, plain-bound, starred-bound, whole-record}
 use borrow.Author.Needs.{needs}
 use Rattle.packer.proofs.pack.Statement.{statement}
 use Rattle.packer.proofs.pack.Tie as tie
 
-abbrev Inv-loop : tie.InvT-loop
-Inv-loop w a e base width out₀ at count i₀ out i = (i ≤ count) × (length out ≡ length out₀)
-    × (placed (at + i) (packed base width (count - i) (drop (i * width) (region a (e - a) w))) out
-    ≡ placed at (packed base width count (region a (e - a) w)) out₀)
+cast-length : tie.Need-cast-length
+cast-length c =
+    let st = c .before .before .before in
+    let s = recordLength-range (st .args .kind) _ (st .pre .1) (st .pre .2) in omega (arith, c .record-length .ensures)
 
-abbrev μ-loop : tie.MeasureT-loop
-μ-loop w a e base width out₀ at count i₀ out i = count - i
-
-loop-holds : tie.Need-loop-holds Inv-loop μ-loop
-loop-holds c =
-    (search needs, search needs, pack-start _ _ _ _ _ _)
-
-mul-digits : tie.Need-mul-digits Inv-loop μ-loop
-mul-digits c =
-    let g = group-fits (c .before .before .before .before .args .width) _ (c .before .loop .i) (c .loop-test .taken) in omega arith
-
-add-digits : tie.Need-add-digits Inv-loop μ-loop
-add-digits c =
-    let g = group-fits (c .before .before .before .before .args .width) _ (c .before .loop .i) (c .loop-test .taken) in omega arith
-
-digits-requires : tie.Need-digits-requires Inv-loop μ-loop
-digits-requires c κs =
-    let g = group-fits (c .before .before .before .before .args .width) _ (c .before .loop .i) (c .loop-test .taken) in
-    let pre = c .before .before .before .before .pre in
-    (search needs, omega arith, search needs, search needs, all-group _ _ _ _ _ (pre .0) (pre .4))
-
-slice-write-out : tie.Need-slice-write-out Inv-loop μ-loop
-slice-write-out c =
-    let at = c .before .before .loop in
-    omega (arith, at .inv, c .before .loop-test .taken)
-
-loop-again : tie.Need-loop-again Inv-loop μ-loop
-loop-again c =
-    let at = c .before .before .loop in
-    let st = c .before .before .before .before .before in (
-      search needs,
-      simp length-set (at .inv .1),
-      pack-again _ (st .args .width) _ _ (at .i) _ _ _ _ (at .out) (st .pre .0) (omega arith) (omega (arith, at .inv))
-          (c .digits .ensures .0) ∙ at .inv .2,
-    )
-
-same-length : tie.Need-same-length Inv-loop μ-loop
-same-length c = c .before .loop .inv .1
-
-returns : tie.Need-returns Inv-loop μ-loop
-returns c =
-    let at = c .before .loop in
+put-head-requires : tie.Need-put-head-requires
+put-head-requires c κs =
     let st = c .before .before .before .before in
-    sym (pack-end _ (st .args .width) _ _ (at .i) _ (at .out) (omega arith)) ∙ at .inv .2
+    let s = recordLength-range (st .args .kind) _ (st .pre .1) (st .pre .2) in omega (arith, st .pre)
+
+put-plain-requires : tie.Need-put-plain-requires
+put-plain-requires c κs =
+    let st = c .before .before .before .before .before .before .before .before .before in
+    let pre = st .pre in
+    let e = c .before .if1 .taken in
+    let l = kind-one (st .args .kind) (st .args .m) e in
+    let k = c .before .before .before .before .put-head .kept .0 in
+    (pre .2, pre .3, omega (arith, pre), pre .5, plain-bound _ _ e (pre .6))
+
+returns : tie.Need-returns
+returns c =
+    let b = c .before .before .before .before in
+    let h = b .before .before .before in
+    let st = h .before .before .before .before .before in
+    whole-record _ 1 (st .args .m) _ _ _ _ _ (b .if1 .taken) (h .before .before .record-length .ensures) (st .pre .1) (st .pre .2) (st .pre .4)
+    (h .put-head .ensures) (c .before .before .put-plain .ensures)
+
+put-starred-requires : tie.Need-put-starred-requires
+put-starred-requires c κs =
+    let st = c .before .before .before .before .before .before .before .before .before in
+    let pre = st .pre in
+    let e = c .before .if1 .left in
+    let l = kind-other (st .args .kind) (st .args .m) e in
+    let k = c .before .before .before .before .put-head .kept .0 in
+    (pre .2, pre .3, omega (arith, pre), pre .5, starred-bound _ _ e (pre .6))
+
+returns-2 : tie.Need-returns-2
+returns-2 c =
+    let b = c .before .before .before .before in
+    let h = b .before .before .before in
+    let st = h .before .before .before .before .before in
+    whole-record _ 2 (st .args .m) _ _ _ _ _ (kind-two _ (st .pre .0) (b .if1 .left)) (h .before .before .record-length .ensures) (st .pre .1) (st .pre .2) (st .pre .4)
+    (h .put-head .ensures) (c .before .before .put-starred .ensures)
 
 pub pack-spec : {M : Type 1} → statement M
 pack-spec =
     tie.close
     (tie.spec
-    Inv-loop
-    μ-loop
-    loop-holds
-    mul-digits
-    add-digits
-    digits-requires
     (λ c. search needs)
+    (λ c κs. search needs)
+    cast-length
+    put-head-requires
+    put-plain-requires
     (λ c. search needs)
-    slice-write-out
+    returns
+    put-starred-requires
     (λ c. search needs)
-    (λ c. search needs)
-    loop-again
-    same-length
-    returns)
+    returns-2)

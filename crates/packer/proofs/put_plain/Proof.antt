@@ -5,15 +5,15 @@ use borrow.Author.Needs.{needs}
 use Rattle.packer.proofs.put_plain.Statement.{statement}
 use Rattle.packer.proofs.put_plain.Tie as tie
 
-pack-requires : tie.Need-pack-requires
-pack-requires c κs =
+put-groups-requires : tie.Need-put-groups-requires
+put-groups-requires c κs =
     let pre = c .before .before .before .before .pre in
     let g = c .before .groups .ensures in
     (omega (arith, pre), omega (arith, pre), lit≤ tt, lit≤ tt, all-one-run _ _ (pre .3) (pre .4), omega (arith, pre), omega (arith, pre), lit≤ tt)
 
 returns : tie.Need-returns
 returns c =
-    plain-placed _ _ _ _ _ (c .before .before .before .before .groups .ensures) (c .before .before .pack .ensures)
+    plain-placed _ _ _ _ _ (c .before .before .before .before .groups .ensures) (c .before .before .put-groups .ensures)
 
 pub put-plain-spec : {M : Type 1} → statement M
 put-plain-spec =
@@ -25,6 +25,6 @@ put-plain-spec =
     (λ c. search needs)
     (λ c. search needs)
     (λ c. search needs)
-    pack-requires
+    put-groups-requires
     (λ c. search needs)
     returns)

@@ -1,4 +1,3 @@
--- `put`: the pass from the word's end.
 use native.Mathlib.Omega.{arith}
 use mathlib.Core.Path.{_≡_, refl, _∙_}
 use lib.ListN.{length}
@@ -6,8 +5,8 @@ use Rattle.work.specs.Letters.{lettersIn}
 use Rattle.encoder.specs.Passes.{Scanned}
 use Rattle.encoder.proofs.Scanning.{scan-start, scan-next, scan-end}
 use borrow.Author.Needs.{needs}
-use Rattle.encoder.proofs.put.Statement.{statement}
-use Rattle.encoder.proofs.put.Tie as tie
+use Rattle.encoder.proofs.encode.Statement.{statement}
+use Rattle.encoder.proofs.encode.Tie as tie
 
 abbrev Inv-loop : tie.InvT-loop
 Inv-loop w₀ n s₀ i₀ w s i = Scanned n w i s × (lettersIn n w ≡ lettersIn n w₀) × (length w ≡ length w₀)
@@ -35,8 +34,8 @@ returns c =
     let at = c .before .loop in
     scan-end _ (at .i) _ _ _ (omega (arith, c .loop-test .left)) (at .inv .0) (at .inv .1) (at .inv .2)
 
-pub put-spec : {M : Type 1} → statement M
-put-spec =
+pub encode-spec : {M : Type 1} → statement M
+encode-spec =
     tie.close
     (tie.spec
     Inv-loop

@@ -1,6 +1,6 @@
 -- What the pass over the word leaves in the work area.
 --
---   Put                  the labels of the word at 9n and its tree bits at 8n
+--   Encoded              the labels of the word at 9n and its tree bits at 8n
 use Prim.Native.Nat.{ℕ}
 use mathlib.Core.Path.{_≡_}
 use mathlib.Core.Bool.{false}
@@ -9,7 +9,7 @@ use lib.ListN.{length}
 use Rattle.words.specs.Word.{wordLabels, wordBits}
 use Rattle.work.specs.Letters.{lettersIn, workBits, workLabels}
 
-pub record Put (n : ℕ) (w w′ : List ℕ) : Type 0 where
+pub record Encoded (n : ℕ) (w w′ : List ℕ) : Type 0 where
   pub labels : workLabels n w′ ≡ wordLabels (lettersIn n w)
   pub bits : workBits n w′ ≡ wordBits false (lettersIn n w)
   pub kept : length w′ ≡ length w
