@@ -12,8 +12,10 @@ use mathlib.Core.Logic.{_≢_}
 use mathlib.Core.Bool.{true, cond}
 use mathlib.Core.List.{List, [], _∷_}
 use lib.ListN.{length, getD, set, drop, length-set}
-use Rattle.model.specs.Traversal.{Letter, down, up, first, second}
+use Rattle.model.specs.Traversal.{Letter, down, up, first, second, code}
+use Rattle.model.specs.LabelledTree.{star}
 use Rattle.words.specs.Word.{valid, Ends, endsOne, ends, startsUp, startsSecond, wordLabels}
+use Rattle.work.specs.Map.{LETTERS, FACES, UPS, SECONDS, LABELS}
 use Rattle.work.specs.Area.{region, stack}
 use Rattle.work.proofs.Regions.{length-region}
 use Rattle.work.proofs.Stacks.{length-stack}
@@ -49,15 +51,15 @@ module _ (n i e u s : ℕ) (w : List ℕ) (at : Labelled n w i e u s) where
   labels-are =
       let r = at .room in
       let b = at .labels-left in
-      sym (length-region (9 * n + e) (n / 2 - e) w (omega arith)) ∙ ap (λ (x : Ends). length (x .labels)) (at .ended)
+      sym (length-region (LABELS * n + e) (n / 2 - e) w (omega arith)) ∙ ap (λ (x : Ends). length (x .labels)) (at .ended)
 
   ups-are : u ≡ length (ends (drop i (lettersIn n w)) .ups)
   unfolding held
-  ups-are = sym (length-stack (5 * n) u w) ∙ ap (λ (x : Ends). length (x .ups)) (at .ended)
+  ups-are = sym (length-stack (UPS * n) u w) ∙ ap (λ (x : Ends). length (x .ups)) (at .ended)
 
   seconds-are : s ≡ length (ends (drop i (lettersIn n w)) .seconds)
   unfolding held
-  seconds-are = sym (length-stack (6 * n) s w) ∙ ap (λ (x : Ends). length (x .seconds)) (at .ended)
+  seconds-are = sym (length-stack (SECONDS * n) s w) ∙ ap (λ (x : Ends). length (x .seconds)) (at .ended)
 
 -- all labels are put when all letters are done
 pub labels-end : (n e u s : ℕ) (w₀ w : List ℕ) → Labelled n w 0 e u s → lettersIn n w ≡ lettersIn n w₀ → workLabels n w ≡ wordLabels (lettersIn n w₀)
@@ -67,23 +69,23 @@ labels-end n e u s w₀ w at l =
     let c = labels-are n 0 e u s w at in
     let b = at .labels-left in
     let z : e ≡ 0 = omega arith in
-    ap (λ (a : ℕ). region a (n / 2) w) (sym (add-zero (9 * n))) ∙ ap (λ (c : ℕ). region (9 * n + 0) c w) (sym (sub-zero (n / 2)))
-    ∙ ap (λ (j : ℕ). region (9 * n + j) (n / 2 - j) w) (sym z)
+    ap (λ (a : ℕ). region a (n / 2) w) (sym (add-zero (LABELS * n))) ∙ ap (λ (c : ℕ). region (LABELS * n + 0) c w) (sym (sub-zero (n / 2)))
+    ∙ ap (λ (j : ℕ). region (LABELS * n + j) (n / 2 - j) w) (sym z)
     ∙ ap (λ (x : Ends). x .labels) (at .ended) ∙ ap (λ (v : List Letter). ends v .labels) l
 
 module _ (n i e u s : ℕ) (w : List ℕ) (h : i < n) (at : Labelled n w (i + 1) e u s) where
-  here : (l : Letter) → toLetter (getD w (3 * n + i) 0) ≡ l → drop i (lettersIn n w) ≡ l ∷ drop (i + 1) (lettersIn n w)
+  here : (l : Letter) → toLetter (getD w (LETTERS * n + i) 0) ≡ l → drop i (lettersIn n w) ≡ l ∷ drop (i + 1) (lettersIn n w)
   here = letter-is n w (at .room) i h
 
-  goes : (l : Letter) → toLetter (getD w (3 * n + i) 0) ≡ l → Goes (l ∷ drop (i + 1) (lettersIn n w))
+  goes : (l : Letter) → toLetter (getD w (LETTERS * n + i) 0) ≡ l → Goes (l ∷ drop (i + 1) (lettersIn n w))
   goes l c = subst Goes (here l c) (suffix i (lettersIn n w)
       (record { n = 1; here = 0; below = []; opens = []; well = valid-nested 2 (lettersIn n w) (at .word) }))
 
-  shrunk : (l : Letter) → toLetter (getD w (3 * n + i) 0) ≡ l → length (ends (l ∷ drop (i + 1) (lettersIn n w)) .labels) ≤ n / 2
+  shrunk : (l : Letter) → toLetter (getD w (LETTERS * n + i) 0) ≡ l → length (ends (l ∷ drop (i + 1) (lettersIn n w)) .labels) ≤ n / 2
   shrunk l c = subst (λ (k : ℕ). length (ends (l ∷ drop (i + 1) (lettersIn n w)) .labels) ≤ k) (half n w (at .word) (at .room))
       (subst (λ (v : List Letter). length (ends v .labels) ≤ length (ends (lettersIn n w) .labels)) (here l c) (labels-shrink i (lettersIn n w)))
 
-  pub down-room : getD w (3 * n + i) 0 ≡ 1 → (0 < e) × (0 < u)
+  pub down-room : getD w (LETTERS * n + i) 0 ≡ code down → (0 < e) × (0 < u)
   unfolding ends endsOne
   down-room c =
       let a = shrunk down (is-down _ c) in
@@ -93,7 +95,7 @@ module _ (n i e u s : ℕ) (w : List ℕ) (h : i < n) (at : Labelled n w (i + 1)
       let l = at .labels-left in
       (omega arith, omega arith)
 
-  pub first-room : getD w (3 * n + i) 0 ≡ 3 → (0 < e) × (0 < s)
+  pub first-room : getD w (LETTERS * n + i) 0 ≡ code first → (0 < e) × (0 < s)
   unfolding ends endsOne
   first-room c =
       let a = shrunk first (is-first _ c) in
@@ -104,7 +106,7 @@ module _ (n i e u s : ℕ) (w : List ℕ) (h : i < n) (at : Labelled n w (i + 1)
       (omega arith, omega arith)
 
   -- a store at p, beside the letters, does what the letter l asks
-  advance : (l : Letter) (p x e′ u′ s′ : ℕ) → toLetter (getD w (3 * n + i) 0) ≡ l → 4 * n ≤ p → e′ ≤ n / 2 → u′ + i ≤ n → s′ + i ≤ n
+  advance : (l : Letter) (p x e′ u′ s′ : ℕ) → toLetter (getD w (LETTERS * n + i) 0) ≡ l → FACES * n ≤ p → e′ ≤ n / 2 → u′ + i ≤ n → s′ + i ≤ n
       → held n (set w p x) e′ u′ s′ ≡ endsOne l (drop (i + 1) (lettersIn n w)) (held n w e u s) → LabelStepped n w (set w p x) i e′ u′ s′
   unfolding ends
   advance l p x e′ u′ s′ c b f g j k =
@@ -128,42 +130,42 @@ module _ (n i e u s : ℕ) (w : List ℕ) (h : i < n) (at : Labelled n w (i + 1)
       }
 
 module _ (n i e u s x : ℕ) (w : List ℕ) (h : i < n) where
-  pub up-step : Labelled n w (i + 1) e u s → getD w (3 * n + i) 0 ≡ 2 → x ≡ startsSecond (drop (i + 1) (lettersIn n w))
-      → LabelStepped n w (set w (5 * n + u) x) i e (u + 1) s
+  pub up-step : Labelled n w (i + 1) e u s → getD w (LETTERS * n + i) 0 ≡ code up → x ≡ startsSecond (drop (i + 1) (lettersIn n w))
+      → LabelStepped n w (set w (UPS * n + u) x) i e (u + 1) s
   up-step at c d =
       let b = at .ups-fit in
       let g = at .seconds-fit in
       let f = at .labels-left in
       let word = drop (i + 1) (lettersIn n w) in
-      advance n i e u s w h at up (5 * n + u) x e (u + 1) s (is-up _ c) (omega arith) f (omega arith) (omega arith)
-      (ap (λ (k : ℕ). held n (set w (5 * n + u) x) e k s) (add-one u) ∙ held-up n e u s x w word (at .room) (omega arith) (omega arith) d)
+      advance n i e u s w h at up (UPS * n + u) x e (u + 1) s (is-up _ c) (omega arith) f (omega arith) (omega arith)
+      (ap (λ (k : ℕ). held n (set w (UPS * n + u) x) e k s) (add-one u) ∙ held-up n e u s x w word (at .room) (omega arith) (omega arith) d)
 
-  pub second-step : Labelled n w (i + 1) e u s → getD w (3 * n + i) 0 ≢ 1 → getD w (3 * n + i) 0 ≢ 2 → getD w (3 * n + i) 0 ≢ 3
-      → x ≡ startsSecond (drop (i + 1) (lettersIn n w)) → LabelStepped n w (set w (6 * n + s) x) i e u (s + 1)
+  pub second-step : Labelled n w (i + 1) e u s → getD w (LETTERS * n + i) 0 ≢ code down → getD w (LETTERS * n + i) 0 ≢ code up → getD w (LETTERS * n + i) 0 ≢ code first
+      → x ≡ startsSecond (drop (i + 1) (lettersIn n w)) → LabelStepped n w (set w (SECONDS * n + s) x) i e u (s + 1)
   second-step at c₁ c₂ c₃ d =
       let b = at .ups-fit in
       let g = at .seconds-fit in
       let f = at .labels-left in
       let word = drop (i + 1) (lettersIn n w) in
-      advance n i e u s w h at second (6 * n + s) x e u (s + 1) (is-second _ c₁ c₂ c₃) (omega arith) f (omega arith) (omega arith)
-      (ap (λ (k : ℕ). held n (set w (6 * n + s) x) e u k) (add-one s) ∙ held-second n e u s x w word (at .room) (omega arith) (omega arith) d)
+      advance n i e u s w h at second (SECONDS * n + s) x e u (s + 1) (is-second _ c₁ c₂ c₃) (omega arith) f (omega arith) (omega arith)
+      (ap (λ (k : ℕ). held n (set w (SECONDS * n + s) x) e u k) (add-one s) ∙ held-second n e u s x w word (at .room) (omega arith) (omega arith) d)
 
-  pub down-step : (e′ u′ : ℕ) → e′ ≡ suc e → u′ ≡ suc u → Labelled n w (i + 1) e′ u′ s → getD w (3 * n + i) 0 ≡ 1
-      → x ≡ cond (startsUp (drop (i + 1) (lettersIn n w))) 2 (getD w (5 * n + u) 0) → LabelStepped n w (set w (9 * n + e) x) i e u s
+  pub down-step : (e′ u′ : ℕ) → e′ ≡ suc e → u′ ≡ suc u → Labelled n w (i + 1) e′ u′ s → getD w (LETTERS * n + i) 0 ≡ code down
+      → x ≡ cond (startsUp (drop (i + 1) (lettersIn n w))) star (getD w (UPS * n + u) 0) → LabelStepped n w (set w (LABELS * n + e) x) i e u s
   down-step e′ u′ p q at c d =
       let b = at .ups-fit in
       let g = at .seconds-fit in
       let f = at .labels-left in
       let word = drop (i + 1) (lettersIn n w) in
-      advance n i e′ u′ s w h at down (9 * n + e) x e u s (is-down _ c) (omega arith) (omega arith) (omega arith) (omega arith)
+      advance n i e′ u′ s w h at down (LABELS * n + e) x e u s (is-down _ c) (omega arith) (omega arith) (omega arith) (omega arith)
       (rw (p, q) (held-down n e u s x w word (at .room) (omega arith) (omega arith) (omega arith) d))
 
-  pub first-step : (e′ s′ : ℕ) → e′ ≡ suc e → s′ ≡ suc s → Labelled n w (i + 1) e′ u s′ → getD w (3 * n + i) 0 ≡ 3
-      → x ≡ getD w (6 * n + s) 0 → LabelStepped n w (set w (9 * n + e) x) i e u s
+  pub first-step : (e′ s′ : ℕ) → e′ ≡ suc e → s′ ≡ suc s → Labelled n w (i + 1) e′ u s′ → getD w (LETTERS * n + i) 0 ≡ code first
+      → x ≡ getD w (SECONDS * n + s) 0 → LabelStepped n w (set w (LABELS * n + e) x) i e u s
   first-step e′ s′ p q at c d =
       let b = at .ups-fit in
       let g = at .seconds-fit in
       let f = at .labels-left in
       let word = drop (i + 1) (lettersIn n w) in
-      advance n i e′ u s′ w h at first (9 * n + e) x e u s (is-first _ c) (omega arith) (omega arith) (omega arith) (omega arith)
+      advance n i e′ u s′ w h at first (LABELS * n + e) x e u s (is-first _ c) (omega arith) (omega arith) (omega arith) (omega arith)
       (rw (p, q) (held-first n e u s x w word (at .room) (omega arith) (omega arith) (omega arith) d))

@@ -17,19 +17,20 @@ use lib.ListN.{length, getD, drop}
 use lib.Seq.{drop-length}
 use borrow.Author.Tests.{eq-eqb, ne-eqb}
 use Rattle.model.proofs.Fitness.{count-parts}
-use Rattle.model.specs.Traversal.{Letter, down, up, first, second}
+use Rattle.model.specs.Traversal.{Letter, down, up, first, second, code}
 use Rattle.words.specs.Word.{valid, startsUp, startsSecond}
 use Rattle.words.specs.Entered.{isDown}
 use Rattle.orbits.proofs.Order.{eq-split}
 use Rattle.words.proofs.Validity.{valid-fits}
+use Rattle.work.specs.Map.{LETTERS}
 use Rattle.work.specs.Letters.{toLetter, lettersIn}
 use Rattle.work.proofs.Letters.{is-down, is-up, is-first, is-second, length-letters, letters-from}
 
 module _ (n : ℕ) (w : List ℕ) (room : 16 * n ≤ length w) where
-  pub letters-at : (i : ℕ) → i < n → drop i (lettersIn n w) ≡ toLetter (getD w (3 * n + i) 0) ∷ drop (i + 1) (lettersIn n w)
+  pub letters-at : (i : ℕ) → i < n → drop i (lettersIn n w) ≡ toLetter (getD w (LETTERS * n + i) 0) ∷ drop (i + 1) (lettersIn n w)
   letters-at i h = rw (add-one i) (letters-from n w i (omega arith) h)
 
-  pub letter-is : (i : ℕ) → i < n → (l : Letter) → toLetter (getD w (3 * n + i) 0) ≡ l → drop i (lettersIn n w) ≡ l ∷ drop (i + 1) (lettersIn n w)
+  pub letter-is : (i : ℕ) → i < n → (l : Letter) → toLetter (getD w (LETTERS * n + i) 0) ≡ l → drop i (lettersIn n w) ≡ l ∷ drop (i + 1) (lettersIn n w)
   letter-is i h l e = letters-at i h ∙ ap (λ (k : Letter). k ∷ drop (i + 1) (lettersIn n w)) e
 
   pub letters-end : (i : ℕ) → i ≡ n → drop i (lettersIn n w) ≡ []
@@ -39,7 +40,7 @@ module _ (n : ℕ) (w : List ℕ) (room : 16 * n ≤ length w) where
   small-word v =
       subst (λ (k : ℕ). k ≤ 8192) (length-letters n w (omega arith)) (count-parts (length (lettersIn n w)) (valid-fits 2 (lettersIn n w) v) .2)
 
-pub not-down : (x : ℕ) → x ≢ 1 → isDown (toLetter x) ≡ false
+pub not-down : (x : ℕ) → x ≢ code down → isDown (toLetter x) ≡ false
 unfolding toLetter
 not-down x a = rw (ne-eqb x 1 a) (go (eqb x 2) (eqb x 3))
   where
@@ -59,20 +60,20 @@ module _ (n : ℕ) (w : List ℕ) (room : 16 * n ≤ length w) (i : ℕ) where
   unfolding startsUp
   up-past e = rw (letters-end n w room i e)
 
-  module _ (h : i < n) (x : ℕ) (at : getD w (3 * n + i) 0 ≡ x) where
+  module _ (h : i < n) (x : ℕ) (at : getD w (LETTERS * n + i) 0 ≡ x) where
     starts : (l : Letter) → toLetter x ≡ l → drop i (lettersIn n w) ≡ l ∷ drop (i + 1) (lettersIn n w)
     starts l e = letter-is n w room i h l (ap toLetter at ∙ e)
 
-    pub second-here : x ≢ 1 → x ≢ 2 → x ≢ 3 → 1 ≡ startsSecond (drop i (lettersIn n w))
+    pub second-here : x ≢ code down → x ≢ code up → x ≢ code first → 1 ≡ startsSecond (drop i (lettersIn n w))
     unfolding startsSecond
     second-here a b c = rw (starts second (is-second x a b c))
 
-    pub no-second-here : 0 < x → x < 4 → 0 ≡ startsSecond (drop i (lettersIn n w))
+    pub no-second-here : 0 < x → x < code second → 0 ≡ startsSecond (drop i (lettersIn n w))
     unfolding startsSecond
     no-second-here a b = eq-split x 1 (λ e. rw (starts down (is-down x e))) (λ p. eq-split x 2 (λ e. rw (starts up (is-up x e)))
         (λ q. rw (starts first (is-first x (omega (arith, p, q))))))
 
-    pub up-here : eqb x 2 ≡ startsUp (drop i (lettersIn n w))
+    pub up-here : eqb x (code up) ≡ startsUp (drop i (lettersIn n w))
     unfolding startsUp
     up-here = eq-split x 2 (λ e. rw (eq-eqb x 2 e, starts up (is-up x e))) (λ p. rw (ne-eqb x 2 p) (eq-split x 1 (λ e. rw (starts down (is-down x e)))
         (λ q. eq-split x 3 (λ e. rw (starts first (is-first x e))) (λ r. rw (starts second (is-second x q p r))))))

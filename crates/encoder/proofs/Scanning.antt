@@ -11,10 +11,12 @@ use mathlib.Core.Bool.{true, cond}
 use mathlib.Core.List.{List}
 use lib.ListN.{length, getD, set, drop, length-set}
 use lib.Seq.{getD-set-other}
-use Rattle.model.specs.Traversal.{Letter}
+use Rattle.model.specs.Traversal.{Letter, down, up, first, second, code}
+use Rattle.model.specs.LabelledTree.{star}
 use Rattle.words.specs.Word.{valid, Ends, ends, startsUp, startsSecond}
 use Rattle.work.proofs.Regions.{region-set-other}
 use Rattle.work.proofs.Stacks.{stack-set}
+use Rattle.work.specs.Map.{LETTERS, FACES, UPS, SECONDS, BITS, LABELS}
 use Rattle.work.specs.Letters.{lettersIn}
 use Rattle.work.proofs.Letters.{letters-set-behind}
 use Rattle.encoder.specs.declared.Scan.{Scan}
@@ -46,7 +48,7 @@ scan-end n i w₀ w s done scanned l k =
 -- ---- a store beside
 
 module _ (n i p x : ℕ) (w : List ℕ) where
-  pub bitted-beside : (t : ℕ) → 4 * n ≤ p → (8 * n ≤ p → 9 * n ≤ p) → Bitted n w i t → Bitted n (set w p x) i t
+  pub bitted-beside : (t : ℕ) → FACES * n ≤ p → (BITS * n ≤ p → LABELS * n ≤ p) → Bitted n w i t → Bitted n (set w p x) i t
   bitted-beside t h out at =
       let same = letters-set-behind n w p x h in
       let size = length-set w p x in
@@ -57,10 +59,10 @@ module _ (n i p x : ℕ) (w : List ℕ) where
         small = at .small;
         place = at .place;
         bits-left = b;
-        put = region-set-other (8 * n + t) (n - t) w p x (λ l. let o = out (omega arith) in omega arith) ∙ at .put ∙ ap (bitsFrom i) (sym same);
+        put = region-set-other (BITS * n + t) (n - t) w p x (λ l. let o = out (omega arith) in omega arith) ∙ at .put ∙ ap (bitsFrom i) (sym same);
       }
 
-  pub labelled-beside : (e u s : ℕ) → 8 * n ≤ p → p < 9 * n → Labelled n w i e u s → Labelled n (set w p x) i e u s
+  pub labelled-beside : (e u s : ℕ) → BITS * n ≤ p → p < LABELS * n → Labelled n w i e u s → Labelled n (set w p x) i e u s
   unfolding held
   labelled-beside e u s h l at =
       let same = letters-set-behind n w p x (omega arith) in
@@ -75,9 +77,9 @@ module _ (n i p x : ℕ) (w : List ℕ) where
         ups-fit = b;
         seconds-fit = c;
         ended = rw (
-          region-set-other (9 * n + e) (n / 2 - e) w p x (λ k. absurd (omega arith)),
-          stack-set (5 * n) u w p x (λ k. omega arith),
-          stack-set (6 * n) s w p x (λ k. omega arith),
+          region-set-other (LABELS * n + e) (n / 2 - e) w p x (λ k. absurd (omega arith)),
+          stack-set (UPS * n) u w p x (λ k. omega arith),
+          stack-set (SECONDS * n) s w p x (λ k. omega arith),
           same,
         )
             (at .ended);
@@ -96,59 +98,59 @@ both n i e u s t w w₁ w₂ a b c = record {
 
 module _ (n i : ℕ) (w : List ℕ) (s : Scan) (h : i < n) (at : Scanned n w (i + 1) s) where
   -- the letter itself stays
-  stays : (p x : ℕ) → 4 * n ≤ p → getD (set w p x) (3 * n + i) 0 ≡ getD w (3 * n + i) 0
-  stays p x l = getD-set-other w p (3 * n + i) x 0 (omega arith)
+  stays : (p x : ℕ) → FACES * n ≤ p → getD (set w p x) (LETTERS * n + i) 0 ≡ getD w (LETTERS * n + i) 0
+  stays p x l = getD-set-other w p (LETTERS * n + i) x 0 (omega arith)
 
-  pub down-letter : (x : ℕ) → 0 < s .labels → 0 < s .ups → 0 < s .bits → getD w (3 * n + i) 0 ≡ 1
-      → x ≡ cond (startsUp (drop (i + 1) (lettersIn n w))) 2 (getD w (5 * n + (s .ups - 1)) 0)
-      → Stepped n w (set (set w (9 * n + (s .labels - 1)) x) (8 * n + (s .bits - 1)) 1) i
+  pub down-letter : (x : ℕ) → 0 < s .labels → 0 < s .ups → 0 < s .bits → getD w (LETTERS * n + i) 0 ≡ code down
+      → x ≡ cond (startsUp (drop (i + 1) (lettersIn n w))) star (getD w (UPS * n + (s .ups - 1)) 0)
+      → Stepped n w (set (set w (LABELS * n + (s .labels - 1)) x) (BITS * n + (s .bits - 1)) 1) i
       (record { labels = s .labels - 1; ups = s .ups - 1; seconds = s .seconds; bits = s .bits - 1 })
   down-letter x a b c one d =
       let e = s .labels - 1 in let t = s .bits - 1 in
       let few = at .bitted .bits-left in
-      let w₁ = set w (9 * n + e) x in
+      let w₁ = set w (LABELS * n + e) x in
       let first = down-step n i e (s .ups - 1) (s .seconds) x w h _ _ (omega arith) (omega arith) (at .labelled) one d in
-      let then = down-bit n i t w₁ h _ (omega arith) (bitted-beside n (i + 1) (9 * n + e) x w (s .bits) (omega arith) (λ l. omega arith) (at .bitted))
-      (stays (9 * n + e) x (omega arith) ∙ one) in
-      both n i _ _ _ t w w₁ _ first then (labelled-beside n i (8 * n + t) 1 w₁ _ _ _ (omega arith) (omega arith) (first .labelled))
+      let then = down-bit n i t w₁ h _ (omega arith) (bitted-beside n (i + 1) (LABELS * n + e) x w (s .bits) (omega arith) (λ l. omega arith) (at .bitted))
+      (stays (LABELS * n + e) x (omega arith) ∙ one) in
+      both n i _ _ _ t w w₁ _ first then (labelled-beside n i (BITS * n + t) 1 w₁ _ _ _ (omega arith) (omega arith) (first .labelled))
 
-  pub up-letter : (x y : ℕ) → 0 < s .bits → getD w (3 * n + i) 0 ≡ 2 → x ≡ startsSecond (drop (i + 1) (lettersIn n w))
+  pub up-letter : (x y : ℕ) → 0 < s .bits → getD w (LETTERS * n + i) 0 ≡ code up → x ≡ startsSecond (drop (i + 1) (lettersIn n w))
       → y ≡ cond (downBefore i (lettersIn n w)) x 0
-      → Stepped n w (set (set w (5 * n + s .ups) x) (8 * n + (s .bits - 1)) y) i
+      → Stepped n w (set (set w (UPS * n + s .ups) x) (BITS * n + (s .bits - 1)) y) i
       (record { labels = s .labels; ups = s .ups + 1; seconds = s .seconds; bits = s .bits - 1 })
   up-letter x y c two d f =
       let t = s .bits - 1 in
       let few = at .bitted .bits-left in let fit = at .labelled .ups-fit in
-      let w₁ = set w (5 * n + s .ups) x in
+      let w₁ = set w (UPS * n + s .ups) x in
       let first = up-step n i (s .labels) (s .ups) (s .seconds) x w h (at .labelled) two d in
       let bit : y ≡ cond (downBefore i (lettersIn n w₁)) (startsSecond (drop (i + 1) (lettersIn n w₁))) 0 = rw (first .letters, ← d) f in
-      let then = up-bit n i t w₁ h _ y (omega arith) (bitted-beside n (i + 1) (5 * n + s .ups) x w (s .bits) (omega arith) (λ l. absurd (omega arith)) (at .bitted))
-      (stays (5 * n + s .ups) x (omega arith) ∙ two) bit in
-      both n i _ _ _ t w w₁ _ first then (labelled-beside n i (8 * n + t) y w₁ _ _ _ (omega arith) (omega arith) (first .labelled))
+      let then = up-bit n i t w₁ h _ y (omega arith) (bitted-beside n (i + 1) (UPS * n + s .ups) x w (s .bits) (omega arith) (λ l. absurd (omega arith)) (at .bitted))
+      (stays (UPS * n + s .ups) x (omega arith) ∙ two) bit in
+      both n i _ _ _ t w w₁ _ first then (labelled-beside n i (BITS * n + t) y w₁ _ _ _ (omega arith) (omega arith) (first .labelled))
 
-  pub first-letter : (x : ℕ) → 0 < s .labels → 0 < s .seconds → 1 < s .bits → getD w (3 * n + i) 0 ≡ 3 → x ≡ getD w (6 * n + (s .seconds - 1)) 0
-      → Stepped n w (set (set (set w (9 * n + (s .labels - 1)) x) (8 * n + (s .bits - 2) + 1) 0) (8 * n + (s .bits - 2)) 1) i
+  pub first-letter : (x : ℕ) → 0 < s .labels → 0 < s .seconds → 1 < s .bits → getD w (LETTERS * n + i) 0 ≡ code first → x ≡ getD w (SECONDS * n + (s .seconds - 1)) 0
+      → Stepped n w (set (set (set w (LABELS * n + (s .labels - 1)) x) (BITS * n + (s .bits - 2) + 1) 0) (BITS * n + (s .bits - 2)) 1) i
       (record { labels = s .labels - 1; ups = s .ups; seconds = s .seconds - 1; bits = s .bits - 2 })
   first-letter x a b c three d =
       let e = s .labels - 1 in let t = s .bits - 2 in
       let few = at .bitted .bits-left in
-      let w₁ = set w (9 * n + e) x in
+      let w₁ = set w (LABELS * n + e) x in
       let first = first-step n i e (s .ups) (s .seconds - 1) x w h _ _ (omega arith) (omega arith) (at .labelled) three d in
-      let then = first-bits n i t w₁ h _ (omega arith) (bitted-beside n (i + 1) (9 * n + e) x w (s .bits) (omega arith) (λ l. omega arith) (at .bitted))
-      (stays (9 * n + e) x (omega arith) ∙ three) in
+      let then = first-bits n i t w₁ h _ (omega arith) (bitted-beside n (i + 1) (LABELS * n + e) x w (s .bits) (omega arith) (λ l. omega arith) (at .bitted))
+      (stays (LABELS * n + e) x (omega arith) ∙ three) in
       both n i _ _ _ t w w₁ _ first then
-      (labelled-beside n i (8 * n + t) 1 (set w₁ (8 * n + t + 1) 0) _ _ _ (omega arith) (omega arith)
-      (labelled-beside n i (8 * n + t + 1) 0 w₁ _ _ _ (omega arith) (omega arith) (first .labelled)))
+      (labelled-beside n i (BITS * n + t) 1 (set w₁ (BITS * n + t + 1) 0) _ _ _ (omega arith) (omega arith)
+      (labelled-beside n i (BITS * n + t + 1) 0 w₁ _ _ _ (omega arith) (omega arith) (first .labelled)))
 
-  pub second-letter : (x : ℕ) → getD w (3 * n + i) 0 ≢ 1 → getD w (3 * n + i) 0 ≢ 2 → getD w (3 * n + i) 0 ≢ 3
+  pub second-letter : (x : ℕ) → getD w (LETTERS * n + i) 0 ≢ code down → getD w (LETTERS * n + i) 0 ≢ code up → getD w (LETTERS * n + i) 0 ≢ code first
       → x ≡ startsSecond (drop (i + 1) (lettersIn n w))
-      → Stepped n w (set w (6 * n + s .seconds) x) i (record { labels = s .labels; ups = s .ups; seconds = s .seconds + 1; bits = s .bits })
+      → Stepped n w (set w (SECONDS * n + s .seconds) x) i (record { labels = s .labels; ups = s .ups; seconds = s .seconds + 1; bits = s .bits })
   second-letter x a b c d =
       let fit = at .labelled .seconds-fit in
-      let w₁ = set w (6 * n + s .seconds) x in
-      let same = stays (6 * n + s .seconds) x (omega arith) in
+      let w₁ = set w (SECONDS * n + s .seconds) x in
+      let same = stays (SECONDS * n + s .seconds) x (omega arith) in
       let first = second-step n i (s .labels) (s .ups) (s .seconds) x w h (at .labelled) a b c d in
       let then = second-bits n i (s .bits) w₁ h
-      (bitted-beside n (i + 1) (6 * n + s .seconds) x w (s .bits) (omega arith) (λ l. absurd (omega arith)) (at .bitted))
+      (bitted-beside n (i + 1) (SECONDS * n + s .seconds) x w (s .bits) (omega arith) (λ l. absurd (omega arith)) (at .bitted))
       (λ z. a (sym same ∙ z)) (λ z. b (sym same ∙ z)) (λ z. c (sym same ∙ z)) in
       both n i _ _ _ (s .bits) w w₁ w₁ first then (first .labelled)

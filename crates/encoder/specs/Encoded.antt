@@ -1,6 +1,6 @@
 -- What the pass over the word leaves in the work area.
 --
---   Encoded              the labels of the word at 9n and its tree bits at 8n
+--   Encoded              the labels of the word and its tree bits
 use Prim.Native.Nat.{ℕ}
 use mathlib.Core.Path.{_≡_}
 use mathlib.Core.Bool.{false}

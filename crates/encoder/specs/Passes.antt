@@ -14,6 +14,7 @@ use lib.ListN.{length, getD, drop}
 use Rattle.model.specs.Traversal.{Letter, up}
 use Rattle.words.specs.Word.{valid, Ends, ends, wordBits}
 use Rattle.words.specs.Entered.{isDown}
+use Rattle.work.specs.Map.{UPS, SECONDS, BITS, LABELS}
 use Rattle.work.specs.Area.{region, stack}
 use Rattle.work.specs.Letters.{lettersIn}
 use Rattle.encoder.specs.declared.Scan.{Scan}
@@ -21,7 +22,7 @@ use Rattle.encoder.specs.declared.Scan.{Scan}
 -- ---- labels
 
 unfoldable pub held : ℕ → List ℕ → ℕ → ℕ → ℕ → Ends
-held n w e u s = record { labels = region (9 * n + e) (n / 2 - e) w; ups = stack (5 * n) u w; seconds = stack (6 * n) s w }
+held n w e u s = record { labels = region (LABELS * n + e) (n / 2 - e) w; ups = stack (UPS * n) u w; seconds = stack (SECONDS * n) s w }
 
 pub record Labelled (n : ℕ) (w : List ℕ) (i e u s : ℕ) : Type 0 where
   pub word : valid 2 (lettersIn n w) ≡ true
@@ -53,7 +54,7 @@ pub record Bitted (n : ℕ) (w : List ℕ) (i t : ℕ) : Type 0 where
   pub small : n ≤ 8192
   pub place : i ≤ n
   pub bits-left : t ≤ n
-  pub put : region (8 * n + t) (n - t) w ≡ bitsFrom i (lettersIn n w)
+  pub put : region (BITS * n + t) (n - t) w ≡ bitsFrom i (lettersIn n w)
 
 pub record BitStepped (n : ℕ) (w w′ : List ℕ) (i t : ℕ) : Type 0 where
   pub bitted : Bitted n w′ i t

@@ -1,28 +1,18 @@
-// From the contour word to labels and tree bits. In the work area, with n darts: letters by position at 3n, stacks of labels at 5n and 6n, tree bits at 8n,
-// labels at 9n. It knows letters and labels, no rotations and no bytes.
+// From the contour word in the work area to its labels and tree bits, there too. It knows letters and labels, no rotations and no bytes.
 ghost use mathlib.Core.Path.{_≡_};
 ghost use mathlib.Core.Logic.{_≢_};
 ghost use mathlib.Core.Bool.{true, cond};
 ghost use Prim.Native.Nat.{_+_, _*_, _≤_, _<_};
 ghost use lib.ListN.{length, getD, drop};
+ghost use Rattle.model.specs.Traversal.{down, up, first, code};
 ghost use Rattle.model.specs.LabelledTree.{star};
 ghost use Rattle.words.specs.Word.{valid, startsUp, startsSecond};
+ghost use Rattle.work.specs.Map.{LETTERS, UPS};
 ghost use Rattle.work.specs.Letters.{lettersIn};
 ghost use Rattle.encoder.specs.Encoded.{Encoded};
 ghost use Rattle.encoder.specs.Passes.{downBefore, Scanned, Stepped};
 
-// The letters by number, but second: every other code is taken for it.
-const DOWN: u16 = 1;
-
-const UP: u16 = 2;
-
-const FIRST: u16 = 3;
-
-// The label of the edge to a bare leaf.
-const STAR: u16 = 2;
-
-// 1 where second stands at position i of the word, 0 elsewhere and past its end. The code 0 is
-// taken for second too: no letter of a word has it.
+// 1 where second stands at position i of the word, 0 elsewhere and past its end. No letter has the code 0; it is taken for second.
 fn second_at(w: &[u16], n: usize, i: usize) -> u16
     requires { ⌜ (i ≤ n) × (n ≤ 8192) × (16 * n ≤ length (now w)) ⌝ }
     ensures { λ r. ⌜ r ≡ startsSecond (drop i (lettersIn n (now (w .entry)))) ⌝ }
@@ -30,11 +20,11 @@ fn second_at(w: &[u16], n: usize, i: usize) -> u16
     if i == n {
         return 0;
     }
-    let l = w[3 * n + i];
+    let l = w[work::LETTERS * n + i];
     if l == 0 {
         return 1;
     }
-    if l < 4 {
+    if l < work::SECOND {
         return 0;
     }
     1
@@ -48,18 +38,18 @@ fn up_at(w: &[u16], n: usize, i: usize) -> bool
     if i == n {
         return false;
     }
-    w[3 * n + i] == UP
+    w[work::LETTERS * n + i] == work::UP
 }
 
 // The label of the tree edge that goes down at position i: a star for a bare leaf, else what waits at this place of the stack.
 fn tree_label(w: &[u16], n: usize, i: usize, top: usize) -> u16
     requires { ⌜ (i < n) × (n ≤ 8192) × (16 * n ≤ length (now w)) × (top < n) ⌝ }
-    ensures { λ r. ⌜ r ≡ cond (startsUp (drop (i + 1) (lettersIn n (now (w .entry))))) star (getD (now (w .entry)) (5 * n + top) 0) ⌝ }
+    ensures { λ r. ⌜ r ≡ cond (startsUp (drop (i + 1) (lettersIn n (now (w .entry))))) star (getD (now (w .entry)) (UPS * n + top) 0) ⌝ }
 {
     if up_at(w, n, i + 1) {
-        return STAR;
+        return work::STAR;
     }
-    w[5 * n + top]
+    w[work::UPS * n + top]
 }
 
 // x where the letter before position i is down, else 0: the bit of an up, which saves the label x of a bare leaf's edge.
@@ -70,8 +60,8 @@ fn up_bit(w: &[u16], n: usize, i: usize, x: u16) -> u16
     if i == 0 {
         return 0;
     }
-    let l = w[3 * n + (i - 1)];
-    if l == DOWN {
+    let l = w[work::LETTERS * n + (i - 1)];
+    if l == work::DOWN {
         return x;
     }
     0
@@ -87,15 +77,15 @@ pub struct Scan {
 
 // down at position i: the label of its edge, and a bit.
 fn step_down(w: &mut [u16], n: usize, i: usize, s: Scan) -> Scan
-    requires { ⌜ (i < n) × Scanned n (now w) (i + 1) s × (getD (now w) (3 * n + i) 0 ≡ 1) ⌝ }
+    requires { ⌜ (i < n) × Scanned n (now w) (i + 1) s × (getD (now w) (LETTERS * n + i) 0 ≡ code down) ⌝ }
     ensures { λ r. ⌜ Stepped n (now (w .entry)) (now (w .exit)) i r ⌝ }
 {
     let e = s.labels - 1;
     let top = s.ups - 1;
     let seconds = s.seconds;
     let t = s.bits - 1;
-    w[9 * n + e] = tree_label(w, n, i, top);
-    w[8 * n + t] = 1;
+    w[work::LABELS * n + e] = tree_label(w, n, i, top);
+    w[work::BITS * n + t] = 1;
     Scan {
         labels: e,
         ups: top,
@@ -106,7 +96,7 @@ fn step_down(w: &mut [u16], n: usize, i: usize, s: Scan) -> Scan
 
 // up at position i: its edge's label is told to the stack, and a bit.
 fn step_up(w: &mut [u16], n: usize, i: usize, s: Scan) -> Scan
-    requires { ⌜ (i < n) × Scanned n (now w) (i + 1) s × (getD (now w) (3 * n + i) 0 ≡ 2) ⌝ }
+    requires { ⌜ (i < n) × Scanned n (now w) (i + 1) s × (getD (now w) (LETTERS * n + i) 0 ≡ code up) ⌝ }
     ensures { λ r. ⌜ Stepped n (now (w .entry)) (now (w .exit)) i r ⌝ }
 {
     let labels = s.labels;
@@ -115,8 +105,8 @@ fn step_up(w: &mut [u16], n: usize, i: usize, s: Scan) -> Scan
     let t = s.bits - 1;
     let x = second_at(w, n, i + 1);
     let b = up_bit(w, n, i, x);
-    w[5 * n + ups] = x;
-    w[8 * n + t] = b;
+    w[work::UPS * n + ups] = x;
+    w[work::BITS * n + t] = b;
     Scan {
         labels,
         ups: ups + 1,
@@ -127,16 +117,16 @@ fn step_up(w: &mut [u16], n: usize, i: usize, s: Scan) -> Scan
 
 // first at position i: the label of its edge, and two bits.
 fn step_first(w: &mut [u16], n: usize, i: usize, s: Scan) -> Scan
-    requires { ⌜ (i < n) × Scanned n (now w) (i + 1) s × (getD (now w) (3 * n + i) 0 ≡ 3) ⌝ }
+    requires { ⌜ (i < n) × Scanned n (now w) (i + 1) s × (getD (now w) (LETTERS * n + i) 0 ≡ code first) ⌝ }
     ensures { λ r. ⌜ Stepped n (now (w .entry)) (now (w .exit)) i r ⌝ }
 {
     let e = s.labels - 1;
     let ups = s.ups;
     let top = s.seconds - 1;
     let t = s.bits - 2;
-    w[9 * n + e] = w[6 * n + top];
-    w[8 * n + t + 1] = 0;
-    w[8 * n + t] = 1;
+    w[work::LABELS * n + e] = w[work::SECONDS * n + top];
+    w[work::BITS * n + t + 1] = 0;
+    w[work::BITS * n + t] = 1;
     Scan {
         labels: e,
         ups,
@@ -148,14 +138,15 @@ fn step_first(w: &mut [u16], n: usize, i: usize, s: Scan) -> Scan
 // second at position i: its edge's label is told to the stack.
 fn step_second(w: &mut [u16], n: usize, i: usize, s: Scan) -> Scan
     requires { ⌜ (i < n) × Scanned n (now w) (i + 1) s
-        × (getD (now w) (3 * n + i) 0 ≢ 1) × (getD (now w) (3 * n + i) 0 ≢ 2) × (getD (now w) (3 * n + i) 0 ≢ 3) ⌝ }
+        × (getD (now w) (LETTERS * n + i) 0 ≢ code down) × (getD (now w) (LETTERS * n + i) 0 ≢ code up)
+        × (getD (now w) (LETTERS * n + i) 0 ≢ code first) ⌝ }
     ensures { λ r. ⌜ Stepped n (now (w .entry)) (now (w .exit)) i r ⌝ }
 {
     let labels = s.labels;
     let ups = s.ups;
     let seconds = s.seconds;
     let bits = s.bits;
-    w[6 * n + seconds] = second_at(w, n, i + 1);
+    w[work::SECONDS * n + seconds] = second_at(w, n, i + 1);
     Scan {
         labels,
         ups,
@@ -169,20 +160,20 @@ fn step(w: &mut [u16], n: usize, i: usize, s: Scan) -> Scan
     requires { ⌜ (i < n) × Scanned n (now w) (i + 1) s ⌝ }
     ensures { λ r. ⌜ Stepped n (now (w .entry)) (now (w .exit)) i r ⌝ }
 {
-    let l = w[3 * n + i];
-    if l == DOWN {
+    let l = w[work::LETTERS * n + i];
+    if l == work::DOWN {
         return step_down(w, n, i, s);
     }
-    if l == UP {
+    if l == work::UP {
         return step_up(w, n, i, s);
     }
-    if l == FIRST {
+    if l == work::FIRST {
         return step_first(w, n, i, s);
     }
     step_second(w, n, i, s)
 }
 
-// The labels of the word at 9n and its tree bits at 8n, in one pass from its end.
+// The labels of the word and its tree bits, in one pass from its end.
 pub fn encode(w: &mut [u16], n: usize)
     requires { ⌜ (valid 2 (lettersIn n (now w)) ≡ true) × (16 * n ≤ length (now w)) ⌝ }
     ensures { λ _. ⌜ Encoded n (now (w .entry)) (now (w .exit)) ⌝ }

@@ -6,7 +6,7 @@
 --   is-down, is-up, is-first, is-second   which letter a code stands for
 --   length-letters     as many letters as darts
 --   letters-from       the word from position i on begins with the letter at i
---   letters-set-behind   a store from 4n on leaves the word
+--   letters-set-behind   a store behind the letters leaves the word
 use mathlib.Core.Path.{_≡_, refl, ap, _∙_}
 use mathlib.Core.List.{List, [], _∷_, map}
 use mathlib.Core.Logic.{_≢_}
@@ -16,7 +16,7 @@ use lib.ListN.{length, getD, set, drop, List·getD-map, length-map}
 use lib.Seq.{drop-cons}
 use borrow.Author.Tests.{ne-eqb}
 use Rattle.model.specs.Traversal.{Letter, down, up, first, second, code}
-use Rattle.work.specs.Map.{LETTERS}
+use Rattle.work.specs.Map.{LETTERS, FACES}
 use Rattle.work.specs.Area.{region}
 use Rattle.work.proofs.Regions.{length-region, getD-region, region-set-other}
 use Rattle.work.specs.Letters.{toLetter, lettersIn}
@@ -54,7 +54,7 @@ module _ (n : ℕ) (w : List ℕ) where
   unfolding lettersIn
   letters-code v e = ap (map toLetter) e ∙ map-code v
 
-  pub length-letters : 4 * n ≤ length w → length (lettersIn n w) ≡ n
+  pub length-letters : FACES * n ≤ length w → length (lettersIn n w) ≡ n
   unfolding lettersIn
   length-letters h = length-map (region (LETTERS * n) n w) toLetter ∙ length-region (LETTERS * n) n w (omega arith)
 
@@ -62,11 +62,11 @@ module _ (n : ℕ) (w : List ℕ) where
   unfolding lettersIn
   letter-at i h = List·getD-map toLetter (region (LETTERS * n) n w) i 0 ∙ ap toLetter (getD-region (LETTERS * n) n w i h)
 
-  pub letters-from : (i : ℕ) → 4 * n ≤ length w → i < n → drop i (lettersIn n w) ≡ toLetter (getD w (LETTERS * n + i) 0) ∷ drop (suc i) (lettersIn n w)
+  pub letters-from : (i : ℕ) → FACES * n ≤ length w → i < n → drop i (lettersIn n w) ≡ toLetter (getD w (LETTERS * n + i) 0) ∷ drop (suc i) (lettersIn n w)
   letters-from i h l =
       let e = length-letters h in
       drop-cons (lettersIn n w) i (toLetter 0) (omega arith) ∙ ap (λ (x : Letter). x ∷ drop (suc i) (lettersIn n w)) (letter-at i l)
 
-  pub letters-set-behind : (i x : ℕ) → 4 * n ≤ i → lettersIn n (set w i x) ≡ lettersIn n w
+  pub letters-set-behind : (i x : ℕ) → FACES * n ≤ i → lettersIn n (set w i x) ≡ lettersIn n w
   unfolding lettersIn
   letters-set-behind i x h = ap (map toLetter) (region-set-other (LETTERS * n) n w i x (λ g. omega arith))
