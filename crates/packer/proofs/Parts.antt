@@ -21,6 +21,7 @@ use Rattle.model.specs.Numbers.{allBelow}
 use Rattle.model.specs.Map.{isKind}
 use Rattle.model.specs.Record.{pack, le16, bytesFor, labelBase, recordLength, payload, layOut}
 use Rattle.model.proofs.Below.{below-append}
+use Rattle.work.specs.Map.{BITS, LABELS}
 use Rattle.work.specs.Area.{region, placed}
 use Rattle.work.proofs.Regions.{region-split, placed-none, placed-cons, placed-next, front-placed}
 use Rattle.packing.proofs.Packed.{pack-length}
@@ -45,59 +46,42 @@ head-placed l k m out out₁ out₂ out₃ h p q r =
     ∙ ap (λ (r : List ℕ). placed 4 (le16 m) r) (placed-next 0 (le16 l) (le16 k) out (omega arith))
     ∙ placed-next 0 (le16 l ++ le16 k) (le16 m) out (omega arith)
 
--- ---- tree bits and labels
-
-module _ (m : ℕ) (w : List ℕ) where
-  pub bits-run : region (8 * (2 * m)) (9 * (2 * m) - 8 * (2 * m)) w ≡ workBits (2 * m) w
-  unfolding workBits
-  bits-run = let e : 9 * (2 * m) - 8 * (2 * m) ≡ 2 * m = omega arith in ap (λ (k : ℕ). region (8 * (2 * m)) k w) e
-
-  pub labels-run : region (9 * (2 * m)) (9 * (2 * m) + m - 9 * (2 * m)) w ≡ workLabels (2 * m) w
-  unfolding workLabels
-  labels-run = let e : 9 * (2 * m) + m - 9 * (2 * m) ≡ 2 * m / 2 = omega arith in ap (λ (k : ℕ). region (9 * (2 * m)) k w) e
-
-  pub one-run : region (8 * (2 * m)) (9 * (2 * m) + m - 8 * (2 * m)) w ≡ workBits (2 * m) w ++ workLabels (2 * m) w
-  unfolding workBits workLabels
-  one-run =
-      let e : 9 * (2 * m) + m - 8 * (2 * m) ≡ 2 * m + 2 * m / 2 = omega arith in
-      let f : 8 * (2 * m) + 2 * m ≡ 9 * (2 * m) = omega arith in
-      ap (λ (k : ℕ). region (8 * (2 * m)) k w) e ∙ region-split (8 * (2 * m)) (2 * m) (2 * m / 2) w
-      ∙ ap (λ (a : ℕ). region (8 * (2 * m)) (2 * m) w ++ region a (2 * m / 2) w) f
-
-pub all-one-run : (m : ℕ) (w : List ℕ) → allBelow 2 (workBits (2 * m) w) ≡ true → allBelow 2 (workLabels (2 * m) w) ≡ true
-    → allBelow 2 (region (8 * (2 * m)) (9 * (2 * m) + m - 8 * (2 * m)) w) ≡ true
-all-one-run m w h k = rw (one-run m w) (below-append 2 (workBits (2 * m) w) (workLabels (2 * m) w) h k)
-
-pub all-bits-run : (m : ℕ) (w : List ℕ) → allBelow 2 (workBits (2 * m) w) ≡ true
-    → allBelow 2 (region (8 * (2 * m)) (9 * (2 * m) - 8 * (2 * m)) w) ≡ true
-all-bits-run m w h = rw (bits-run m w) h
-
-pub all-labels-run : (b m : ℕ) (w : List ℕ) → allBelow b (workLabels (2 * m) w) ≡ true
-    → allBelow b (region (9 * (2 * m)) (9 * (2 * m) + m - 9 * (2 * m)) w) ≡ true
-all-labels-run b m w h = rw (labels-run m w) h
-
 -- ---- payloads
 
-pub plain-placed : (m count : ℕ) (w out out′ : List ℕ) → count ≡ bytesFor (3 * m) 8
-    → out′ ≡ placed 6 (pack 2 8 count (region (8 * (2 * m)) (9 * (2 * m) + m - 8 * (2 * m)) w)) out
-    → out′ ≡ placed 6 (payload 1 m (workBits (2 * m) w) (workLabels (2 * m) w)) out
-unfolding payload
-plain-placed m count w out out′ e p = p ∙ ap₂ (λ (k : ℕ) (r : List ℕ). placed 6 (pack 2 8 k r) out) e (one-run m w)
+module _ (m : ℕ) (w : List ℕ) where
+  abbrev n : ℕ
+  n = 2 * m
 
-pub starred-placed : (m bytes count : ℕ) (w out mid out′ : List ℕ) → bytes ≡ bytesFor (2 * m) 8 → count ≡ bytesFor m 5 → 6 + bytes + count ≤ length out
-    → mid ≡ placed 6 (pack 2 8 bytes (region (8 * (2 * m)) (9 * (2 * m) - 8 * (2 * m)) w)) out
-    → out′ ≡ placed (6 + bytes) (pack 3 5 count (region (9 * (2 * m)) (9 * (2 * m) + m - 9 * (2 * m)) w)) mid
-    → out′ ≡ placed 6 (payload 2 m (workBits (2 * m) w) (workLabels (2 * m) w)) out
-unfolding payload
-starred-placed m bytes count w out mid out′ e f h p q =
-    let bits = pack 2 8 bytes (workBits (2 * m) w) in
-    let labels = pack 3 5 count (workLabels (2 * m) w) in
-    let l = pack-length 2 8 bytes (workBits (2 * m) w) in
-    q ∙ ap₂ (λ (r s : List ℕ). placed (6 + bytes) (pack 3 5 count r) s)
-    (labels-run m w) (p ∙ ap (λ (r : List ℕ). placed 6 (pack 2 8 bytes r) out) (bits-run m w))
-    ∙ ap (λ (k : ℕ). placed (6 + k) labels (placed 6 bits out)) (sym l)
-    ∙ placed-next 6 bits labels out (omega arith)
-    ∙ ap₂ (λ (j k : ℕ). placed 6 (pack 2 8 j (workBits (2 * m) w) ++ pack 3 5 k (workLabels (2 * m) w)) out) e f
+  pub bits-run : region (BITS * n) (BITS * n + n - BITS * n) w ≡ workBits n w
+  unfolding workBits
+  bits-run = let e : BITS * n + n - BITS * n ≡ n = omega arith in rw e
+
+  pub labels-run : region (LABELS * n) (LABELS * n + m - LABELS * n) w ≡ workLabels n w
+  unfolding workLabels
+  labels-run = let e : LABELS * n + m - LABELS * n ≡ n / 2 = omega arith in rw e
+
+  pub one-run : region (BITS * n) (LABELS * n + m - BITS * n) w ≡ workBits n w ++ workLabels n w
+  unfolding workBits workLabels
+  one-run =
+      let e : LABELS * n + m - BITS * n ≡ n + n / 2 = omega arith in
+      let f : LABELS * n ≡ BITS * n + n = omega arith in
+      rw (e, f) (region-split (BITS * n) n (n / 2) w)
+
+  pub plain-placed : (at count : ℕ) (out out′ : List ℕ) → count ≡ bytesFor (3 * m) 8
+      → out′ ≡ placed at (pack 2 8 count (region (BITS * n) (LABELS * n + m - BITS * n) w)) out
+      → out′ ≡ placed at (payload 1 m (workBits n w) (workLabels n w)) out
+  unfolding payload
+  plain-placed at count out out′ e p = p ∙ rw (e, one-run)
+
+  pub starred-placed : (at bytes count : ℕ) (out mid out′ : List ℕ) → bytes ≡ bytesFor n 8 → count ≡ bytesFor m 5 → at + bytes + count ≤ length out
+      → mid ≡ placed at (pack 2 8 bytes (region (BITS * n) (BITS * n + n - BITS * n) w)) out
+      → out′ ≡ placed (at + bytes) (pack 3 5 count (region (LABELS * n) (LABELS * n + m - LABELS * n) w)) mid
+      → out′ ≡ placed at (payload 2 m (workBits n w) (workLabels n w)) out
+  unfolding payload
+  starred-placed at bytes count out mid out′ e f h p q =
+      let bits = pack 2 8 bytes (workBits n w) in
+      let l = pack-length 2 8 bytes (workBits n w) in
+      q ∙ rw (p, labels-run, bits-run, ← e, ← f) (rw l at (placed-next at bits (pack 3 5 count (workLabels n w)) out (omega arith)))
 
 -- ---- the whole record
 

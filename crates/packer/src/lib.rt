@@ -1,4 +1,4 @@
-// From tree bits and labels to the bytes of a record. In the work area, with n darts: tree bits at 8n, labels at 9n. It knows digits and places, no letters.
+// From the tree bits and labels in the work area to the bytes of a record. It knows digits and places, no letters.
 ghost use mathlib.Core.Path.{_≡_};
 ghost use mathlib.Core.Bool.{true};
 ghost use mathlib.Core.List.{_++_};
@@ -87,28 +87,46 @@ fn put_head(out: &mut [u8], total: u16, kind: u16, m: u16)
     put16(out, 4, m);
 }
 
-// The payload of kind 1, at place 6: tree bits and labels are one run of bits.
-fn put_plain(w: &[u16], m: usize, out: &mut [u8])
-    requires { ⌜ (m ≤ 4096) × (32 * m ≤ length (now w)) × (6 + bytesFor (3 * m) 8 ≤ length (now out))
+// The payload of kind 1, from place at on: tree bits and labels are one run of bits.
+fn put_plain(w: &[u16], m: usize, out: &mut [u8], at: usize)
+    requires { ⌜ (m ≤ 4096) × (32 * m ≤ length (now w)) × (at ≤ 2 ^ 16) × (at + bytesFor (3 * m) 8 ≤ length (now out))
         × (allBelow 2 (workBits (2 * m) (now w)) ≡ true) × (allBelow 2 (workLabels (2 * m) (now w)) ≡ true) ⌝ }
-    ensures { λ _. ⌜ now (out .exit) ≡ placed 6 (payload 1 m (workBits (2 * m) (now (w .entry))) (workLabels (2 * m) (now (w .entry)))) (now (out .entry)) ⌝ }
+    ensures { λ _. ⌜ now (out .exit) ≡ placed at (payload 1 m (workBits (2 * m) (now (w .entry))) (workLabels (2 * m) (now (w .entry)))) (now (out .entry)) ⌝ }
 {
     let n = 2 * m;
     let count = groups(3 * m, 8);
-    put_groups(w, 8 * n, 9 * n + m, 2, 8, out, 6, count);
+    put_groups(
+        w,
+        work::BITS * n,
+        work::LABELS * n + m,
+        2,
+        8,
+        out,
+        at,
+        count,
+    );
 }
 
-// The payload of kind 2, at place 6: tree bits, then labels in groups of five.
-fn put_starred(w: &[u16], m: usize, out: &mut [u8])
-    requires { ⌜ (m ≤ 4096) × (32 * m ≤ length (now w)) × (6 + bytesFor (2 * m) 8 + bytesFor m 5 ≤ length (now out))
+// The payload of kind 2, from place at on: tree bits, then labels in groups of five.
+fn put_starred(w: &[u16], m: usize, out: &mut [u8], at: usize)
+    requires { ⌜ (m ≤ 4096) × (32 * m ≤ length (now w)) × (at ≤ 2 ^ 16) × (at + bytesFor (2 * m) 8 + bytesFor m 5 ≤ length (now out))
         × (allBelow 2 (workBits (2 * m) (now w)) ≡ true) × (allBelow 3 (workLabels (2 * m) (now w)) ≡ true) ⌝ }
-    ensures { λ _. ⌜ now (out .exit) ≡ placed 6 (payload 2 m (workBits (2 * m) (now (w .entry))) (workLabels (2 * m) (now (w .entry)))) (now (out .entry)) ⌝ }
+    ensures { λ _. ⌜ now (out .exit) ≡ placed at (payload 2 m (workBits (2 * m) (now (w .entry))) (workLabels (2 * m) (now (w .entry)))) (now (out .entry)) ⌝ }
 {
     let n = 2 * m;
     let bytes = groups(n, 8);
     let count = groups(m, 5);
-    put_groups(w, 8 * n, 9 * n, 2, 8, out, 6, bytes);
-    put_groups(w, 9 * n, 9 * n + m, 3, 5, out, 6 + bytes, count);
+    put_groups(w, work::BITS * n, work::BITS * n + n, 2, 8, out, at, bytes);
+    put_groups(
+        w,
+        work::LABELS * n,
+        work::LABELS * n + m,
+        3,
+        5,
+        out,
+        at + bytes,
+        count,
+    );
 }
 
 // The whole record, from tree bits and labels.
@@ -121,9 +139,9 @@ pub fn pack(w: &[u16], kind: u16, m: usize, out: &mut [u8]) -> u16
     let length = heads::record_length(kind, edges) as u16;
     put_head(out, length, kind, edges);
     if kind == 1 {
-        put_plain(w, m, out);
+        put_plain(w, m, out, 6);
         return length;
     }
-    put_starred(w, m, out);
+    put_starred(w, m, out, 6);
     length
 }

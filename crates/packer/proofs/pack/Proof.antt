@@ -1,4 +1,5 @@
 use native.Mathlib.Omega.{arith}
+use lib.Dec.{lit≤}
 use Rattle.packing.proofs.Head.{recordLength-range}
 use Rattle.heads.proofs.Head.{kind-one, kind-other}
 use Rattle.packer.proofs.Parts.{kind-two, plain-bound, starred-bound, whole-record}
@@ -23,7 +24,7 @@ put-plain-requires c κs =
     let e = c .before .if1 .taken in
     let l = kind-one (st .args .kind) (st .args .m) e in
     let k = c .before .before .before .before .put-head .kept .0 in
-    (pre .2, pre .3, omega (arith, pre), pre .5, plain-bound _ _ e (pre .6))
+    (pre .2, pre .3, lit≤ tt, omega (arith, pre), pre .5, plain-bound _ _ e (pre .6))
 
 returns : tie.Need-returns
 returns c =
@@ -40,7 +41,7 @@ put-starred-requires c κs =
     let e = c .before .if1 .left in
     let l = kind-other (st .args .kind) (st .args .m) e in
     let k = c .before .before .before .before .put-head .kept .0 in
-    (pre .2, pre .3, omega (arith, pre), pre .5, starred-bound _ _ e (pre .6))
+    (pre .2, pre .3, lit≤ tt, omega (arith, pre), pre .5, starred-bound _ _ e (pre .6))
 
 returns-2 : tie.Need-returns-2
 returns-2 c =

@@ -1,6 +1,6 @@
 use native.Mathlib.Omega.{arith}
 use lib.Dec.{lit≤}
-use Rattle.packer.proofs.Parts.{all-bits-run, all-labels-run, starred-placed}
+use Rattle.packer.proofs.Parts.{bits-run, labels-run, starred-placed}
 use borrow.Author.Needs.{needs}
 use Rattle.packer.proofs.put_starred.Statement.{statement}
 use Rattle.packer.proofs.put_starred.Tie as tie
@@ -9,7 +9,7 @@ put-groups-requires : tie.Need-put-groups-requires
 put-groups-requires c κs =
     let pre = c .before .before .before .before .before .pre in
     let g = c .before .before .groups .ensures in
-    (omega (arith, pre), omega (arith, pre), lit≤ tt, lit≤ tt, all-bits-run _ _ (pre .3), omega (arith, pre), omega (arith, pre), lit≤ tt)
+    (omega (arith, pre), omega (arith, pre), lit≤ tt, lit≤ tt, rw (bits-run _ _) (pre .4), omega (arith, pre), omega (arith, pre), omega (arith, pre))
 
 put-groups-requires-2 : tie.Need-put-groups-requires-2
 put-groups-requires-2 c κs =
@@ -18,7 +18,7 @@ put-groups-requires-2 c κs =
     let g = c .before .before .before .before .before .before .groups .ensures in
     let h = c .before .before .before .before .before .groups2 .ensures in
     let k = c .before .before .before .put-groups .kept .1 .1 .1 .1 .1 .0 in
-    (omega (arith, pre), omega (arith, pre), lit≤ tt, lit≤ tt, all-labels-run 3 _ _ (pre .4), omega (arith, pre), omega (arith, pre), omega (arith, pre))
+    (omega (arith, pre), omega (arith, pre), lit≤ tt, lit≤ tt, rw (labels-run _ _) (pre .5), omega (arith, pre), omega (arith, pre), omega (arith, pre))
 
 returns : tie.Need-returns
 returns c =
@@ -26,7 +26,7 @@ returns c =
     let g = b .before .before .before .groups .ensures in
     let h = b .before .before .groups2 .ensures in
     let st = b .before .before .before .before .before .before in
-    starred-placed (st .args .m) _ _ _ _ _ _ g h (omega (arith, st .pre)) (b .put-groups .ensures) (c .before .before .put-groups2 .ensures)
+    starred-placed (st .args .m) _ _ _ _ _ _ _ g h (omega (arith, st .pre)) (b .put-groups .ensures) (c .before .before .put-groups2 .ensures)
 
 pub put-starred-spec : {M : Type 1} → statement M
 put-starred-spec =
@@ -35,6 +35,7 @@ put-starred-spec =
     (λ c. search needs)
     (λ c κs. search needs)
     (λ c κs. search needs)
+    (λ c. search needs)
     (λ c. search needs)
     (λ c. search needs)
     put-groups-requires
