@@ -4,7 +4,7 @@ use model::ReadBack;
 use model::Shelved;
 use model::Written;
 ghost use mathlib.Core.Path.{_≡_};
-ghost use Prim.Native.Nat.{ℕ, _*_};
+ghost use Prim.Native.Nat.{_*_};
 ghost use lib.ListN.{length, take};
 ghost use Rattle.model.specs.ShelfWalk.{recordAt, Begun};
 ghost use Rattle.model.specs.Exports.{WriteExport, ReadExport, ShelveExport, FetchExport, lengthFor};

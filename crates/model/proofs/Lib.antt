@@ -8,6 +8,7 @@ pub mod Standard
 pub mod Refusals
 pub mod Answers
 pub mod Line
+mod Opened
 pub mod Unreadable
 pub mod Table
 pub mod Requested

@@ -8,14 +8,9 @@ use mathlib.Core.List.{List, [], _∷_}
 use Prim.Native.Nat.{ℕ}
 use lib.Dec.{T}
 use lib.ListN.{getD, take}
-use Rattle.model.specs.Numbers.{count, some, elem, distinct, allBelow, isPermutation, position, least, cycles, firstRefusal}
-use Rattle.model.specs.Map.{opposite, next, vertexOf, faceNext, edges, vertices, faces, degreeOne, spread, spreads, reached, connected, characteristic, planar, hasLoop, hasDeadEnd, isKind, dartCountFits, degreeRefused}
-use Rattle.model.specs.Traversal.{letterAt, onward, seenAfter, walk, visits}
-use Rattle.model.specs.LabelledTree.{codesOf, codes, unlabelled, isUpper, gone, before, labelOne, removeCut, takeLeaf, takeOne, takeLeaves, treeLabels, labelOf, bitsOf, along, labels, treeBits}
-use Rattle.model.specs.Record.{digitsFrom, pack, le16, recordLength, payload, headed, payloadOf, recordOf}
 use Rattle.model.specs.Shelf.{same, firstEqual, met, asLong, compared}
-use Rattle.model.specs.Calls.{front, earlyRefusals, lateRefusals, writeRefusal, writeAnswer, writtenOutput}
-use Rattle.model.proofs.Line.{Writes, record-is, refused, answer, output, writes, refuses, agrees, holds, allHold}
+use Rattle.model.proofs.Line.{Writes, record-is, refused, allHold}
+use Rattle.model.proofs.Opened.{writing-opened}
 
 -- (a) "Order 0 2 5 4 3 1, start 0, is then 08 00 01 00 03 00 E1 00": from any other start its dead end is not the start's. One trail has two dead ends.
 unfoldable pub requested : List Writes
@@ -31,7 +26,7 @@ requested =
     ∷ []
 
 pub requested-hold : T (allHold requested)
-unfolding requested allHold holds agrees writes refuses answer output writeAnswer writtenOutput front writeRefusal earlyRefusals lateRefusals firstRefusal isKind dartCountFits isPermutation allBelow distinct elem edges recordLength connected some reached spreads spread opposite next planar characteristic vertices faces cycles count least faceNext hasLoop vertexOf degreeRefused hasDeadEnd degreeOne same recordOf headed payloadOf le16 payload pack digitsFrom treeBits labels along bitsOf labelOf treeLabels takeLeaves takeOne takeLeaf removeCut labelOne before gone isUpper unlabelled codes codesOf position visits walk letterAt onward seenAfter
+unfolding requested allHold writing-opened
 requested-hold = tt
 
 -- (g) "as many as those it meets of the new one's length, an equal one included"

@@ -4,14 +4,8 @@
 --   starred-hold         the definitions yield every line of the table
 use mathlib.Core.List.{List, [], _∷_}
 use lib.IntN.{pos}
-use Rattle.model.specs.Numbers.{count, some, elem, distinct, allBelow, isPermutation, position, least, cycles, firstRefusal}
-use Rattle.model.specs.Map.{opposite, next, vertexOf, faceNext, edges, vertices, faces, degreeOne, spread, spreads, reached, connected, characteristic, planar, hasLoop, hasDeadEnd, isKind, dartCountFits, degreeRefused}
-use Rattle.model.specs.Traversal.{letterAt, onward, seenAfter, walk, visits}
-use Rattle.model.specs.LabelledTree.{codesOf, codes, unlabelled, isUpper, gone, before, labelOne, removeCut, takeLeaf, takeOne, takeLeaves, treeLabels, labelOf, bitsOf, along, labels, treeBits}
-use Rattle.model.specs.Record.{digitsFrom, pack, le16, recordLength, payload, headed, payloadOf, recordOf}
-use Rattle.model.specs.Shelf.{same}
-use Rattle.model.specs.Calls.{front, earlyRefusals, lateRefusals, writeRefusal, writeAnswer, writtenOutput}
-use Rattle.model.proofs.Line.{Line, on-writing, on-reading, record-is, not-planar, answer, output, writes, refuses, agrees, holds, AllHold}
+use Rattle.model.proofs.Line.{Line, on-writing, on-reading, record-is, not-planar, AllHold}
+use Rattle.model.proofs.Opened.{writing-opened}
 use Rattle.model.proofs.Unreadable.{refuses-CC, refuses-C9}
 
 unfoldable pub starred : List Line
@@ -31,5 +25,5 @@ starred =
     ∷ []
 
 pub starred-hold : AllHold starred
-unfolding starred holds agrees writes refuses answer output writeAnswer writtenOutput front writeRefusal earlyRefusals lateRefusals firstRefusal isKind dartCountFits isPermutation allBelow distinct elem edges recordLength connected some reached spreads spread opposite next planar characteristic vertices faces cycles count least faceNext hasLoop vertexOf degreeRefused hasDeadEnd degreeOne same recordOf headed payloadOf le16 payload pack digitsFrom treeBits labels along bitsOf labelOf treeLabels takeLeaves takeOne takeLeaf removeCut labelOne before gone isUpper unlabelled codes codesOf position visits walk letterAt onward seenAfter
+unfolding starred writing-opened
 starred-hold = (tt, (tt, (tt, (tt, (tt, (tt, (tt, (tt, (tt, (tt, (refuses-CC, (refuses-C9, tt))))))))))))

@@ -14,15 +14,14 @@ use lib.ListN.{length, getD}
 use borrow.Author.Tests.{le-ltb}
 use Rattle.model.specs.declared.ReadBack.{ReadBack}
 use Rattle.model.specs.declared.ReadBack.the-variants as readback
-use Rattle.model.specs.Numbers.{count, some, elem, distinct, allBelow, isPermutation, position, least, cycles, firstRefusal}
-use Rattle.model.specs.Map.{Plan, darts, opposite, next, vertexOf, faceNext, edges, vertices, faces, degreeOne, spread, spreads, reached, connected, characteristic, planar, hasLoop, hasDeadEnd, isKind, dartCountFits, degreeRefused, fit}
-use Rattle.model.specs.Traversal.{letterAt, onward, seenAfter, walk, visits}
-use Rattle.model.specs.LabelledTree.{codesOf, codes, unlabelled, isUpper, gone, before, labelOne, removeCut, takeLeaf, takeOne, takeLeaves, treeLabels, labelOf, bitsOf, along, labels, treeBits}
-use Rattle.model.specs.Record.{digitsFrom, pack, le16, recordLength, payload, headed, payloadOf, recordOf}
+use Rattle.model.specs.Numbers.{distinct, allBelow, isPermutation, firstRefusal}
+use Rattle.model.specs.Map.{Plan, darts, edges, isKind, fit}
+use Rattle.model.specs.Record.{le16, recordLength, headed, recordOf}
 use Rattle.model.specs.Shelf.{same, word16, edgesOf, headRefusal}
 use Rattle.model.specs.Calls.{readRefusal, HasRecord, Reads, refused, read, unreadable}
 use Rattle.model.proofs.Booleans.{and-left, not-left, all, at}
 use Rattle.model.proofs.Line.{on-reading, Holds}
+use Rattle.model.proofs.Opened.{record-opened}
 use Rattle.model.proofs.Fitness.{below-all, Fit, fit-parts, count-parts, even-darts}
 
 -- ---- 13, where no fit plan has the record
@@ -55,14 +54,14 @@ abbrev plan : ℕ → ℕ → ℕ → ℕ → ℕ → Plan
 plan a b c d r = record { rotation = a ∷ b ∷ c ∷ d ∷ []; root = r }
 
 none-of-two : all 4 (λ a. all 4 (λ b. all 4 (λ c. all 4 (λ d. all 4 (λ r. without (plan a b c d r)))))) ≡ true
-unfolding without fit isKind dartCountFits isPermutation allBelow distinct elem edges recordLength connected some reached spreads spread opposite next planar characteristic vertices faces cycles count least faceNext hasLoop vertexOf degreeRefused hasDeadEnd degreeOne same recordOf headed payloadOf le16 payload pack digitsFrom treeBits labels along bitsOf labelOf treeLabels takeLeaves takeOne takeLeaf removeCut labelOne before gone isUpper unlabelled codes codesOf position visits walk letterAt onward seenAfter
+unfolding without record-opened
 none-of-two = refl
 
 -- ---- a plan with such a record has two edges
 
 -- the bytes of m in a record
 third-field : (k : ℕ) (p : Plan) → (getD (recordOf k p) 4 0 ≡ edges (p .rotation) % 256) × (getD (recordOf k p) 5 0 ≡ edges (p .rotation) / 256 % 256)
-unfolding recordOf headed payloadOf le16
+unfolding recordOf headed le16
 third-field k p = (refl, refl)
 
 small : (q : ℕ) → q ≤ 16 → q % 256 ≡ 0 → q ≡ 0

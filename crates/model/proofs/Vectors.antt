@@ -5,14 +5,8 @@
 use mathlib.Core.List.{List, [], _∷_}
 use lib.Dec.{T}
 use lib.IntN.{pos, negsuc}
-use Rattle.model.specs.Numbers.{count, some, elem, distinct, allBelow, isPermutation, position, least, cycles, firstRefusal}
-use Rattle.model.specs.Map.{opposite, next, vertexOf, faceNext, edges, vertices, faces, degreeOne, spread, spreads, reached, connected, characteristic, planar, hasLoop, hasDeadEnd, isKind, dartCountFits, degreeRefused}
-use Rattle.model.specs.Traversal.{letterAt, onward, seenAfter, walk, visits, number, standardNumbers, renumbered, standardPlan}
-use Rattle.model.specs.LabelledTree.{codesOf, codes, unlabelled, isUpper, gone, before, labelOne, removeCut, takeLeaf, takeOne, takeLeaves, treeLabels, labelOf, bitsOf, along, labels, treeBits}
-use Rattle.model.specs.Record.{digitsFrom, pack, le16, recordLength, payload, headed, payloadOf, recordOf}
-use Rattle.model.specs.Shelf.{same}
-use Rattle.model.specs.Calls.{front, earlyRefusals, lateRefusals, writeRefusal, writeAnswer, writtenOutput}
-use Rattle.model.proofs.Line.{Writes, standard-is, refused, not-planar, answer, output, writes, refuses, agrees, holds, allHold}
+use Rattle.model.proofs.Line.{Writes, standard-is, refused, not-planar, allHold}
+use Rattle.model.proofs.Opened.{writing-opened}
 
 unfoldable pub vectors : List Writes
 vectors =
@@ -87,5 +81,5 @@ vectors =
     ∷ []
 
 pub vectors-hold : T (allHold vectors)
-unfolding vectors allHold holds agrees writes refuses answer output writeAnswer writtenOutput front writeRefusal earlyRefusals lateRefusals firstRefusal isKind dartCountFits isPermutation allBelow distinct elem edges recordLength connected some reached spreads spread opposite next planar characteristic vertices faces cycles count least faceNext hasLoop vertexOf degreeRefused hasDeadEnd degreeOne same recordOf headed payloadOf le16 payload pack digitsFrom treeBits labels along bitsOf labelOf treeLabels takeLeaves takeOne takeLeaf removeCut labelOne before gone isUpper unlabelled codes codesOf position visits walk letterAt onward seenAfter number standardNumbers renumbered standardPlan
+unfolding vectors allHold writing-opened
 vectors-hold = tt

@@ -19,7 +19,7 @@
 --   dartCountFits n      n is a dart count that a plan may have
 --   degreeRefused k p    kind k does not take p for its dead end
 --   fit k p              the plan p is fit for kind k
-use Prim.Native.Nat.{ℕ, zero, suc, _+_, _-_, _*_, _/_, _%_}
+use Prim.Native.Nat.{ℕ, zero, suc, _-_, _*_, _/_, _%_}
 use mathlib.Core.Bool.{Bool, false, not, _&&_, _||_, cond}
 use mathlib.Core.List.{List}
 use lib.Dec.{eqb, ltb, leb}

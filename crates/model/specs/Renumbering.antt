@@ -3,7 +3,7 @@
 --   Renumbering p q f     f is a renumbering from p to q that carries root, opposites and rotation
 use Prim.Native.Nat.{ℕ, _<_}
 use mathlib.Core.Path.{_≡_}
-use mathlib.Core.Bool.{Bool, true}
+use mathlib.Core.Bool.{true}
 use mathlib.Core.List.{List}
 use lib.ListN.{length, getD}
 use Rattle.model.specs.Numbers.{isPermutation}

@@ -17,7 +17,7 @@ use Prim.Native.Nat.{ℕ, zero, suc, _+_, _*_}
 use mathlib.Core.Bool.{Bool, true, false, cond}
 use mathlib.Core.List.{List, [], _∷_, map}
 use lib.Dec.{eqb}
-use lib.ListN.{length, getD, set, replicate}
+use lib.ListN.{getD, set, replicate}
 use Rattle.model.specs.Map.{Plan, darts, opposite, next, vertexOf}
 
 -- down: across a tree edge to a vertex not yet seen. up: the arrival dart, on the way back. first, second: the dart met first and the one met

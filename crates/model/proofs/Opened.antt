@@ -1,0 +1,42 @@
+-- The definitions that a proof by computation runs, opened together: to unfold one of these names is to unfold all that its line names.
+--
+--   map-opened           the parts and properties of a map
+--   fit-opened           whether a plan is fit
+--   walk-opened          the contour walk and the standard plan
+--   labels-opened        the labelled tree
+--   record-opened        whether a plan is fit, and its record
+--   writing-opened       writing's answer and output, and what a line of a table says of them
+use Rattle.model.specs.Numbers.{count, some, elem, distinct, allBelow, isPermutation, position, least, cycles, firstRefusal}
+use Rattle.model.specs.Map.{opposite, next, vertexOf, faceNext, edges, vertices, faces, degreeOne, spread, spreads, reached, connected}
+use Rattle.model.specs.Map.{characteristic, planar, hasLoop, hasDeadEnd, isKind, dartCountFits, degreeRefused, fit}
+use Rattle.model.specs.Traversal.{letterAt, onward, seenAfter, walk, visits, number, standardNumbers, renumbered, standardPlan}
+use Rattle.model.specs.LabelledTree.{codesOf, codes, unlabelled, isUpper, gone, before, labelOne, removeCut, takeLeaf, takeOne, takeLeaves}
+use Rattle.model.specs.LabelledTree.{treeLabels, labelOf, bitsOf, along, labels, treeBits}
+use Rattle.model.specs.Record.{digitsFrom, pack, le16, recordLength, payload, headed, payloadOf, recordOf}
+use Rattle.model.specs.Shelf.{same}
+use Rattle.model.specs.Calls.{front, earlyRefusals, lateRefusals, writeRefusal, writeAnswer, writtenOutput}
+use Rattle.model.proofs.Line.{answer, output, writes, refuses, agrees, holds}
+
+unfoldable pub map-opened : Unit {0}
+unfolding opposite next vertexOf least faceNext edges vertices faces cycles count degreeOne spread spreads reached some connected characteristic planar
+map-opened = tt
+
+unfoldable pub fit-opened : Unit {0}
+unfolding map-opened fit isKind dartCountFits isPermutation allBelow distinct elem hasLoop degreeRefused hasDeadEnd
+fit-opened = tt
+
+unfoldable pub walk-opened : Unit {0}
+unfolding map-opened letterAt onward seenAfter walk visits number standardNumbers renumbered standardPlan
+walk-opened = tt
+
+unfoldable pub labels-opened : Unit {0}
+unfolding walk-opened codesOf codes position unlabelled isUpper gone before labelOne removeCut takeLeaf takeOne takeLeaves treeLabels labelOf bitsOf along labels treeBits
+labels-opened = tt
+
+unfoldable pub record-opened : Unit {0}
+unfolding fit-opened labels-opened digitsFrom pack le16 recordLength payload headed payloadOf recordOf same
+record-opened = tt
+
+unfoldable pub writing-opened : Unit {0}
+unfolding record-opened front firstRefusal earlyRefusals lateRefusals writeRefusal writeAnswer writtenOutput answer output writes refuses agrees holds
+writing-opened = tt
