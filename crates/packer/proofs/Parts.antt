@@ -19,13 +19,14 @@ use lib.ListN.{length, set, length-set}
 use borrow.Author.Tests.{eq-eqb, ne-eqb, eqb-true}
 use Rattle.model.specs.Numbers.{allBelow}
 use Rattle.model.specs.Map.{isKind}
-use Rattle.model.specs.Record.{pack, le16, bytesFor, labelBase, recordLength, payload, layOut}
+use Rattle.model.specs.Record.{pack, le16, bytesFor, labelBase, recordLength, payload, headed}
 use Rattle.model.proofs.Below.{below-append}
 use Rattle.work.specs.Map.{BITS, LABELS}
 use Rattle.work.specs.Area.{region, placed}
 use Rattle.work.proofs.Regions.{region-split, placed-none, placed-cons, placed-next, front-placed}
 use Rattle.packing.proofs.Packed.{pack-length}
 use Rattle.packing.proofs.Head.{recordLength-range}
+use Rattle.packing.proofs.Payload.{payload-length}
 use Rattle.work.specs.Letters.{workBits, workLabels}
 use Rattle.packer.specs.Packed.{Packed}
 
@@ -101,15 +102,16 @@ starred-bound k xs d h = rw (ne-eqb k 1 d) at h
 pub whole-record : (k j m total : ℕ) (w out mid out′ : List ℕ) → k ≡ j → total ≡ recordLength k m → 1 ≤ m → m ≤ 4096 → recordLength k m ≤ length out
     → mid ≡ placed 0 (le16 total ++ (le16 k ++ le16 m)) out → out′ ≡ placed 6 (payload j m (workBits (2 * m) w) (workLabels (2 * m) w)) mid
     → Packed k m w out total out′
-unfolding layOut le16
+unfolding headed le16
 whole-record k j m total w out mid out′ e t o h l p q =
     let tail = payload k m (workBits (2 * m) w) (workLabels (2 * m) w) in
+    let long = payload-length k m (workBits (2 * m) w) (workLabels (2 * m) w) in
     let s = recordLength-range k m o h in
     record {
       answered = t;
       filled =
           q ∙ ap₂ (λ (i : ℕ) (r : List ℕ). placed 6 (payload i m (workBits (2 * m) w) (workLabels (2 * m) w)) r) (sym e) p
-          ∙ ap (λ (x : ℕ). placed 6 tail (placed 0 (le16 x ++ (le16 k ++ le16 m)) out)) t
-          ∙ placed-next 0 (le16 (recordLength k m) ++ (le16 k ++ le16 m)) tail out (omega arith)
-          ∙ front-placed (layOut k m (workBits (2 * m) w) (workLabels (2 * m) w)) out;
+          ∙ ap (λ (x : ℕ). placed 6 tail (placed 0 (le16 x ++ (le16 k ++ le16 m)) out)) (t ∙ sym long)
+          ∙ placed-next 0 (le16 (6 + length tail) ++ (le16 k ++ le16 m)) tail out (omega arith)
+          ∙ front-placed (headed k m tail) out;
     }
