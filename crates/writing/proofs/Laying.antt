@@ -12,13 +12,14 @@ use lib.ListN.{length}
 use Rattle.model.specs.Numbers.{allBelow}
 use Rattle.model.specs.Map.{isKind}
 use Rattle.model.specs.Traversal.{Letter}
-use Rattle.model.specs.Record.{recordLength, labelBase, layOut}
+use Rattle.model.specs.Record.{recordLength, labelBase, payload, headed}
 use Rattle.model.specs.Calls.{front}
 use Rattle.model.proofs.Fitness.{count-parts}
 use Rattle.words.specs.Word.{valid}
 use Rattle.words.proofs.Validity.{valid-fits, valid-nested, valid-of}
 use Rattle.machine.proofs.Sizes.{labels-bound}
 use Rattle.machine.proofs.Bounds.{bits-below}
+use Rattle.coding.specs.Decode.{encodePayload}
 use Rattle.work.proofs.Letters.{length-letters}
 use Rattle.work.specs.Letters.{lettersIn, workBits, workLabels}
 use Rattle.encoder.specs.Encoded.{Encoded}
@@ -65,9 +66,10 @@ module _ (n k : ℕ) (w out : List ℕ) (r : Ready n k w out) where
         )
 
     pub laid : (answer : ℕ) (out′ : List ℕ) → Packed k (n / 2) w₁ out answer out′ → Recorded n k w out answer w₁ out′
+    unfolding encodePayload
     laid answer out′ u = record {
       answered = u .answered;
-      filled = u .filled ∙ ap (λ (m : ℕ). front (layOut k (n / 2) (workBits m w₁) (workLabels m w₁)) out) half
-          ∙ rw (t .bits, t .labels);
+      filled = u .filled ∙ ap (λ (m : ℕ). front (headed k (n / 2) (payload k (n / 2) (workBits m w₁) (workLabels m w₁))) out) half
+          ∙ rw (t .bits, t .labels, size);
       kept = t .kept;
     }

@@ -23,6 +23,7 @@ use Rattle.model.specs.Calls.{earlyRefusals, writeRefusal, writeAnswer, written
 use Rattle.model.proofs.Fitness.{fit-parts}
 use Rattle.words.specs.Word.{valid}
 use Rattle.coding.proofs.FitPlans.{of-fit}
+use Rattle.coding.proofs.Coders.{payload-of-word}
 use Rattle.lists.proofs.Calls.{not-refused}
 use Rattle.fitting.specs.declared.Verdict.{Verdict}
 use Rattle.fitting.specs.declared.Verdict.the-variants as verdict
@@ -133,10 +134,8 @@ module _ (k : ℕ) (p : Plan) (w out : List ℕ) where
 
         pub made : (answer : ℕ) (w₂ out′ : List ℕ) → Recorded (darts p) k w₁ out answer w₂ out′ → Made k p w out (written.Length answer) w₂ out′
         unfolding writtenOutput writeAnswer recordOf edges
-        made n w₂ out′ l =
-            let o = of-fit k p fits in
-            record {
-              answered = rw (unrefused, l .answered);
-              filled = l .filled ∙ rw (letters, sym (o .bits), sym (o .marks), unrefused);
-              kept = l .kept ∙ j .kept;
-            }
+        made n w₂ out′ l = record {
+          answered = rw (unrefused, l .answered);
+          filled = l .filled ∙ rw (letters, sym (payload-of-word k p fits), unrefused);
+          kept = l .kept ∙ j .kept;
+        }

@@ -6,15 +6,16 @@
 --   Made                 the answer and the output of writing, and the work area's length
 use Prim.Native.Nat.{ℕ, _*_, _/_, _≤_}
 use mathlib.Core.Path.{_≡_}
-use mathlib.Core.Bool.{true, false}
+use mathlib.Core.Bool.{true}
 use mathlib.Core.List.{List}
 use lib.ListN.{length}
 use Rattle.model.specs.declared.Written.{Written}
 use Rattle.model.specs.Numbers.{firstRefusal}
 use Rattle.model.specs.Map.{Plan, isKind}
-use Rattle.model.specs.Record.{recordLength, layOut}
+use Rattle.model.specs.Record.{recordLength, headed}
 use Rattle.model.specs.Calls.{front, earlyRefusals, writeAnswer, writtenOutput}
-use Rattle.words.specs.Word.{valid, wordBits, wordLabels}
+use Rattle.words.specs.Word.{valid}
+use Rattle.coding.specs.Decode.{encodePayload}
 use Rattle.work.specs.Letters.{lettersIn}
 
 unfoldable pub earlyRefusal : ℕ → Plan → ℕ → ℕ → ℕ
@@ -34,5 +35,5 @@ pub record Ready (n k : ℕ) (w out : List ℕ) : Type 0 where
 
 pub record Recorded (n k : ℕ) (w out : List ℕ) (answer : ℕ) (w′ out′ : List ℕ) : Type 0 where
   pub answered : answer ≡ recordLength k (n / 2)
-  pub filled : out′ ≡ front (layOut k (n / 2) (wordBits false (lettersIn n w)) (wordLabels (lettersIn n w))) out
+  pub filled : out′ ≡ front (headed k (n / 2) (encodePayload k (lettersIn n w))) out
   pub kept : length w′ ≡ length w
