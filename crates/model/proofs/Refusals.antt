@@ -1,35 +1,100 @@
--- Lists of refusals.
+-- Lists of refusals, however many they are.
 --
 --   not-met              the test b of refusal k fails, and what comes after it
---   not-first            none holds: not the first of them, nor any other
---   Numbered             every number is a refusal's
---   first-append         the first of two lists of refusals, one after the other
-use Prim.Native.Nat.{ℕ, suc}
-use native.Mathlib.Nat.{suc-ne-zero}
-use mathlib.Core.Path.{_≡_, refl}
-use mathlib.Core.Bool.{Bool, true, false, cond}
+--   conditionOf n rs     the condition of refusal n; lacks n rs, there is none with this number
+--   none-holds           if the first is 0, every condition fails
+--   first-lacks          the first has no number that none of them has
+--   first-append         the first of two lists, one after the other
+--   append-none          if it is 0, it is 0 in both
+--   NotRefused, not-refused      where no refusal of writing holds: the plan is fit, and the output has room for the record
+use Prim.Native.Nat.{ℕ, _≤_}
+use mathlib.Core.Path.{_≡_, refl, sym, _∙_}
+use mathlib.Core.Bool.{Bool, true, false, not, _&&_, cond}
 use mathlib.Core.List.{List, [], _∷_, _++_}
 use lib.Dec.{eqb}
-use Rattle.model.specs.Numbers.{Refusal, firstRefusal, refuse}
+use borrow.Author.Tests.{eqb-true, eqb-false, ltb-true, ltb-false, not-true, not-false}
+use Rattle.model.specs.Numbers.{Refusal, firstRefusal}
+use Rattle.model.specs.Map.{Plan, edges, fit}
+use Rattle.model.specs.Record.{recordLength}
+use Rattle.model.specs.Calls.{earlyRefusals, lateRefusals, writeRefusal}
+use Rattle.model.proofs.Booleans.{and-left, and-right}
+use Rattle.model.proofs.Fitness.{parts-fit}
 
 pub not-met : (b : Bool) (k n : ℕ) → (k ≡ 0 → ⊥) → cond b k n ≡ 0 → (b ≡ false) × (n ≡ 0)
 not-met true k n d e = absurd (d e)
 not-met false k n d e = (refl, e)
 
-pub not-first : (n : ℕ) (b : Bool) (rs : List Refusal) → firstRefusal (refuse (suc n) b ∷ rs) ≡ 0 → (b ≡ false) × (firstRefusal rs ≡ 0)
-unfolding firstRefusal
-not-first n b rs e = not-met b (suc n) (firstRefusal rs) (suc-ne-zero n) e
+abbrev pub conditionOf : ℕ → List Refusal → Bool
+conditionOf n [] = false
+conditionOf n (r ∷ rs) = cond (eqb (r .number) n) (r .holds) (conditionOf n rs)
 
-abbrev pub Numbered : List Refusal → Type 0
-Numbered [] = Unit
-Numbered (r ∷ rs) = (eqb (r .number) 0 ≡ false) × Numbered rs
+abbrev pub lacks : ℕ → List Refusal → Bool
+lacks n [] = true
+lacks n (r ∷ rs) = not (eqb (r .number) n) && lacks n rs
 
-pub first-append : (rs bs : List Refusal) → Numbered rs → firstRefusal (rs ++ bs) ≡ cond (eqb (firstRefusal rs) 0) (firstRefusal bs) (firstRefusal rs)
+lacks-parts : (n : ℕ) (r : Refusal) (rs : List Refusal) → lacks n (r ∷ rs) ≡ true → (eqb (r .number) n ≡ false) × (lacks n rs ≡ true)
+lacks-parts n r rs l = (not-true (eqb (r .number) n) (and-left _ (lacks n rs) l), and-right (not (eqb (r .number) n)) _ l)
+
+pub none-holds : (rs : List Refusal) → lacks 0 rs ≡ true → firstRefusal rs ≡ 0 → (n : ℕ) → conditionOf n rs ≡ false
 unfolding firstRefusal
-first-append [] bs n = refl
-first-append (a ∷ rs) bs (n, ns) = go (a .holds) (first-append rs bs ns)
+none-holds [] l e n = refl
+none-holds (r ∷ rs) l e n =
+    let (here, rest) = lacks-parts 0 r rs l in
+    go (r .holds) (eqb (r .number) n) (eqb-false (r .number) 0 here) e (λ z. none-holds rs rest z n)
   where
-    go : (b : Bool) → firstRefusal (rs ++ bs) ≡ cond (eqb (firstRefusal rs) 0) (firstRefusal bs) (firstRefusal rs)
-        → cond b (a .number) (firstRefusal (rs ++ bs)) ≡ cond (eqb (cond b (a .number) (firstRefusal rs)) 0) (firstRefusal bs) (cond b (a .number) (firstRefusal rs))
-    go true ih = rw n
-    go false ih = ih
+    go : (b c : Bool) → (r .number ≡ 0 → ⊥) → cond b (r .number) (firstRefusal rs) ≡ 0 → (firstRefusal rs ≡ 0 → conditionOf n rs ≡ false)
+        → cond c b (conditionOf n rs) ≡ false
+    go true c d z more = absurd (d z)
+    go false true d z more = refl
+    go false false d z more = more z
+
+pub first-lacks : (n : ℕ) (rs : List Refusal) → eqb 0 n ≡ false → lacks n rs ≡ true → eqb (firstRefusal rs) n ≡ false
+unfolding firstRefusal
+first-lacks n [] z l = z
+first-lacks n (r ∷ rs) z l = let (here, rest) = lacks-parts n r rs l in go (r .holds) here (first-lacks n rs z rest)
+  where
+    go : (b : Bool) → eqb (r .number) n ≡ false → eqb (firstRefusal rs) n ≡ false → eqb (cond b (r .number) (firstRefusal rs)) n ≡ false
+    go true h ih = h
+    go false h ih = ih
+
+pub first-append : (rs ss : List Refusal) → lacks 0 rs ≡ true
+    → firstRefusal (rs ++ ss) ≡ cond (eqb (firstRefusal rs) 0) (firstRefusal ss) (firstRefusal rs)
+unfolding firstRefusal
+first-append [] ss l = refl
+first-append (r ∷ rs) ss l = let (here, rest) = lacks-parts 0 r rs l in go (r .holds) here (first-append rs ss rest)
+  where
+    go : (b : Bool) → eqb (r .number) 0 ≡ false → firstRefusal (rs ++ ss) ≡ cond (eqb (firstRefusal rs) 0) (firstRefusal ss) (firstRefusal rs)
+        → cond b (r .number) (firstRefusal (rs ++ ss)) ≡ cond (eqb (cond b (r .number) (firstRefusal rs)) 0) (firstRefusal ss) (cond b (r .number) (firstRefusal rs))
+    go true n ih = rw n
+    go false n ih = ih
+
+pub append-none : (rs ss : List Refusal) → lacks 0 rs ≡ true → firstRefusal (rs ++ ss) ≡ 0 → (firstRefusal rs ≡ 0) × (firstRefusal ss ≡ 0)
+append-none rs ss l e = go (eqb (firstRefusal rs) 0) refl (sym (first-append rs ss l) ∙ e)
+  where
+    go : (b : Bool) → eqb (firstRefusal rs) 0 ≡ b → cond b (firstRefusal ss) (firstRefusal rs) ≡ 0 → (firstRefusal rs ≡ 0) × (firstRefusal ss ≡ 0)
+    go true t z = (eqb-true _ 0 t, z)
+    go false t z = absurd (eqb-false _ 0 t z)
+
+-- ---- writing
+
+pub record NotRefused (k : ℕ) (p : Plan) (workLength outLength : ℕ) : Type 0 where
+  pub is-fit : fit k p ≡ true
+  pub room : recordLength k (edges (p .rotation)) ≤ outLength
+
+pub not-refused : (k : ℕ) (p : Plan) (w o : ℕ) → writeRefusal k p w o ≡ 0 → NotRefused k p w o
+unfolding writeRefusal earlyRefusals lateRefusals
+not-refused k p w o e =
+    let no = none-holds (earlyRefusals k p w o ++ lateRefusals k p) refl e in
+    record {
+      is-fit = parts-fit k p (record {
+        kind = not-false _ (no 2);
+        count = not-false _ (no 3);
+        root = ltb-true _ _ (not-false _ (no 4));
+        entries = not-false _ (no 6);
+        joined = not-false _ (no 9);
+        flat = not-false _ (no 10);
+        loopless = no 11;
+        degrees = no 12;
+      });
+      room = ltb-false _ _ (no 8);
+    }

@@ -1,3 +1,3 @@
-mod Refusals
+pub mod Refusals
 pub mod Walking
 mod Storing

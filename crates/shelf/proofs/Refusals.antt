@@ -2,6 +2,7 @@
 --
 --   count-over, count-part       how many records there are
 --   fetch-broken, fetch-past, fetch-fine      14, 15, or none in fetching
+--   fetch-none                   where none holds in fetching
 --   used-part                    the used bytes, as the code lends them
 --   count-broken, count-records  what a count tells
 use mathlib.Core.Path.{_≡_, refl, ap, _∙_}
@@ -11,12 +12,13 @@ use Prim.Native.Nat.{ℕ, _-_, _≤_, _<_}
 use native.Mathlib.Nat.{sub-zero}
 use native.Mathlib.Omega.{arith}
 use lib.ListN.{length, take, drop}
-use borrow.Author.Tests.{lt-ltb, le-ltb}
+use borrow.Author.Tests.{lt-ltb, le-ltb, ltb-true, not-false}
 use Rattle.records.specs.declared.Counted.{Counted}
 use Rattle.records.specs.declared.Counted.the-variants.{Records, Broken}
 use Rattle.model.specs.Numbers.{firstRefusal}
 use Rattle.model.specs.Shelf.{recordsIn, endToEnd, shelfRefused}
 use Rattle.model.specs.Calls.{fetchRefusal}
+use Rattle.model.proofs.Refusals.{none-holds}
 use Rattle.records.specs.Count.{countOf}
 use Rattle.shelf.specs.Count.{shelfCount}
 
@@ -55,6 +57,11 @@ module _ (s : List ℕ) (u : ℕ) where
         go false e = (refl, cc e)
 
   module _ (n : ℕ) where
+    -- where none holds
+    pub fetch-none : fetchRefusal s u n ≡ 0 → (shelfRefused s u ≡ false) × (n < length (recordsIn (take u s)))
+    unfolding fetchRefusal
+    fetch-none e = let no = none-holds _ refl e in (no 14, ltb-true _ _ (not-false _ (no 15)))
+
     pub fetch-broken : Broken ≡ shelfCount s u → 14 ≡ fetchRefusal s u n
     unfolding fetchRefusal firstRefusal
     fetch-broken e = rw (count-broken e)

@@ -12,27 +12,25 @@
 --   next-is, whole-part   the next place by a record's length; the used part of a shelf that is shorter
 use mathlib.Core.Path.{_≡_, refl, sym, ap, _∙_}
 use mathlib.Core.Logic.{_⊎_, inl, inr}
-use mathlib.Core.Bool.{Bool, true, false, not, cond}
+use mathlib.Core.Bool.{Bool, true, false, cond}
 use mathlib.Core.List.{List, []}
 use Prim.Native.Nat.{ℕ, zero, suc, _+_, _-_, _≤_, _<_}
 use native.Mathlib.Decide.{ℕ-discrete}
 use native.Mathlib.Omega.{arith}
-use lib.Dec.{eqb, ltb}
+use lib.Dec.{eqb}
 use lib.ListN.{length, getD, take, drop, length-take}
 use lib.Seq.{drop-drop, take-all}
-use borrow.Author.Tests.{eq-eqb, ne-eqb, ltb-true, ltb-false, eqb-true, not-false}
-use Rattle.model.specs.Numbers.{firstRefusal}
+use borrow.Author.Tests.{eq-eqb, ne-eqb, ltb-false, eqb-true, not-false}
 use Rattle.model.specs.Shelf.{word16, passes, recordsIn, endToEnd, shelfRefused}
 use Rattle.model.specs.Calls.{fetchRefusal, fetched, Fetched}
 use Rattle.model.specs.ShelfWalk.{firstRecord, recordAt, placeOfRecord, beginPlace, nextPlace, Begun}
 use Rattle.model.proofs.Booleans.{or-none}
-use Rattle.model.proofs.Refusals.{not-met}
 use denote.Ref.{RefT, now}
 use Rattle.model.specs.Parts.{cutPlace, CutOut}
 use Rattle.records.proofs.Stands.{head-whole, record-is, record-short, stands, stands-length, stands-not}
 use Rattle.records.proofs.Cut.{rest, some-bytes, end-head, end-rest, end-records}
 use Rattle.model.specs.Parts.{fetchedPlace, FetchedPart}
-use Rattle.shelf.proofs.Refusals.{used-part}
+use Rattle.shelf.proofs.Refusals.{used-part, fetch-none}
 
 record-drop : (bs : List ℕ) (l at : ℕ) → recordAt bs (l + at) ≡ recordAt (drop l bs) at
 unfolding recordAt
@@ -88,12 +86,7 @@ none-left s u = let l = length-take u s in record-short (take u s) u (omega arit
 
 module _ (s : List ℕ) (u n : ℕ) where
   pub fine-parts : fetchRefusal s u n ≡ 0 → (u ≤ length s) × (endToEnd (take u s) ≡ true) × (n < length (recordsIn (take u s)))
-  unfolding fetchRefusal firstRefusal
-  fine-parts e =
-      let a = not-met (shelfRefused s u) 14 _ (λ z. omega arith) e in
-      let b = not-met (not (ltb n (length (recordsIn (take u s))))) 15 0 (λ z. omega arith) (a .1) in
-      let f = used-fine s u (a .0) in
-      (f .0, f .1, ltb-true _ _ (not-false _ (b .0)))
+  fine-parts e = let (fine, there) = fetch-none s u n e in let f = used-fine s u fine in (f .0, f .1, there)
 
   pub first-record : recordAt (take u s) (beginPlace s u n) ≡ fetched s u n
   unfolding beginPlace fetched

@@ -21,7 +21,8 @@ use Rattle.model.specs.Numbers.{firstRefusal}
 use Rattle.model.specs.Shelf.{headRefusal, passes, recordsIn, endToEnd, firstEqual, shelfRefused}
 use Rattle.model.specs.Calls.{front, shelveRefusal, shelveAnswer, shelvedBytes, Stored, fetchRefusal, fetched, Fetched}
 use Rattle.model.proofs.Refusals.{not-met}
-use Rattle.shelf.proofs.Walking.{used-fine, fine-parts}
+use Rattle.shelf.proofs.Refusals.{fetch-none}
+use Rattle.shelf.proofs.Walking.{used-fine}
 use Rattle.shelf_laws.proofs.Laid.{one-more}
 use Rattle.shelf_laws.proofs.Number.{first-bound, first-there, first-behind}
 
@@ -42,10 +43,6 @@ fetch-refusal-zero s u n e h = rw (e, lt-ltb _ _ h)
 pub fetched-record : (s : List ℕ) (u n : ℕ) → shelfRefused s u ≡ false → n < length (records s u) → fetched s u n ≡ getD (records s u) n []
 unfolding fetched
 fetched-record s u n e h = rw (eq-eqb (fetchRefusal s u n) 0 (fetch-refusal-zero s u n e h))
-
-fine-shelf : (s : List ℕ) (u n : ℕ) → fetchRefusal s u n ≡ 0 → shelfRefused s u ≡ false
-unfolding fetchRefusal firstRefusal
-fine-shelf s u n e = not-met (shelfRefused s u) 14 _ (λ z. omega arith) e .0
 
 -- ---- an accepted shelving
 
@@ -186,10 +183,10 @@ module _ (r s : List ℕ) (u n u′ : ℕ) (s′ : List ℕ) (c : Stored r s u (
   pub earlier-kept : (k : ℕ) → fetchRefusal s u k ≡ 0 → (fetchRefusal s′ u′ k ≡ 0) × (fetched s′ u′ k ≡ fetched s u k)
   earlier-kept k z =
       let a = here in
-      let p = fine-parts s u k z in
-      let b = a .earlier k (p .2) in (
+      let (fine, there) = fetch-none s u k z in
+      let b = a .earlier k there in (
         fetch-refusal-zero s′ u′ k (a .after-fine) (b .0),
-        fetched-record s′ u′ k (a .after-fine) (b .0) ∙ (b .1 ∙ sym (fetched-record s u k (fine-shelf s u k z) (p .2))),
+        fetched-record s′ u′ k (a .after-fine) (b .0) ∙ (b .1 ∙ sym (fetched-record s u k fine there)),
       )
 
   -- a second shelving of the same bytes gives the same number and used length, and changes nothing

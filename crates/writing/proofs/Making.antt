@@ -9,48 +9,28 @@ use Prim.Native.Nat.{ℕ, _*_, _≤_}
 use native.Mathlib.Omega.{arith}
 use mathlib.Core.Path.{_≡_, refl, sym, ap, _∙_}
 use mathlib.Core.Bool.{Bool, true, false, cond}
-use mathlib.Core.List.{List, [], _∷_}
+use mathlib.Core.List.{List}
 use lib.Dec.{eqb}
 use lib.ListN.{length}
 use borrow.Author.Tests.{ne-eqb, eqb-true}
 use Rattle.model.specs.declared.Written.{Written}
 use Rattle.model.specs.declared.Written.the-variants as written
-use Rattle.model.specs.Numbers.{Refusal, firstRefusal}
 use Rattle.model.specs.Map.{Plan, darts, edges, characteristic, fit}
 use Rattle.model.specs.Traversal.{word}
 use Rattle.model.specs.Record.{recordLength, recordOf}
-use Rattle.model.specs.Calls.{earlyRefusals, writeRefusal, writeAnswer, writtenOutput}
+use Rattle.model.specs.Calls.{writeRefusal, writeAnswer, writtenOutput}
 use Rattle.model.proofs.Fitness.{fit-parts}
 use Rattle.words.specs.Word.{valid}
 use Rattle.coding.proofs.FitPlans.{of-fit}
 use Rattle.coding.proofs.Coders.{payload-of-word}
-use Rattle.lists.proofs.Calls.{not-refused}
+use Rattle.model.proofs.Refusals.{not-refused}
 use Rattle.fitting.specs.declared.Verdict.{Verdict}
 use Rattle.fitting.specs.declared.Verdict.the-variants as verdict
 use Rattle.fitting.specs.Judged.{lateRefusal, verdictOf, Judged}
 use Rattle.work.specs.Letters.{lettersIn}
 use Rattle.writing.specs.Early.{earlyRefusal, Ready, Recorded, Made}
-use Rattle.writing.proofs.Refusing.{refusal-split}
+use Rattle.writing.proofs.Refusing.{refusal-split, early-not-ten}
 use Rattle.work.proofs.Letters.{letters-code}
-
--- ---- an early refusal is not 10
-
-abbrev NotTen : List Refusal → Type 0
-NotTen [] = Unit
-NotTen (r ∷ rs) = (eqb (r .number) 10 ≡ false) × NotTen rs
-
-first-not-ten : (rs : List Refusal) → NotTen rs → eqb (firstRefusal rs) 10 ≡ false
-unfolding firstRefusal
-first-not-ten [] n = refl
-first-not-ten (r ∷ rs) (n, ns) = go (r .holds) (first-not-ten rs ns)
-  where
-    go : (b : Bool) → eqb (firstRefusal rs) 10 ≡ false → eqb (cond b (r .number) (firstRefusal rs)) 10 ≡ false
-    go true ih = n
-    go false ih = ih
-
-early-not-ten : (k : ℕ) (p : Plan) (wl ol : ℕ) → eqb (earlyRefusal k p wl ol) 10 ≡ false
-unfolding earlyRefusal earlyRefusals
-early-not-ten k p wl ol = first-not-ten (earlyRefusals k p wl ol) (refl, (refl, (refl, (refl, (refl, (refl, tt))))))
 
 abbrev pub asWritten : ℕ → Verdict → Written
 asWritten n verdict.Fits = written.Length n

@@ -1,27 +1,32 @@
 -- Writing's refusals, the early ones before those of the plan itself.
 --
 --   refusal-split        writing's refusal is the early one, else the late one
+--   early-not-ten        an early refusal is not 10
 --   two, three, four, six, seven, eight, passed   the early refusals, test by test
 --   no-darts, odd-darts, many-darts, fit-darts   the count of darts, test by test
 --   Passed, early-parts  what a call that passes them is handed
 use Prim.Native.Nat.{ℕ, _*_, _%_, _≤_, _<_}
 use native.Mathlib.Omega.{arith}
 use mathlib.Core.Path.{_≡_, refl}
-use mathlib.Core.Bool.{true, false, not, cond}
-use lib.Dec.{eqb, ltb}
+use mathlib.Core.Bool.{true, false, cond}
+use lib.Dec.{eqb}
 use borrow.Author.Tests.{lt-ltb, le-ltb, eq-eqb, ne-eqb, le-leb, lt-leb, ltb-true, ltb-false, not-false}
 use Rattle.model.specs.Numbers.{firstRefusal, isPermutation}
 use Rattle.model.specs.Map.{Plan, darts, edges, isKind, dartCountFits}
 use Rattle.model.specs.Record.{recordLength}
 use Rattle.model.specs.Calls.{earlyRefusals, lateRefusals, writeRefusal}
 use Rattle.model.proofs.Fitness.{even-darts}
-use Rattle.model.proofs.Refusals.{not-first, first-append}
+use Rattle.model.proofs.Refusals.{none-holds, first-lacks, first-append}
 use Rattle.fitting.specs.Judged.{lateRefusal}
 use Rattle.writing.specs.Early.{earlyRefusal}
 
 pub refusal-split : (k : ℕ) (p : Plan) (wl ol : ℕ) → writeRefusal k p wl ol ≡ cond (eqb (earlyRefusal k p wl ol) 0) (lateRefusal k p) (earlyRefusal k p wl ol)
 unfolding writeRefusal earlyRefusal earlyRefusals lateRefusal
-refusal-split k p wl ol = first-append (earlyRefusals k p wl ol) (lateRefusals k p) (refl, (refl, (refl, (refl, (refl, (refl, tt))))))
+refusal-split k p wl ol = first-append (earlyRefusals k p wl ol) (lateRefusals k p) refl
+
+pub early-not-ten : (k : ℕ) (p : Plan) (wl ol : ℕ) → eqb (earlyRefusal k p wl ol) 10 ≡ false
+unfolding earlyRefusal earlyRefusals
+early-not-ten k p wl ol = first-lacks 10 (earlyRefusals k p wl ol) refl refl
 
 -- ---- the early refusals, test by test
 
@@ -91,19 +96,14 @@ pub record Passed (k : ℕ) (p : Plan) (wl ol : ℕ) : Type 0 where
 pub early-parts : (k : ℕ) (p : Plan) (wl ol : ℕ) → earlyRefusal k p wl ol ≡ 0 → Passed k p wl ol
 unfolding earlyRefusal earlyRefusals
 early-parts k p wl ol e =
-    let c₂ = not-first 1 (not (isKind k)) _ e in
-    let c₃ = not-first 2 (not (dartCountFits (darts p))) _ (c₂ .1) in
-    let c₄ = not-first 3 (not (ltb (p .root) (darts p))) _ (c₃ .1) in
-    let c₆ = not-first 5 (not (isPermutation (p .rotation))) _ (c₄ .1) in
-    let c₇ = not-first 6 (ltb wl (32 * edges (p .rotation))) _ (c₆ .1) in
-    let c₈ = not-first 7 (ltb ol (recordLength k (edges (p .rotation)))) _ (c₇ .1) in
-    let fits = not-false (dartCountFits (darts p)) (c₃ .0) in
+    let no = none-holds (earlyRefusals k p wl ol) refl e in
+    let fits = not-false _ (no 3) in
     let even = even-darts p fits in
-    let wide = ltb-false wl (32 * edges (p .rotation)) (c₇ .0) in
+    let wide = ltb-false wl (32 * edges (p .rotation)) (no 7) in
     record {
       count = fits;
-      root = ltb-true (p .root) (darts p) (not-false (ltb (p .root) (darts p)) (c₄ .0));
-      entries = not-false (isPermutation (p .rotation)) (c₆ .0);
+      root = ltb-true _ _ (not-false _ (no 4));
+      entries = not-false _ (no 6);
       room = omega arith;
-      space = ltb-false ol (recordLength k (edges (p .rotation))) (c₈ .0);
+      space = ltb-false _ _ (no 8);
     }
