@@ -1,2 +1,2 @@
-// Theory only: numbers packed from digits and taken apart again, and a record's bytes taken apart into tree bits and labels. It knows lists of numbers,
-// no plans and no code.
+// Theory only: numbers packed from digits and taken apart again, payloads made of tree bits and labels and taken apart, and a payload behind its head. It
+// knows lists of numbers, no plans and no code.
