@@ -10,37 +10,42 @@ use mathlib.Core.List.{List}
 use lib.Dec.{eqb}
 use lib.ListN.{length}
 use Rattle.model.specs.Numbers.{isPermutation}
-use Rattle.model.specs.Map.{darts, dartCountFits, connected, planar, hasDeadEnd, degreeRefused, fit}
+use Rattle.model.specs.Map.{darts, dartCountFits, connected, hasDeadEnd, degreeRefused, fit}
 use Rattle.model.specs.Traversal.{Letter, word, standardPlan}
 use Rattle.model.proofs.Fitness.{parts-fit, count-positive}
 use Rattle.words.specs.Word.{bareLeaf, valid, planOf}
-use Rattle.words.specs.Toured.{Toured}
+use Rattle.words.specs.Toured.{Toured, Bracketed}
 use Rattle.words.proofs.Plans.{rotation-length}
+use Rattle.words.specs.Brackets.{letter}
+use Rattle.words.specs.Position.{Balance, Ends}
 use Rattle.words.proofs.Validity.{valid-kind, valid-fits, valid-nested, valid-plain}
+use Rattle.words.proofs.Nesting.{balance, nested-ends, ends-low}
+use Rattle.words.proofs.Rotation.{rotation-listed}
 use Rattle.traversal.proofs.Toured.{walk-toured}
-use Rattle.planarity.proofs.Planar.{planar-bracketed}
+use Rattle.planarity.proofs.Vertices.{trees-nested}
+use Rattle.planarity.proofs.Planar.{bracketed-planar}
 use Rattle.standard.proofs.DeadEnds.{dead-end-word}
-use Rattle.building.specs.Position.{letter, Balance}
-use Rattle.building.proofs.Machine.{balance, strict}
-use Rattle.building.proofs.Rotation.{rotation-listed}
+use Rattle.standard.proofs.Linking.{standard-is-planOf}
 use Rattle.building.proofs.Walk.{walked}
-use Rattle.building.proofs.Planar.{built-planar}
+use Rattle.building.proofs.Planar.{built-chords}
 use Rattle.building.proofs.Loops.{built-no-loop}
 use Rattle.building.proofs.Connected.{built-connected}
-use Rattle.building.proofs.Standard.{standard-same}
 
 module _ (k : ℕ) (w : List Letter) (v : valid k w ≡ true) where
   brackets : Balance (letter w) (length w)
   brackets = balance false w (valid-nested k w v)
 
+  strict : Ends false (letter w) (length w)
+  strict = nested-ends false w (valid-nested k w v)
+
+  low : Ends true (letter w) (length w)
+  low = ends-low false (letter w) (length w) strict
+
   some : 0 < length w
   some = count-positive (length w) (valid-fits k w v)
 
   pub built-word : word (planOf w) ≡ w
-  built-word = walked w brackets some
-
-  pub built-standard : standardPlan (planOf w) ≡ planOf w
-  built-standard = standard-same w brackets some
+  built-word = walked w brackets low some
 
   -- ---- fitness, part by part
 
@@ -60,15 +65,20 @@ module _ (k : ℕ) (w : List Letter) (v : valid k w ≡ true) where
   unfolding planOf
   joined = built-connected w brackets some
 
-  flat : planar (planOf w .rotation) ≡ true
-  unfolding planOf
-  flat = built-planar w brackets some
+  -- ---- its traversal
+
+  toured : Toured (planOf w)
+  toured = walk-toured (planOf w) count root entries joined
+
+  bracketed : Bracketed (planOf w)
+  bracketed = record { trees = trees-nested (planOf w) toured count entries; chords = built-chords w brackets low some toured }
+
+  pub built-standard : standardPlan (planOf w) ≡ planOf w
+  built-standard = standard-is-planOf (planOf w) toured bracketed count ∙ ap planOf built-word
 
   -- the word tells of dead ends
   dead-ends : hasDeadEnd (planOf w) ≡ bareLeaf w
-  dead-ends =
-      let toured : Toured (planOf w) = walk-toured (planOf w) count root entries joined in
-      sym (dead-end-word (planOf w) toured (planar-bracketed (planOf w) toured count entries flat) count) ∙ ap bareLeaf built-word
+  dead-ends = sym (dead-end-word (planOf w) toured bracketed count) ∙ ap bareLeaf built-word
 
   degrees : degreeRefused k (planOf w) ≡ false
   unfolding degreeRefused
@@ -86,7 +96,7 @@ module _ (k : ℕ) (w : List Letter) (v : valid k w ≡ true) where
     root = root;
     entries = entries;
     joined = joined;
-    flat = flat;
-    loopless = built-no-loop w brackets (strict w (valid-nested k w v));
+    flat = bracketed-planar (planOf w) toured count entries bracketed;
+    loopless = built-no-loop w brackets strict;
     degrees = degrees;
   })

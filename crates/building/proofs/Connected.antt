@@ -15,10 +15,11 @@ use Rattle.words.specs.Toured.{isTree}
 use Rattle.words.proofs.Plans.{rotation-length}
 use Rattle.traversal.specs.Reach.{Reached, start, across, turn}
 use Rattle.traversal.proofs.Reach.{reached-connected}
-use Rattle.building.specs.Position.{letter, dartNo, Balance}
-use Rattle.building.proofs.Mates.{τ, τ-inv, τ-tree, τ-chord, earlier}
-use Rattle.building.proofs.Darts.{dart-mate, dart-zero, half}
-use Rattle.building.proofs.Rotation.{step, pos, pos-bound, dart-pos, rotation-listed}
+use Rattle.words.specs.Brackets.{letter}
+use Rattle.words.specs.Position.{dartNo, Balance}
+use Rattle.words.proofs.Mates.{τ, τ-inv, τ-tree, τ-chord, earlier}
+use Rattle.words.proofs.Darts.{dart-mate, dart-zero, half}
+use Rattle.words.proofs.Rotation.{step, pos, pos-bound, dart-pos, rotation-listed}
 
 module _ (w : List Letter) (b : Balance (letter w) (length w)) (some : 0 < length w) where
   abbrev N : ℕ

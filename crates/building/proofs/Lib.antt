@@ -1,13 +1,6 @@
-pub mod Letters
-pub mod Machine
-pub mod Mates
-pub mod Darts
-pub mod Lists
-pub mod Rotation
 pub mod Vertices
 pub mod Walk
 pub mod Planar
 pub mod Loops
 pub mod Connected
-pub mod Standard
 pub mod Built

@@ -8,19 +8,21 @@ use mathlib.Core.Path.{_≡_, refl, sym, ap, subst, _∙_}
 use mathlib.Core.Bool.{false}
 use mathlib.Core.List.{List}
 use lib.ListN.{length}
+use borrow.Author.Tests.{ltb-true}
 use Rattle.model.specs.Map.{opposite, vertexOf, hasLoop}
 use Rattle.model.specs.Traversal.{Letter, down, up, first, second}
 use Rattle.model.proofs.Fitness.{at-loopless}
 use Rattle.words.specs.Word.{rotationOf}
 use Rattle.words.specs.Toured.{fellow}
 use Rattle.words.proofs.Plans.{rotation-length}
-use Rattle.building.specs.Position.{letter, vertexNo, dartNo, Balance, Strict}
-use Rattle.building.proofs.Mates.{mate, mate-inv, fellows, vertex-new, vertex-strict, vertex-entered}
-use Rattle.building.proofs.Darts.{dart-mate}
-use Rattle.building.proofs.Rotation.{pos, pos-bound, dart-pos}
+use Rattle.words.specs.Brackets.{letter}
+use Rattle.words.specs.Position.{vertexNo, dartNo, Balance, Ends}
+use Rattle.words.proofs.Mates.{mate, mate-inv, fellows, vertex-new, vertex-ends, vertex-entered}
+use Rattle.words.proofs.Darts.{dart-mate}
+use Rattle.words.proofs.Rotation.{pos, pos-bound, dart-pos}
 use Rattle.building.proofs.Vertices.{vertex-number}
 
-module _ (w : List Letter) (b : Balance (letter w) (length w)) (strict : Strict (letter w) (length w)) where
+module _ (w : List Letter) (b : Balance (letter w) (length w)) (low : Ends false (letter w) (length w)) where
   abbrev N : ℕ
   N = length w
 
@@ -38,7 +40,7 @@ module _ (w : List Letter) (b : Balance (letter w) (length w)) (strict : Strict 
   ends-down i h e q = omega (arith, vertex-new ℓ N b i h e, vertex-entered ℓ N b i (le-of-lt h))
 
   ends-second : (i : ℕ) → i < N → ℓ i ≡ second → vertexNo ℓ i ≡ vertexNo ℓ (m i) → ⊥
-  ends-second i h e q = omega (arith, vertex-strict ℓ N b strict i h e)
+  ends-second i h e q = omega (arith, ltb-true (vertexNo ℓ i) (vertexNo ℓ (m i)) (vertex-ends ℓ N b false low i h e))
 
   ends-differ : (i : ℕ) → i < N → vertexNo ℓ i ≡ vertexNo ℓ (m i) → ⊥
   ends-differ i h q = go (ℓ i) refl

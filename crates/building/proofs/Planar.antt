@@ -1,123 +1,64 @@
--- The plan that is built from a balanced word is planar: the word is a tour of its map, along which the tree edges nest, and so do the others.
+-- The plan that is built from a balanced word is planar: its walk meets the word's darts, so the edges outside the tree match like the word's brackets.
 --
---   built-tour     the tour
---   built-planar   the plan is planar
-use Prim.Native.Nat.{ℕ, _+_, _<_}
+--   built-mates    the mate of a position is its fellow in the word
+--   built-chords   the edges outside the tree match like brackets
+use Prim.Native.Nat.{ℕ, zero, suc, _<_}
+use native.Mathlib.Nat.{le-of-lt}
 use native.Mathlib.Omega.{arith}
-use mathlib.Core.Path.{_≡_, refl, sym, ap, _∙_}
-use mathlib.Core.Bool.{Bool, true, false, not, cond}
+use mathlib.Core.Path.{_≡_, sym, ap, ap₂, subst, _∙_}
+use mathlib.Core.Bool.{true}
 use mathlib.Core.List.{List}
-use lib.IntN.{pos}
 use lib.ListN.{length}
-use Rattle.model.specs.Numbers.{cycles}
-use Rattle.model.specs.Map.{opposite, next, faceNext, edges, vertices, faces, planar}
-use Rattle.model.specs.Traversal.{Letter}
-use Rattle.model.proofs.Characteristic.{two-planar}
-use Rattle.orbits.specs.Chord.{Involution}
-use Rattle.orbits.specs.Chord as Chord
-use Rattle.orbits.specs.Tour.{face, onward, Tour, diagram, rest}
-use Rattle.orbits.proofs.Euler.{nested-planar}
-use Rattle.orbits.proofs.Maps.{opposite-inv, opposite-free}
-use Rattle.orbits.proofs.Chord.{nested-ext}
-use Rattle.words.specs.Word.{rotationOf}
-use Rattle.words.specs.Toured.{isTree}
+use borrow.Author.Tests.{not-true}
+use Rattle.model.specs.Map.{darts, opposite}
+use Rattle.model.specs.Traversal.{Letter, onward}
+use Rattle.words.specs.Word.{rotationOf, planOf}
+use Rattle.words.specs.Toured.{dartAt, letterOf, posOf, mateOf, isTree, isChord, Brackets, Toured}
+use Rattle.words.specs.Brackets.{letter}
+use Rattle.words.specs.Position.{dartNo, Balance, Ends}
 use Rattle.words.proofs.Plans.{rotation-length}
-use Rattle.building.specs.Position.{letter, opened, dartNo, Balance}
-use Rattle.building.proofs.Mates.{τ, χ, mate, mate-inv, whole, τ-inv, χ-inv, τ-nested, χ-nested, τ-tree, χ-tree, τ-chord, χ-chord}
-use Rattle.building.proofs.Darts.{dart-perm, dart-mate, half}
-use Rattle.building.proofs.Rotation.{pos-bound, dart-pos, pos-dart, pos-next, next-perm}
-use Rattle.building.proofs.Rotation as Rotation
+use Rattle.words.proofs.Mates.{χ, mate, mate-inv, χ-nested, χ-chord}
+use Rattle.words.proofs.Darts.{dart-mate, dart-zero}
+use Rattle.building.proofs.Walk.{walk-on, walked}
 
-module _ (w : List Letter) (b : Balance (letter w) (length w)) (some : 0 < length w) where
+module _ (w : List Letter) (b : Balance (letter w) (length w)) (low : Ends true (letter w) (length w)) (some : 0 < length w)
+    (t : Toured (planOf w)) where
   abbrev N : ℕ
   N = length w
 
   abbrev ℓ : ℕ → Letter
   ℓ = letter w
 
-  abbrev x : ℕ → ℕ
-  x = dartNo ℓ
+  size : darts (planOf w) ≡ N
+  unfolding planOf
+  size = rotation-length w
 
-  abbrev m : ℕ → ℕ
-  m = mate ℓ N b
+  letter-is : (i : ℕ) → letterOf (planOf w) i ≡ ℓ i
+  unfolding letterOf
+  letter-is i = ap (λ (v : List Letter). letter v i) (walked w b low some)
 
-  abbrev t : ℕ → ℕ
-  t = τ ℓ N b
+  dart-is : (i : ℕ) → i < N → dartAt (planOf w) i ≡ dartNo ℓ i
+  unfolding planOf
+  dart-is zero h = t .starts ∙ sym (dart-zero ℓ N b some)
+  dart-is (suc i) h =
+      t .step i (omega (arith, size)) ∙ ap₂ (onward (rotationOf w)) (letter-is i) (dart-is i (le-of-lt h)) ∙ walk-on w b low some i h
 
-  abbrev σ : ℕ → ℕ
-  σ = next (rotationOf w)
+  pub built-mates : (i : ℕ) → i < N → mateOf (planOf w) i ≡ mate ℓ N b i
+  unfolding mateOf
+  built-mates i h =
+      let there = mate-inv ℓ N b .bound i h in
+      ap (posOf (planOf w)) (ap opposite (dart-is i h) ∙ sym (dart-mate ℓ N b i h) ∙ sym (dart-is (mate ℓ N b i) there))
+      ∙ t .pos-dart (mate ℓ N b i) (omega (arith, size))
 
-  abbrev at : ℕ → ℕ
-  at = Rotation.pos w b
+  chord-mate : (i : ℕ) → i < N → isChord (letterOf (planOf w) i) ≡ true → χ ℓ N b i ≡ mateOf (planOf w) i
+  chord-mate i h c = χ-chord ℓ N b i (ap isTree (sym (letter-is i)) ∙ not-true _ c) ∙ sym (built-mates i h)
 
-  abbrev tree : ℕ → Bool
-  tree d = isTree (ℓ (at d))
-
-  cross : Involution N opposite
-  cross = opposite-inv N (omega (arith, half ℓ N b))
-
-  at-opposite : (d : ℕ) → d < N → at (opposite d) ≡ m (at d)
-  at-opposite d h =
-      let i = at d in
-      let hi : i < N = pos-bound w b d h in
-      ap (λ (e : ℕ). at (opposite e)) (sym (dart-pos w b d h)) ∙ ap at (sym (dart-mate ℓ N b i hi)) ∙ pos-dart w b (m i) (mate-inv ℓ N b .bound i hi)
-
-  step : (d : ℕ) → d < N → at (onward σ opposite tree d) ≡ Chord.next N (at d)
-  step d h = go (tree d) refl
-    where
-      i : ℕ
-      i = at d
-
-      hi : i < N
-      hi = pos-bound w b d h
-
-      go : (c : Bool) → isTree (ℓ i) ≡ c → at (cond c (σ (opposite d)) (σ d)) ≡ Chord.next N i
-      go true e =
-          pos-next w b (opposite d) (cross .bound d h)
-          ∙ ap (λ (j : ℕ). Chord.next N (t j)) (at-opposite d h ∙ sym (τ-tree ℓ N b i e)) ∙ ap (Chord.next N) (τ-inv ℓ N b .back i hi)
-      go false e = pos-next w b d h ∙ ap (Chord.next N) (τ-chord ℓ N b i hi e)
-
-  pub built-tour : Tour N σ opposite tree at x
-  built-tour = record {
-    turn = next-perm w b;
-    cross = cross;
-    whole = λ d h. ap (λ (i : ℕ). isTree (ℓ i)) (at-opposite d h) ∙ whole ℓ N b (at d) (pos-bound w b d h);
-    pos-bound = pos-bound w b;
-    dart-bound = dart-perm ℓ N b .bound;
-    dart-pos = dart-pos w b;
-    pos-dart = pos-dart w b;
-    step = step;
-  }
-
-  -- ---- the two diagrams
-
-  opposite-at : (i : ℕ) → i < N → at (opposite (x i)) ≡ m i
-  opposite-at i h = at-opposite (x i) (dart-perm ℓ N b .bound i h) ∙ ap m (pos-dart w b i h)
-
-  tree-at : (i : ℕ) → i < N → tree (x i) ≡ isTree (ℓ i)
-  tree-at i h = ap (λ (j : ℕ). isTree (ℓ j)) (pos-dart w b i h)
-
-  chords-are : (i : ℕ) → i < N → diagram opposite tree at x i ≡ χ ℓ N b i
-  chords-are i h = ap (λ (c : Bool). at (cond c (x i) (opposite (x i)))) (tree-at i h) ∙ go (isTree (ℓ i)) refl
-    where
-      go : (c : Bool) → isTree (ℓ i) ≡ c → at (cond c (x i) (opposite (x i))) ≡ χ ℓ N b i
-      go true e = pos-dart w b i h ∙ sym (χ-tree ℓ N b i h e)
-      go false e = opposite-at i h ∙ sym (χ-chord ℓ N b i e)
-
-  trees-are : (i : ℕ) → i < N → diagram opposite (rest tree) at x i ≡ t i
-  trees-are i h = ap (λ (c : Bool). at (cond (not c) (x i) (opposite (x i)))) (tree-at i h) ∙ go (isTree (ℓ i)) refl
-    where
-      go : (c : Bool) → isTree (ℓ i) ≡ c → at (cond (not c) (x i) (opposite (x i))) ≡ t i
-      go true e = opposite-at i h ∙ sym (τ-tree ℓ N b i e)
-      go false e = pos-dart w b i h ∙ sym (τ-chord ℓ N b i h e)
-
-  euler : cycles σ N + cycles (face σ opposite) N ≡ opened ℓ N + 2
-  euler =
-      nested-planar N σ opposite (next-perm w b) cross (opposite-free N) tree at x built-tour (opened ℓ N) (half ℓ N b) some
-      (nested-ext N _ (χ ℓ N b) chords-are (χ-inv ℓ N b) (χ-nested ℓ N b)) (nested-ext N _ t trees-are (τ-inv ℓ N b) (τ-nested ℓ N b))
-
-  pub built-planar : planar (rotationOf w) ≡ true
-  unfolding vertices edges faces faceNext
-  built-planar = two-planar (rotationOf w) (
-      ap (λ (n : ℕ). cycles σ n + cycles (face σ opposite) n) (rotation-length w)
-      ∙ euler ∙ omega (arith, half ℓ N b, rotation-length w))
+  pub built-chords : Brackets isChord (planOf w)
+  built-chords i x h c l u d =
+      let hi : i < N = omega (arith, size) in
+      let end : mateOf (planOf w) i < N = subst (λ (k : ℕ). k < N) (sym (built-mates i hi)) (mate-inv ℓ N b .bound i hi) in
+      let hx : x < N = omega arith in
+      let e = chord-mate i hi c in
+      let f = chord-mate x hx d in
+      let r = χ-nested ℓ N b i hi (omega arith) x l (omega arith) in
+      (omega arith, omega arith)

@@ -15,7 +15,7 @@ use Rattle.model.specs.Numbers.{least}
 use Rattle.model.specs.Map.{next, vertexOf}
 use Rattle.model.specs.Traversal.{Letter, down, up, first, second, opens}
 use Rattle.orbits.specs.Chord as Chord
-use Rattle.orbits.specs.Stack.{push, stack}
+use Rattle.orbits.specs.Stack.{top, push, stack}
 use Rattle.orbits.proofs.Order.{tri}
 use Rattle.orbits.proofs.Chord.{next-cases}
 use Rattle.orbits.proofs.Cycle.{least-keeps, least-step, least-bound}
@@ -24,16 +24,11 @@ use Rattle.words.specs.Word.{rotationOf}
 use Rattle.words.specs.Toured.{isTree}
 use Rattle.words.specs.Entered.{isDown}
 use Rattle.words.proofs.Plans.{rotation-length}
-use Rattle.building.specs.Position.{letter, treeKind, treeStack, entered, vertexTop, vertexNo, dartNo, Balance}
-use Rattle.building.proofs.Mates.{τ, τ-inv, τ-tree, τ-chord, earlier, tree-turn, vertex-turn, vertex-end, stack-down}
-use Rattle.building.proofs.Darts.{dart-perm}
-use Rattle.building.proofs.Rotation.{step, pos, pos-bound, pos-dart, pos-next, next-perm}
-
--- ---- the position after the one where the present vertex was entered
-
-abbrev anchor : List ℕ → ℕ
-anchor [] = 0
-anchor (a ∷ s) = suc a
+use Rattle.words.specs.Brackets.{letter, treeKind, treeStack}
+use Rattle.words.specs.Position.{entered, vertexTop, vertexNo, dartNo, Balance}
+use Rattle.words.proofs.Mates.{τ, τ-inv, τ-tree, τ-chord, earlier, tree-turn, vertex-turn, vertex-end, stack-down}
+use Rattle.words.proofs.Darts.{dart-perm}
+use Rattle.words.proofs.Rotation.{step, pos, pos-bound, pos-dart, pos-next, next-perm}
 
 module _ (w : List Letter) (b : Balance (letter w) (length w)) where
   abbrev N : ℕ
@@ -94,7 +89,7 @@ module _ (w : List Letter) (b : Balance (letter w) (length w)) where
       ap (vertexOf rot) (step w b i h) ∙ vertex-next (x (t i)) (dart-perm ℓ N b .bound (t i) (τ-inv ℓ N b .bound i (le-of-lt h)))
 
   Anchored : ℕ → Type 0
-  Anchored i = vertexOf rot (x i) ≡ vertexOf rot (x (anchor (treeStack ℓ i)))
+  Anchored i = vertexOf rot (x i) ≡ vertexOf rot (x (top (treeStack ℓ i)))
 
   anchored-step : (i : ℕ) → suc i < N → ((j : ℕ) → j ≤ i → Anchored j) → Anchored (suc i)
   unfolding Anchored stack
@@ -103,10 +98,10 @@ module _ (w : List Letter) (b : Balance (letter w) (length w)) where
       further : t i ≤ i → Anchored (suc i)
       further l =
           vertex-back i h ∙ ih (t i) l
-          ∙ ap (λ (s : List ℕ). vertexOf rot (x (anchor s))) (sym (tree-turn ℓ N b i (le-of-lt h)))
+          ∙ ap (λ (s : List ℕ). vertexOf rot (x (top s))) (sym (tree-turn ℓ N b i (le-of-lt h)))
 
       go : (l : Letter) → ℓ i ≡ l → Anchored (suc i)
-      go down e = ap (λ (l : Letter). vertexOf rot (x (anchor (push (treeKind l) i (treeStack ℓ i))))) (sym e)
+      go down e = ap (λ (l : Letter). vertexOf rot (x (top (push (treeKind l) i (treeStack ℓ i))))) (sym e)
       go up e = further (omega (arith, τ-tree ℓ N b i (ap isTree e), earlier ℓ N b i (le-of-lt h) (ap opens e)))
       go first e = further (le-of-eq (τ-chord ℓ N b i (le-of-lt h) (ap isTree e)))
       go second e = further (le-of-eq (τ-chord ℓ N b i (le-of-lt h) (ap isTree e)))
@@ -125,11 +120,11 @@ module _ (w : List Letter) (b : Balance (letter w) (length w)) where
       (λ m. m)
       (λ g. absurd (omega (arith, count-below (λ k. isDown (ℓ k)) j i g (ap isDown q))))
 
-  anchor-same : (i j : ℕ) → i < N → j < N → vertexNo ℓ i ≡ vertexNo ℓ j → anchor (treeStack ℓ i) ≡ anchor (treeStack ℓ j)
+  entry-same : (i j : ℕ) → i < N → j < N → vertexNo ℓ i ≡ vertexNo ℓ j → top (treeStack ℓ i) ≡ top (treeStack ℓ j)
   unfolding vertexNo entered
-  anchor-same i j hi hj = go (treeStack ℓ i) (treeStack ℓ j) refl refl
+  entry-same i j hi hj = go (treeStack ℓ i) (treeStack ℓ j) refl refl
     where
-      go : (r s : List ℕ) → treeStack ℓ i ≡ r → treeStack ℓ j ≡ s → vertexTop ℓ r ≡ vertexTop ℓ s → anchor r ≡ anchor s
+      go : (r s : List ℕ) → treeStack ℓ i ≡ r → treeStack ℓ j ≡ s → vertexTop ℓ r ≡ vertexTop ℓ s → top r ≡ top s
       go [] [] p q e = refl
       go [] (a ∷ s) p q e = absurd (omega arith)
       go (a ∷ r) [] p q e = absurd (omega arith)
@@ -138,5 +133,5 @@ module _ (w : List Letter) (b : Balance (letter w) (length w)) where
   pub vertex-same : (i j : ℕ) → i < N → j < N → vertexNo ℓ i ≡ vertexNo ℓ j → vertexOf rot (x i) ≡ vertexOf rot (x j)
   unfolding Anchored
   vertex-same i j hi hj e =
-      anchored (suc i) i (lt-suc-self i) hi ∙ ap (λ (k : ℕ). vertexOf rot (x k)) (anchor-same i j hi hj e)
+      anchored (suc i) i (lt-suc-self i) hi ∙ ap (λ (k : ℕ). vertexOf rot (x k)) (entry-same i j hi hj e)
       ∙ sym (anchored (suc j) j (lt-suc-self j) hj)

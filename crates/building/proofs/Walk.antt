@@ -1,7 +1,6 @@
 -- The walk of the plan that is built from a balanced word w meets the darts of w with the letters of w.
 --
---   visit i, run k i the visit at position i, and k visits from there on
---   built-visits     the whole walk
+--   walk-on          where it goes on from each dart
 --   walked           its word is w
 use Prim.Native.Nat.{ℕ, zero, suc, _+_, _≤_, _<_}
 use native.Mathlib.Nat.{le-of-lt, le-of-eq}
@@ -13,7 +12,7 @@ use mathlib.Core.List.{List, [], _∷_, map}
 use lib.Dec.{eqb, ltb}
 use lib.ListN.{length, getD, set, drop, replicate, length-set, length-replicate, getD-replicate}
 use lib.Seq.{getD-set-same, getD-set-other, drop-cons, drop-length}
-use borrow.Author.Tests.{lt-ltb, le-ltb, ne-eqb}
+use borrow.Author.Tests.{lt-ltb, le-ltb, leb-true, ne-eqb}
 use Rattle.model.specs.Numbers.{count, tick}
 use Rattle.model.specs.Map.{opposite, next, vertexOf}
 use Rattle.model.specs.Traversal.{Letter, down, up, first, second, code, opens, Visit, letterAt, onward, seenAfter, walk, visits, word}
@@ -23,12 +22,13 @@ use Rattle.words.specs.Word.{rotationOf, planOf, placeOf}
 use Rattle.words.specs.Toured.{fellow}
 use Rattle.words.specs.Entered.{isDown}
 use Rattle.words.proofs.Plans.{rotation-length}
-use Rattle.building.specs.Position.{letter, entered, vertexNo, dartNo, Balance}
-use Rattle.building.proofs.Lists.{filled, filled-at, filled-none}
-use Rattle.building.proofs.Machine.{entered-by}
-use Rattle.building.proofs.Mates.{mate, mate-inv, fellows, later, earlier, vertex-new, vertex-lower, vertex-entered}
-use Rattle.building.proofs.Darts.{dart-perm, dart-mate, dart-zero}
-use Rattle.building.proofs.Rotation.{place, step}
+use Rattle.words.specs.Brackets.{letter}
+use Rattle.words.specs.Position.{entered, vertexNo, dartNo, Balance, Ends}
+use Rattle.words.proofs.Lists.{filled, filled-at, filled-none}
+use Rattle.words.proofs.Nesting.{entered-by}
+use Rattle.words.proofs.Mates.{mate, mate-inv, fellows, later, earlier, vertex-new, vertex-ends, vertex-entered}
+use Rattle.words.proofs.Darts.{dart-perm, dart-mate, dart-zero}
+use Rattle.words.proofs.Rotation.{place, step}
 use Rattle.building.proofs.Vertices.{vertex-bound, vertex-number, vertex-same}
 
 -- 1 for the vertices with a number below n
@@ -48,7 +48,7 @@ mark-suc v n d =
     (λ e. absurd (d e))
     (λ g. mark-ge v n (le-of-lt g) ∙ sym (mark-ge v (suc n) g))
 
-module _ (w : List Letter) (b : Balance (letter w) (length w)) (some : 0 < length w) where
+module _ (w : List Letter) (b : Balance (letter w) (length w)) (low : Ends true (letter w) (length w)) (some : 0 < length w) where
   abbrev N : ℕ
   N = length w
 
@@ -156,7 +156,7 @@ module _ (w : List Letter) (b : Balance (letter w) (length w)) (some : 0 < lengt
       go up e = ap₂ by (met-close i h (ap opens e) ∙ ap (λ (l : Letter). code (fellow l)) e) here
       go first e =
           let k : m (m i) ≡ i = mate-inv ℓ N b .back i h in
-          let l = vertex-lower ℓ N b (m i) (mate-inv ℓ N b .bound i h) (fellows ℓ N b i h ∙ ap fellow e) in
+          let l = leb-true (vertexNo ℓ (m i)) (vertexNo ℓ (m (m i))) (vertex-ends ℓ N b true low (m i) (mate-inv ℓ N b .bound i h) (fellows ℓ N b i h ∙ ap fellow e)) in
           let n = vertex-entered ℓ N b i (le-of-lt h) in
           let same : vertexNo ℓ (m (m i)) ≡ vertexNo ℓ i = ap (vertexNo ℓ) k in
           ap₂ by (met-open i h (ap opens e)) (here ∙ mark-lt (vertexNo ℓ (m i)) (entered ℓ i) (omega arith))
@@ -164,9 +164,9 @@ module _ (w : List Letter) (b : Balance (letter w) (length w)) (some : 0 < lengt
 
   -- ---- the walk
 
-  onward-is : (i : ℕ) → suc i < N → onward rot (ℓ i) (x i) ≡ x (suc i)
+  pub walk-on : (i : ℕ) → suc i < N → onward rot (ℓ i) (x i) ≡ x (suc i)
   unfolding onward placeOf
-  onward-is i h = by-place (ℓ i) ∙ ap (next rot) (place w b i (le-of-lt h)) ∙ sym (step w b i h)
+  walk-on i h = by-place (ℓ i) ∙ ap (next rot) (place w b i (le-of-lt h)) ∙ sym (step w b i h)
     where
       by-place : (l : Letter) → onward rot l (x i) ≡ next rot (placeOf l (x i))
       by-place down = refl
@@ -174,10 +174,10 @@ module _ (w : List Letter) (b : Balance (letter w) (length w)) (some : 0 < lengt
       by-place first = refl
       by-place second = refl
 
-  unfoldable pub visit : ℕ → Visit
+  unfoldable visit : ℕ → Visit
   visit i = record { dart = x i; letter = ℓ i }
 
-  unfoldable pub run : ℕ → ℕ → List Visit
+  unfoldable run : ℕ → ℕ → List Visit
   run zero i = []
   run (suc k) i = visit i ∷ run k (suc i)
 
@@ -187,16 +187,16 @@ module _ (w : List Letter) (b : Balance (letter w) (length w)) (some : 0 < lengt
       let away : x (suc i) ≢ 0 = λ z. omega (arith, dart-perm ℓ N b .inj (suc i) 0 h some (z ∙ sym (dart-zero ℓ N b some))) in
       ap (λ (d : ℕ). cond (eqb d 0) [] (rest d)) there ∙ ap (λ (c : Bool). cond c [] (rest (x (suc i)))) (ne-eqb (x (suc i)) 0 away)
 
-  walk-on : (k i e : ℕ) → suc i + k ≡ N → (suc i < N → e ≡ x (suc i))
+  walk-rest : (k i e : ℕ) → suc i + k ≡ N → (suc i < N → e ≡ x (suc i))
       → walk rot 0 k (x (suc i)) (met (suc i)) (seen (suc i)) ≡ run k (suc i)
       → cond (eqb e 0) [] (walk rot 0 k e (met (suc i)) (seen (suc i))) ≡ run k (suc i)
   unfolding walk run
-  walk-on zero i e h q ih = both (eqb e 0)
+  walk-rest zero i e h q ih = both (eqb e 0)
     where
       both : (c : Bool) → _≡_ {A = List Visit} (cond c [] []) []
       both true = refl
       both false = refl
-  walk-on (suc k) i e h q ih = goes-on i e (omega arith) (q (omega arith)) (λ d. walk rot 0 (suc k) d (met (suc i)) (seen (suc i))) ∙ ih
+  walk-rest (suc k) i e h q ih = goes-on i e (omega arith) (q (omega arith)) (λ d. walk rot 0 (suc k) d (met (suc i)) (seen (suc i))) ∙ ih
 
   walk-is : (k i : ℕ) → i + k ≡ N → walk rot 0 k (x i) (met i) (seen i) ≡ run k i
   unfolding walk run filled seen visit
@@ -206,9 +206,9 @@ module _ (w : List Letter) (b : Balance (letter w) (length w)) (some : 0 < lengt
       let more : suc i + k ≡ N = omega arith in
       ap (λ (l : Letter). record { dart = x i; letter = l } ∷ cond (eqb (onward rot l (x i)) 0) []
       (walk rot 0 k (onward rot l (x i)) (set (met i) (x i) (code l)) (seenAfter rot l (x i) (seen i)))) (letter-right i hi)
-      ∙ ap (λ (vs : List Visit). visit i ∷ vs) (walk-on k i (onward rot (ℓ i) (x i)) more (onward-is i) (walk-is k (suc i) more))
+      ∙ ap (λ (vs : List Visit). visit i ∷ vs) (walk-rest k i (onward rot (ℓ i) (x i)) more (walk-on i) (walk-is k (suc i) more))
 
-  pub built-visits : visits (planOf w) ≡ run N 0
+  built-visits : visits (planOf w) ≡ run N 0
   unfolding visits planOf filled seen
   built-visits =
       ap (λ (n : ℕ). walk rot 0 n 0 (replicate n 0) (set (replicate n 0) (vertexOf rot 0) 1)) (rotation-length w)

@@ -7,25 +7,24 @@
 --   ends-at            it follows from the letter there and what is read off after it
 --   waits-head         right after an opener of sort b its flag comes first
 use Prim.Native.Nat.{ℕ, suc, _<_}
-use native.Mathlib.Omega.{arith}
 use mathlib.Core.Path.{_≡_, refl, ap, _∙_}
 use mathlib.Core.Logic.{_⊎_, inl, inr, ⊎-elim}
-use mathlib.Core.Bool.{Bool, true, false, not, true≢false, false≢true}
+use mathlib.Core.Bool.{Bool, true, false, true≢false, false≢true}
 use mathlib.Core.List.{List, _∷_}
 use lib.ListN.{drop}
-use borrow.Author.Tests.{not-true}
 use Rattle.model.specs.Map.{Plan, darts, dartCountFits}
 use Rattle.model.specs.Traversal.{Letter, down, up, first, second, opens, word}
 use Rattle.words.specs.Word.{Ends, ends, endsOne, startsSecond, head, tail}
-use Rattle.words.specs.Toured.{Toured, Bracketed, letterOf, mateOf, fellow, isTree}
+use Rattle.words.specs.Toured.{Toured, Brackets, Bracketed, letterOf, mateOf, fellow, isTree, isChord}
 use Rattle.words.proofs.Positions.{mate-bound, mate-back, mate-before, word-left}
 use Rattle.words.proofs.Letters.{tree-fellow}
+use Rattle.words.proofs.OpenEdges.{chord-whole}
 use Rattle.labelling.proofs.Lit.{startsAt}
 use Rattle.labelling.proofs.Waiting.{Waiting, waits-mate}
 
 abbrev pub ofSort : Bool → Letter → Bool
 ofSort true l = isTree l
-ofSort false l = not (isTree l)
+ofSort false l = isChord l
 
 abbrev pub waits : Bool → Ends → List ℕ
 waits true r = r .ups
@@ -35,7 +34,7 @@ waits false r = r .seconds
 
 fellow-sort : (b : Bool) (l : Letter) → ofSort b (fellow l) ≡ ofSort b l
 fellow-sort true l = tree-fellow l
-fellow-sort false l = ap not (tree-fellow l)
+fellow-sort false l = chord-whole l
 
 -- a letter of the other sort leaves what waits
 waits-skip : (b : Bool) (l : Letter) (w : List Letter) (r : Ends) → ofSort b l ≡ false → waits b (endsOne l w r) ≡ waits b r
@@ -74,20 +73,9 @@ module _ (p : Plan) (toured : Toured p) where
   ends-at i h = ap ends (word-left p toured i h)
 
   module _ (bracketed : Bracketed p) (fits : dartCountFits (darts p) ≡ true) where
-    sort-nested : (b : Bool) (i x : ℕ) → i < darts p → ofSort b (letterOf p i) ≡ true → i < x → x < mateOf p i → ofSort b (letterOf p x) ≡ true
-        → (i < mateOf p x) × (mateOf p x < mateOf p i)
-    sort-nested b i x h t l u tx = go b (letterOf p i) refl t tx
-      where
-        go : (b : Bool) (a : Letter) → letterOf p i ≡ a → ofSort b a ≡ true → ofSort b (letterOf p x) ≡ true
-            → (i < mateOf p x) × (mateOf p x < mateOf p i)
-        go true down e t tx = bracketed .trees i x h e l u tx
-        go true up e t tx = let z = mate-before p toured fits i h (ap opens e) in absurd (omega arith)
-        go true first e t tx = absurd (false≢true t)
-        go true second e t tx = absurd (false≢true t)
-        go false down e t tx = absurd (false≢true t)
-        go false up e t tx = absurd (false≢true t)
-        go false first e t tx = bracketed .chords i x h e l u (not-true _ tx)
-        go false second e t tx = let z = mate-before p toured fits i h (ap opens e) in absurd (omega arith)
+    sort-nested : (b : Bool) → Brackets (ofSort b) p
+    sort-nested true = bracketed .trees
+    sort-nested false = bracketed .chords
 
     -- the letter of an opener or of an ender says on which side its mate is
     side : (i : ℕ) (A B : Type 0) → i < darts p → ((opens (letterOf p i) ≡ true) × A) ⊎ ((opens (letterOf p i) ≡ false) × B)

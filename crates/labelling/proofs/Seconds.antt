@@ -13,7 +13,7 @@ use Rattle.model.proofs.Fitness.{loopless-at}
 use Rattle.orbits.specs.Permutation.{Perm}
 use Rattle.orbits.proofs.Order.{lt-suc-split}
 use Rattle.orbits.proofs.Maps.{next-perm, vertex-turn}
-use Rattle.words.specs.Toured.{Toured, Bracketed, dartAt, letterOf, mateOf, isTree}
+use Rattle.words.specs.Toured.{Toured, Bracketed, dartAt, letterOf, mateOf, isChord}
 use Rattle.words.proofs.Positions.{mate-bound, mate-dart, mate-back, mate-letter, mate-before, opposite-at}
 
 module _ (p : Plan) (toured : Toured p) (bracketed : Bracketed p) (fits : dartCountFits (darts p) ≡ true)
@@ -43,7 +43,7 @@ module _ (p : Plan) (toured : Toured p) (bracketed : Bracketed p) (fits : dartCo
       let bound = toured .dart-bound j (omega arith) in
       loopless-at (p .rotation) no-loop (dartAt p j) bound
       (sym (vertex-turn (p .rotation) turn (dartAt p j) bound) ∙ ap (vertexOf (p .rotation)) there))
-      (λ l. let z = bracketed .chords a j (mate-bound p toured fits (suc j) h) (began-letter j h e) l (omega arith) (ap isTree f) in
+      (λ l. let z = bracketed .chords a j (mate-bound p toured fits (suc j) h) (ap isChord (began-letter j h e)) l (omega arith) (ap isChord f) in
       omega arith)
 
   -- right after a down it would end at a vertex of which no dart was met when it began

@@ -21,7 +21,7 @@ use Rattle.model.specs.LabelledTree.{takeLeaf, takeOne, takeLeaves, treeLabels}
 use Rattle.model.proofs.Opposite.{opposite-edge}
 use Rattle.orbits.proofs.Order.{le-split}
 use Rattle.orbits.proofs.Maps.{position-next}
-use Rattle.words.specs.Toured.{Toured, Bracketed, dartAt, letterOf, mateOf, isTree}
+use Rattle.words.specs.Toured.{Toured, Bracketed, dartAt, letterOf, mateOf, isChord}
 use Rattle.words.proofs.Letters.{fellow-closes, apart}
 use Rattle.words.proofs.Positions.{mate-bound, mate-dart, mate-letter, edge-mate, no-visit, visit-dart, visit-letter, opposite-at}
 use Rattle.labelling.proofs.Codes.{code-at}
@@ -127,7 +127,7 @@ module _ (p : Plan) (toured : Toured p) (fits : dartCountFits (darts p) ≡ true
         let later = toured .opens-first i h (ap opens f) in
         let near : i ≤ a = omega arith in
         let inside = le-split near (λ q. absurd (omega (arith, apart (letterOf p i) f (ap (letterOf p) q ∙ g)))) (λ (l : i < a). l) in
-        bracketed .chords i a h f inside (omega arith) (ap isTree g) .0
+        bracketed .chords i a h (ap isChord f) inside (omega arith) (ap isChord g) .0
 
     leaf : (i : ℕ) (s : Labels) → i < darts p → letterOf p i ≡ first → Marked p i i s
         → Marked p (suc i) (suc i) (takeLeaf (p .rotation) (codes p) s (dartAt p i))

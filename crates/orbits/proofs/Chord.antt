@@ -206,10 +206,10 @@ module _ (N : ℕ) (μ : ℕ → ℕ) (inv : Involution N μ) where
       (le-trans (le-of-eq (sym (marks N μ inv h))) (count-mono (mark μ) (isLeast (φ μ N) N) N (marked-least nest)))
 
 -- a diagram that is another one below N is nested if that one is
-pub nested-ext : (N : ℕ) (μ ν : ℕ → ℕ) → ((i : ℕ) → i < N → μ i ≡ ν i) → Involution N ν → Nested ν N → Nested μ N
-nested-ext N μ ν same inv nested a h l x u v =
+pub nested-ext : (N : ℕ) (μ ν : ℕ → ℕ) → ((i : ℕ) → i < N → μ i ≡ ν i) → ((i : ℕ) → i < N → μ i < N) → Nested ν N → Nested μ N
+nested-ext N μ ν same bound nested a h l x u v =
     let ea = same a h in
-    let ba = inv .bound a h in
+    let ba = bound a h in
     let ex = same x (omega arith) in
     let k = nested a h (omega arith) x u (omega arith) in
     omega arith

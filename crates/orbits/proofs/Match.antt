@@ -5,32 +5,15 @@
 --   close-top       at a closing bracket its fellow is on top of the stack, and below it what was there then
 --   stack-turn      the stack after i is the one at i's fellow
 --   stack-below, stack-kind the position on top of the stack lies before, and is an opening one
-use Prim.Native.Nat.{ℕ, zero, suc, _≤_, _<_}
-use native.Mathlib.Nat.{le-of-lt}
+use Prim.Native.Nat.{ℕ, suc, _≤_, _<_}
 use native.Mathlib.Omega.{arith}
-use mathlib.Core.Path.{_≡_, refl, sym, ap, subst, _∙_}
-use mathlib.Core.List.{List, [], _∷_}
+use mathlib.Core.Path.{_≡_, refl, sym, ap, _∙_}
+use mathlib.Core.List.{List, _∷_}
 use Rattle.orbits.specs.Chord.{Involution}
 use Rattle.orbits.specs.Stack.{Kind, flat, open′, close, kindOf, kind, push, stack, matched, Balanced}
 use Rattle.orbits.proofs.Order.{tri}
-use Rattle.orbits.proofs.Stack.{kind-open, kind-close, kind-flat, close-lt, flat-eq, stack-top, stack-ext}
-use Rattle.orbits.proofs.Decode.{Held, held, decoded-inv, decoded-nested, decoded-kind, close≢open, flat≢open}
-
--- each position of a stack stands on the stack that it was put on
-abbrev Linked : (ℕ → Kind) → List ℕ → Type 0
-Linked K [] = Unit {0}
-Linked K (a ∷ s) = (s ≡ stack K a) × Linked K s
-
-linked-push : (K : ℕ → Kind) (i : ℕ) (k : Kind) (s : List ℕ) → s ≡ stack K i → Linked K s → Linked K (push k i s)
-linked-push K i flat s e h = h
-linked-push K i open′ s e h = (e, h)
-linked-push K i close [] e h = tt
-linked-push K i close (a ∷ s) e h = h .1
-
-linked : (K : ℕ → Kind) (i : ℕ) → Linked K (stack K i)
-unfolding stack
-linked K zero = tt
-linked K (suc i) = linked-push K i (K i) (stack K i) refl (linked K i)
+use Rattle.orbits.proofs.Stack.{kind-open, kind-close, kind-flat, close-lt, flat-eq, stack-top, stack-after, stack-head}
+use Rattle.orbits.proofs.Decode.{decoded-inv, decoded-nested, decoded-kind, close≢open, flat≢open}
 
 open-lt : (i m : ℕ) → kindOf i m ≡ open′ → i < m
 open-lt i m e =
@@ -67,16 +50,14 @@ module _ (K : ℕ → Kind) (N : ℕ) (b : Balanced K N) where
       let l : m i < i = match-close i h e in
       sym (decoded-kind K N b (m i) (inv .bound i h)) ∙ kind-open (m i) (m (m i)) (omega arith)
 
-  on-top : (i : ℕ) → i < N → K i ≡ close → stack K i ≡ m i ∷ stack K (suc i)
-  on-top i h e =
-      let same : (j : ℕ) → j ≤ N → stack K j ≡ stack (kind m) j = λ j u. stack-ext K (kind m) j (λ x v. sym (decoded-kind K N b x (omega arith))) in
-      same i (le-of-lt h) ∙ stack-top N m inv (decoded-nested K N b) i h (match-close i h e) ∙ ap (λ (s : List ℕ). m i ∷ s) (sym (same (suc i) h))
+  same : (i : ℕ) → i < N → K i ≡ kind m i
+  same i h = sym (decoded-kind K N b i h)
 
   close-after : (i : ℕ) → i < N → K i ≡ close → stack K (suc i) ≡ stack K (m i)
-  close-after i h e = subst (Linked K) (on-top i h e) (linked K i) .0
+  close-after i h e = stack-after N m inv (decoded-nested K N b) K same i h (match-close i h e)
 
   pub close-top : (i : ℕ) → i < N → K i ≡ close → stack K i ≡ m i ∷ stack K (m i)
-  close-top i h e = on-top i h e ∙ ap (λ (s : List ℕ). m i ∷ s) (close-after i h e)
+  close-top i h e = stack-top N m inv (decoded-nested K N b) K same i h (match-close i h e) ∙ ap (λ (s : List ℕ). m i ∷ s) (close-after i h e)
 
   pub stack-turn : (i : ℕ) → i < N → stack K (suc i) ≡ stack K (m i)
   unfolding stack
@@ -89,11 +70,9 @@ module _ (K : ℕ → Kind) (N : ℕ) (b : Balanced K N) where
           sym (top ∙ ap (λ (a : ℕ). a ∷ stack K a) (inv .back i h))
       go close e = ap (λ (k : Kind). push k i (stack K i)) (sym e) ∙ close-after i h e
 
-  held-at : (i : ℕ) → i ≤ N → Held K i (stack K i) (matched K i)
-  held-at i h = held K i (λ j l. b .served j (omega arith))
-
   pub stack-below : (i : ℕ) → i ≤ N → (a : ℕ) (s : List ℕ) → stack K i ≡ a ∷ s → a < i
-  stack-below i h a s e = subst (λ (t : List ℕ). Held K i t (matched K i)) e (held-at i h) .falls .0
+  stack-below i h a s e = stack-head N m inv (decoded-nested K N b) K same i h a s e .0
 
   pub stack-kind : (i : ℕ) → i ≤ N → (a : ℕ) (s : List ℕ) → stack K i ≡ a ∷ s → K a ≡ open′
-  stack-kind i h a s e = subst (λ (t : List ℕ). Held K i t (matched K i)) e (held-at i h) .wait .0 .opens
+  stack-kind i h a s e =
+      let (l, u) = stack-head N m inv (decoded-nested K N b) K same i h a s e in same a (omega arith) ∙ kind-open a (m a) (omega arith)

@@ -11,7 +11,7 @@ use mathlib.Core.Path.{_≡_, refl, sym, ap, subst, _∙_}
 use mathlib.Core.Logic.{_⊎_, inl, inr, ⊎-elim}
 use mathlib.Core.Bool.{true}
 use lib.Dec.{T}
-use Rattle.model.specs.Numbers.{count, iter, least, isLeast, cycles}
+use Rattle.model.specs.Numbers.{iter, least, isLeast, cycles}
 use Rattle.orbits.specs.Permutation.{Perm}
 use Rattle.orbits.specs.Chord.{next}
 use Rattle.orbits.proofs.Order.{eq-split, eq→eqb, find-below}

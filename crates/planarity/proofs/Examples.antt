@@ -5,11 +5,12 @@
 --   example-downs       its downs
 use mathlib.Core.Path.{_≡_, refl}
 use mathlib.Core.List.{[], _∷_, map}
-use Rattle.model.specs.Numbers.{count, position, least}
+use Rattle.model.specs.Numbers.{count, least}
 use Rattle.model.specs.Map.{Plan, opposite, next, vertexOf}
 use Rattle.model.specs.Traversal.{letterAt, onward, seenAfter, walk, visits, word}
-use Rattle.words.specs.Toured.{dartsMet, dartAt, letterOf, posOf, mateOf}
-use Rattle.words.specs.Entered.{downs, lastOpen, enteredAt}
+use Rattle.orbits.specs.Stack.{stack}
+use Rattle.words.specs.Toured.{letterOf}
+use Rattle.words.specs.Entered.{downs, enteredAt}
 
 abbrev pub example : Plan
 example = record { rotation = 9 ∷ 2 ∷ 11 ∷ 4 ∷ 6 ∷ 0 ∷ 3 ∷ 8 ∷ 10 ∷ 5 ∷ 7 ∷ 1 ∷ []; root = 0 }
@@ -17,7 +18,7 @@ example = record { rotation = 9 ∷ 2 ∷ 11 ∷ 4 ∷ 6 ∷ 0 ∷ 3 ∷ 8 ∷ 1
 -- its word is down down first down first first up up second up second second
 pub example-entries : map (enteredAt example) (0 ∷ 1 ∷ 2 ∷ 3 ∷ 4 ∷ 5 ∷ 6 ∷ 7 ∷ 8 ∷ 9 ∷ 10 ∷ 11 ∷ [])
     ≡ 0 ∷ 1 ∷ 2 ∷ 2 ∷ 4 ∷ 4 ∷ 4 ∷ 2 ∷ 1 ∷ 1 ∷ 0 ∷ 0 ∷ []
-unfolding enteredAt lastOpen mateOf posOf letterOf dartAt dartsMet position word visits walk letterAt onward seenAfter vertexOf least opposite next
+unfolding enteredAt stack letterOf word visits walk letterAt onward seenAfter vertexOf least opposite next
 example-entries = refl
 
 pub example-downs : downs example ≡ 3

@@ -2,7 +2,6 @@ pub mod Touring
 pub mod Diagrams
 pub mod Vertices
 pub mod Planar
-pub mod LastOpen
 pub mod Entered
 pub mod SameVertex
 pub mod Examples

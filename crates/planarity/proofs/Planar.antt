@@ -17,9 +17,9 @@ use Rattle.model.proofs.Characteristic.{planar-two, two-planar}
 use Rattle.orbits.specs.Tour.{face}
 use Rattle.orbits.proofs.Euler.{planar-nested, nested-planar}
 use Rattle.orbits.proofs.Maps.{opposite-inv, next-perm}
-use Rattle.words.specs.Toured.{dartAt, posOf, Toured, Bracketed}
+use Rattle.words.specs.Toured.{dartAt, posOf, isChord, Toured, Brackets, Bracketed}
 use Rattle.planarity.proofs.Touring.{treeDart, tour}
-use Rattle.planarity.proofs.Diagrams.{ChordsNest, nested-chords, chords-nested}
+use Rattle.planarity.proofs.Diagrams.{nested-chords, chords-nested}
 use Rattle.planarity.proofs.Vertices.{trees-nested, tree-diagram-nested}
 
 -- ---- planar, in plain numbers
@@ -46,12 +46,12 @@ module _ (p : Plan) (t : Toured p) (fits : dartCountFits (darts p) ≡ true) (pe
   even : darts p % 2 ≡ 0
   even = count-even (darts p) fits
 
-  pub planar-chords : planar (p .rotation) ≡ true → ChordsNest p
+  pub planar-chords : planar (p .rotation) ≡ true → Brackets isChord p
   planar-chords e = nested-chords p t fits (
       planar-nested (darts p) (next (p .rotation)) opposite (next-perm (p .rotation) perm) (opposite-inv (darts p) even) (λ d h. opposite-ne d)
       (treeDart p) (posOf p) (dartAt p) (tour p t fits perm) (edges (p .rotation)) (edges-half (p .rotation) even) (planar-euler (p .rotation) e) .0)
 
-  pub chords-planar : ChordsNest p → planar (p .rotation) ≡ true
+  pub chords-planar : Brackets isChord p → planar (p .rotation) ≡ true
   chords-planar chords = euler-planar (p .rotation) (
       nested-planar (darts p) (next (p .rotation)) opposite (next-perm (p .rotation) perm) (opposite-inv (darts p) even) (λ d h. opposite-ne d)
       (treeDart p) (posOf p) (dartAt p) (tour p t fits perm) (edges (p .rotation)) (edges-half (p .rotation) even)

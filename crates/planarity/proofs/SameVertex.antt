@@ -9,7 +9,7 @@ use Prim.Native.Nat.{ℕ, zero, suc, _≤_, _<_}
 use native.Mathlib.Nat.{le-refl, le-of-lt}
 use native.Mathlib.Omega.{arith}
 use mathlib.Core.Path.{_≡_, refl, sym, ap, _∙_}
-use mathlib.Core.Logic.{⊎-elim, _≢_}
+use mathlib.Core.Logic.{_≢_}
 use mathlib.Core.Bool.{true, false}
 use Rattle.model.specs.Numbers.{isPermutation}
 use Rattle.model.specs.Map.{Plan, darts, opposite, next, vertexOf, dartCountFits}
@@ -22,8 +22,7 @@ use Rattle.words.specs.Entered.{enteredAt}
 use Rattle.words.proofs.Positions.{mate-bound, mate-dart, mate-back, mate-letter, mate-before}
 use Rattle.planarity.proofs.Touring.{turn-flat, turn-tree}
 use Rattle.planarity.proofs.Vertices.{after-flat, after-tree}
-use Rattle.planarity.proofs.LastOpen.{last-open}
-use Rattle.planarity.proofs.Entered.{enters-start, entered-cases, entered-le, enters-down, enters-flat, enters-arrival, enters-up, enters-on}
+use Rattle.planarity.proofs.Entered.{enters-start, enters-down, enters-flat, enters-arrival, enters-up, enters-on, entered-between}
 
 module _ (p : Plan) (t : Toured p) (fits : dartCountFits (darts p) ≡ true) (perm : isPermutation (p .rotation) ≡ true) where
   abbrev at : ℕ → ℕ
@@ -32,7 +31,7 @@ module _ (p : Plan) (t : Toured p) (fits : dartCountFits (darts p) ≡ true) (pe
   -- ---- the entry is kept about a vertex
 
   kept-flat : (i : ℕ) → i < darts p → isTree (letterOf p i) ≡ false → enteredAt p (posOf p (next (p .rotation) (dartAt p i))) ≡ enteredAt p i
-  kept-flat i h e = ap (enteredAt p) (turn-flat p t fits i h e) ∙ enters-on p t fits perm i h ∙ enters-flat p t fits perm i h e
+  kept-flat i h e = ap (enteredAt p) (turn-flat p t fits i h e) ∙ enters-on p t fits perm i h ∙ enters-flat p t fits perm i e
 
   kept-tree : (i : ℕ) → i < darts p → isTree (letterOf p i) ≡ true
       → enteredAt p (posOf p (next (p .rotation) (dartAt p i))) ≡ enteredAt p (suc (mateOf p i))
@@ -44,7 +43,7 @@ module _ (p : Plan) (t : Toured p) (fits : dartCountFits (darts p) ≡ true) (pe
       let c = mateOf p i in
       let hc = mate-bound p t fits i h in
       let d = mate-letter p t i h up e in
-      kept-tree i h (ap isTree e) ∙ enters-down p t fits perm c hc d
+      kept-tree i h (ap isTree e) ∙ enters-down p t fits perm c d
       ∙ sym (enters-arrival p t fits perm c hc d) ∙ ap (enteredAt p) (mate-back p t fits i h)
   kept-at i first h e = kept-flat i h (ap isTree e)
   kept-at i second h e = kept-flat i h (ap isTree e)
@@ -68,11 +67,11 @@ module _ (p : Plan) (t : Toured p) (fits : dartCountFits (darts p) ≡ true) (pe
   -- ---- the position of the entry is at the vertex
 
   entered-flat : (k : ℕ) → suc k < darts p → isTree (letterOf p k) ≡ false → at (enteredAt p k) ≡ at k → at (enteredAt p (suc k)) ≡ at (suc k)
-  entered-flat k h e ih = ap at (enters-flat p t fits perm k (omega arith) e) ∙ ih ∙ sym (after-flat p t fits perm k h e)
+  entered-flat k h e ih = ap at (enters-flat p t fits perm k e) ∙ ih ∙ sym (after-flat p t fits perm k h e)
 
   entered-on : (k : ℕ) (l : Letter) → suc k < darts p → letterOf p k ≡ l
       → ((i : ℕ) → i ≤ k → i < darts p → at (enteredAt p i) ≡ at i) → at (enteredAt p (suc k)) ≡ at (suc k)
-  entered-on k down h e ih = ap at (enters-down p t fits perm k (omega arith) e)
+  entered-on k down h e ih = ap at (enters-down p t fits perm k e)
   entered-on k up h e ih =
       let hk : k < darts p = omega arith in
       let c = mateOf p k in
@@ -98,17 +97,6 @@ module _ (p : Plan) (t : Toured p) (fits : dartCountFits (darts p) ≡ true) (pe
 
   -- ---- edges outside the tree
 
-  -- a vertex with a position at or before i, and one at or after i, was entered at or before the vertex of i
-  entered-between : (q i j : ℕ) → q ≤ i → i ≤ j → enteredAt p q ≡ enteredAt p j → enteredAt p j ≤ enteredAt p i
-  unfolding enteredAt
-  entered-between q i j l u e = ⊎-elim
-      (λ z. omega arith)
-      (λ r.
-      let k = entered-le p t fits perm q in
-      let o = last-open p i (r .0) i (omega (arith, r .2)) (r .3 .0, omega (arith, r .3 .1)) in
-      omega (arith, r .2))
-      (entered-cases p t fits perm j)
-
   pub second-lower : (j : ℕ) → j < darts p → letterOf p j ≡ second → enteredAt p j ≤ enteredAt p (mateOf p j)
   second-lower j h e =
       let i = mateOf p j in
@@ -116,7 +104,7 @@ module _ (p : Plan) (t : Toured p) (fits : dartCountFits (darts p) ≡ true) (pe
       let (q, l, v) = t .old i hi (mate-letter p t j h second e) in
       let opp : opposite (dartAt p i) ≡ dartAt p j = sym (mate-dart p t fits i hi) ∙ ap (dartAt p) (mate-back p t fits j h) in
       let same = same-vertex q j (omega arith) h (v ∙ ap (vertexOf (p .rotation)) opp) in
-      entered-between q i j l (le-of-lt (mate-before p t fits j h (ap opens e))) same
+      entered-between p t fits perm q i j l (le-of-lt (mate-before p t fits j h (ap opens e))) (le-of-lt h) same
 
   pub second-descends : (j : ℕ) → j < darts p → letterOf p j ≡ second
       → vertexOf (p .rotation) (dartAt p (mateOf p j)) ≢ vertexOf (p .rotation) (dartAt p j) → enteredAt p j < enteredAt p (mateOf p j)

@@ -26,12 +26,13 @@ use Rattle.orbits.proofs.Cycle.{least-bound, least-idem, perm-ext}
 use Rattle.orbits.proofs.Transversal.{cycles-ext}
 use Rattle.orbits.proofs.Tour.{dual, map-faces-le, map-nested}
 use Rattle.orbits.proofs.Maps.{next-perm, vertex-turn}
-use Rattle.words.specs.Toured.{dartAt, letterOf, posOf, mateOf, Toured, isTree}
+use Rattle.words.specs.Toured.{dartAt, letterOf, posOf, mateOf, isTree, matching, Brackets, Toured}
 use Rattle.words.specs.Entered.{isDown, downs}
 use Rattle.words.proofs.Letters.{onward-tree, onward-flat, is-down}
 use Rattle.words.proofs.Positions.{mate-bound, mate-before, opposite-at}
+use Rattle.words.proofs.OpenEdges.{matching-in, matching-out}
 use Rattle.planarity.proofs.Touring.{treeDart, tour}
-use Rattle.planarity.proofs.Diagrams.{treeMates, TreesNest, tree-on, tree-off, nested-trees}
+use Rattle.planarity.proofs.Diagrams.{treeMates, tree-mates, nested-trees}
 
 -- ---- the positions where a vertex is entered: the first, and those just after a down
 
@@ -98,12 +99,13 @@ module _ (p : Plan) (t : Toured p) (fits : dartCountFits (darts p) ≡ true) (pe
   -- ---- the tree's diagram
 
   opener-down : (i : ℕ) (l : Letter) → i < darts p → letterOf p i ≡ l → opener (treeMates p) i ≡ isDown l
-  opener-down i down h e =
-      ap (ltb i) (tree-on p t i h (ap isTree e)) ∙ lt-ltb i (mateOf p i) (t .opens-first i h (ap opens e))
-  opener-down i up h e =
-      ap (ltb i) (tree-on p t i h (ap isTree e)) ∙ le-ltb i (mateOf p i) (le-of-lt (mate-before p t fits i h (ap opens e)))
-  opener-down i first h e = le-ltb i (treeMates p i) (le-of-eq (tree-off p t i h (ap isTree e)))
-  opener-down i second h e = le-ltb i (treeMates p i) (le-of-eq (tree-off p t i h (ap isTree e)))
+  opener-down i l h e = ap (ltb i) (tree-mates p t i h) ∙ go l e
+    where
+      go : (l : Letter) → letterOf p i ≡ l → ltb i (matching isTree p i) ≡ isDown l
+      go down e = ap (ltb i) (matching-in isTree p i (ap isTree e)) ∙ lt-ltb i (mateOf p i) (t .opens-first i h (ap opens e))
+      go up e = ap (ltb i) (matching-in isTree p i (ap isTree e)) ∙ le-ltb i (mateOf p i) (le-of-lt (mate-before p t fits i h (ap opens e)))
+      go first e = le-ltb i (matching isTree p i) (le-of-eq (matching-out isTree p i (ap isTree e)))
+      go second e = le-ltb i (matching isTree p i) (le-of-eq (matching-out isTree p i (ap isTree e)))
 
   pub tree-chords : chords (treeMates p) (darts p) ≡ downs p
   unfolding chords downs
@@ -143,5 +145,5 @@ module _ (p : Plan) (t : Toured p) (fits : dartCountFits (darts p) ≡ true) (pe
       (dual (darts p) (next (p .rotation)) opposite (treeDart p) (posOf p) (dartAt p) (tour p t fits perm))
       (sym around-cycles ∙ vertices-downs ∙ ap suc (sym tree-chords))
 
-  pub trees-nested : TreesNest p
+  pub trees-nested : Brackets isTree p
   trees-nested = nested-trees p t fits tree-diagram-nested

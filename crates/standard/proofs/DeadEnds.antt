@@ -14,12 +14,13 @@ use Rattle.model.proofs.Booleans.{bool-ext}
 use Rattle.model.proofs.Fitness.{dead-end-at, at-dead-end}
 use Rattle.orbits.proofs.Order.{le-split}
 use Rattle.words.specs.Word.{bareLeaf}
-use Rattle.words.specs.Toured.{dartAt, letterOf, posOf, mateOf, fellow, isTree, Toured, Bracketed}
+use Rattle.words.specs.Toured.{dartAt, letterOf, posOf, mateOf, fellow, isTree, matching, Toured, Bracketed}
 use Rattle.words.proofs.Letters.{tree-fellow}
 use Rattle.words.proofs.Positions.{word-length, opposite-at}
+use Rattle.words.proofs.OpenEdges.{part-split, matching-inv}
 use Rattle.words.proofs.Leaves.{leaf-mate, leaf-own}
 use Rattle.standard.proofs.Ranks.{opening}
-use Rattle.standard.proofs.Matching.{part-split, matching, matching-inv, turn-onward}
+use Rattle.standard.proofs.Turns.{turn-onward}
 use Rattle.standard.proofs.BareLeaf.{BareAt, bare-at, at-bare}
 
 up-only : (l : Letter) → isTree l ≡ true → opens l ≡ false → l ≡ up

@@ -1,8 +1,7 @@
 pub mod Ranks
 pub mod Numbering
 pub mod Entries
-pub mod Matching
-pub mod OpenEdges
+pub mod Turns
 pub mod WordDarts
 pub mod Linking
 pub mod Nesting

@@ -13,13 +13,14 @@ use Rattle.model.specs.Map.{Plan, darts, opposite, next, dartCountFits}
 use Rattle.model.specs.Traversal.{Letter, down, up, first, second, word, standardPlan}
 use Rattle.orbits.proofs.Order.{le-split}
 use Rattle.words.specs.Word.{head, placeOf, link, rotationOf, planOf}
-use Rattle.words.specs.Toured.{dartAt, letterOf, posOf, isTree, Toured, Bracketed}
+use Rattle.words.specs.Toured.{dartAt, letterOf, posOf, isTree, matching, Toured, Bracketed}
 use Rattle.words.proofs.Letters.{tree-fellow}
 use Rattle.words.proofs.Positions.{dart-inj, word-length}
+use Rattle.words.proofs.OpenEdges.{matching-inv}
 use Rattle.words.proofs.Plans.{head-at, rotation-length}
 use Rattle.standard.proofs.Numbering.{numbers-below, numbers-inj, numbers-onto, numbers-opposite, numbers-root}
 use Rattle.standard.proofs.Entries.{standard-darts, standard-entry}
-use Rattle.standard.proofs.Matching.{matching, matching-inv, pivot, turn, turn-is, turn-bound, turn-onward}
+use Rattle.standard.proofs.Turns.{pivot, turn, turn-is, turn-bound, turn-onward}
 use Rattle.standard.proofs.WordDarts.{numberOf, numbersMet, numbers-met-length, number-met, word-darts}
 
 -- ---- what link enters

@@ -25,6 +25,7 @@ use Rattle.model.proofs.Permutations.{permutation-of}
 use Rattle.model.proofs.Standard.{standard-size}
 use Rattle.orbits.proofs.Maps.{onto}
 use Rattle.words.specs.Toured.{dartAt, mateOf, Toured}
+use Rattle.words.specs.Position.{opened}
 use Rattle.words.proofs.Positions.{no-visit, visit-dart, visit-letter, mate-dart, mate-bound, mate-opens, opposite-at}
 use Rattle.standard.proofs.Ranks.{opening, rank, rank-inj, rank-room, one-edge, opening-of, starts-open}
 
@@ -80,11 +81,11 @@ entered-second d e ns h =
 -- ---- along the positions
 
 pub rank-opens : (p : Plan) (i : ℕ) → opening p i ≡ true → rank p (suc i) ≡ suc (rank p i)
-unfolding rank count
+unfolding opened count
 rank-opens p i e = ap (λ (b : Bool). tick b (count (opening p) i)) e
 
 pub rank-stays : (p : Plan) (i : ℕ) → opening p i ≡ false → rank p (suc i) ≡ rank p i
-unfolding rank count
+unfolding opened count
 rank-stays p i e = ap (λ (b : Bool). tick b (count (opening p) i)) e
 
 -- before position i some numbers ms are given, and what is left goes on from them
@@ -98,20 +99,20 @@ module _ (p : Plan) (t : Toured p) (fits : dartCountFits (darts p) ≡ true) whe
   left : (i : ℕ) → i < darts p → drop i (visits p) ≡ at i ∷ drop (suc i) (visits p)
   left i h = drop-cons (visits p) i no-visit (omega (arith, t .all-met))
 
-  opened : (i : ℕ) → i < darts p → opening p i ≡ true → (ms : List ℕ)
+  number-step : (i : ℕ) → i < darts p → opening p i ≡ true → (ms : List ℕ)
       → number (drop i (visits p)) (rank p i) ms ≡ number (drop (suc i) (visits p)) (rank p (suc i)) (entered (dartAt p i) (rank p i) ms)
-  opened i h o ms =
+  number-step i h o ms =
       ap (λ (vs : List Visit). number vs (rank p i) ms) (left i h)
       ∙ number-opens (at i) (drop (suc i) (visits p)) (rank p i) ms (ap opens (visit-letter p i) ∙ o)
       ∙ rw (visit-dart p i, rank-opens p i o)
 
   part : (i : ℕ) → i ≤ darts p → Part p i
-  unfolding standardNumbers rank count
+  unfolding standardNumbers opened count
   part zero h = (replicate (darts p) 0, length-replicate (darts p) 0, refl)
   part (suc i) h = go (opening p i) refl (part i (omega arith))
     where
       go : (b : Bool) → opening p i ≡ b → Part p i → Part p (suc i)
-      go true o (ms, l, e) = (entered (dartAt p i) (rank p i) ms, entered-length (dartAt p i) (rank p i) ms ∙ l, e ∙ opened i h o ms)
+      go true o (ms, l, e) = (entered (dartAt p i) (rank p i) ms, entered-length (dartAt p i) (rank p i) ms ∙ l, e ∙ number-step i h o ms)
       go false o (ms, l, e) = (
         ms,
         l,
@@ -139,7 +140,7 @@ module _ (p : Plan) (t : Toured p) (fits : dartCountFits (darts p) ≡ true) whe
         ms,
         l,
         λ x f.
-            ap (λ (ns : List ℕ). getD ns x 0) (e ∙ opened i h o ms)
+            ap (λ (ns : List ℕ). getD ns x 0) (e ∙ number-step i h o ms)
             ∙ number-past (drop (suc i) (visits p)) (rank p (suc i)) (entered (dartAt p i) (rank p i) ms) x (later i h o x f),
       )
 
@@ -204,7 +205,7 @@ module _ (p : Plan) (t : Toured p) (fits : dartCountFits (darts p) ≡ true) whe
   numbers-onto = onto (darts p) (λ d. getD (standardNumbers p) d 0) (record { bound = numbers-below; inj = numbers-inj })
 
   pub numbers-root : getD (standardNumbers p) (p .root) 0 ≡ 0
-  unfolding rank count
+  unfolding opened count
   numbers-root =
       ap (λ (x : ℕ). getD (standardNumbers p) x 0) (sym (t .starts))
       ∙ opened-number 0 (count-positive (darts p) fits) (starts-open p t fits)

@@ -13,7 +13,6 @@ use mathlib.Core.Logic.{_⊎_, inl, inr, ⊎-elim}
 use mathlib.Core.Bool.{Bool, true, false, not, true≢false}
 use lib.Dec.{ltb}
 use borrow.Author.Tests.{lt-ltb, le-ltb}
-use Rattle.model.specs.Numbers.{count}
 use Rattle.model.specs.Map.{Plan, darts, opposite, dartCountFits}
 use Rattle.model.specs.Traversal.{opens}
 use Rattle.model.proofs.Fitness.{count-positive}
@@ -23,13 +22,14 @@ use Rattle.orbits.proofs.Order.{tri}
 use Rattle.orbits.proofs.Tally.{count-ext, count-below}
 use Rattle.orbits.proofs.Euler.{chords-half}
 use Rattle.words.specs.Toured.{dartAt, letterOf, posOf, mateOf, Toured}
+use Rattle.words.specs.Position.{opened}
 use Rattle.words.proofs.Positions.{mate-dart, mate-bound, mate-opens, mate-before, mate-inv, mate-ne, edge-inj}
 
 abbrev pub opening : Plan → ℕ → Bool
 opening p i = opens (letterOf p i)
 
-unfoldable pub rank : Plan → ℕ → ℕ
-rank p i = count (opening p) i
+abbrev pub rank : Plan → ℕ → ℕ
+rank p i = opened (letterOf p) i
 
 module _ (p : Plan) (t : Toured p) (fits : dartCountFits (darts p) ≡ true) where
   -- nothing ends at position 0
@@ -41,7 +41,7 @@ module _ (p : Plan) (t : Toured p) (fits : dartCountFits (darts p) ≡ true) whe
       go false e = absurd (omega (arith, mate-before p t fits 0 (count-positive (darts p) fits) e))
 
   pub rank-inj : (i j : ℕ) → opening p i ≡ true → opening p j ≡ true → rank p i ≡ rank p j → i ≡ j
-  unfolding rank
+  unfolding opened
   rank-inj i j u v e =
       tri i j
       (λ l. absurd (omega (arith, count-below (opening p) i j l u)))
@@ -57,7 +57,7 @@ module _ (p : Plan) (t : Toured p) (fits : dartCountFits (darts p) ≡ true) whe
 
   -- half of the letters open
   half : rank p (darts p) + rank p (darts p) ≡ darts p
-  unfolding rank chords
+  unfolding opened chords
   half = omega (
     arith,
     chords-half (darts p) (mateOf p) (mate-inv p t fits) (mate-ne p t fits),
@@ -65,7 +65,7 @@ module _ (p : Plan) (t : Toured p) (fits : dartCountFits (darts p) ≡ true) whe
   )
 
   pub rank-room : (i : ℕ) → i < darts p → opening p i ≡ true → 2 * rank p i + 1 < darts p
-  unfolding rank
+  unfolding opened
   rank-room i h e = omega (arith, count-below (opening p) i (darts p) h e, half)
 
   pub one-edge : (i j : ℕ) → i < darts p → j < darts p → opening p i ≡ true → opening p j ≡ true → dartAt p i / 2 ≡ dartAt p j / 2 → i ≡ j

@@ -22,7 +22,7 @@ module _ (p : Plan) (t : Toured p) where
     pub leaf-mate : Bracketed p → (i : ℕ) → suc i < darts p → letterOf p i ≡ down → letterOf p (suc i) ≡ up → mateOf p i ≡ suc i
     leaf-mate b i h d u =
         le-split (t .opens-first i (omega arith) (ap opens d)) sym
-        (λ l. let k = b .trees i (suc i) (omega arith) d (omega arith) l (ap isTree u) in
+        (λ l. let k = b .trees i (suc i) (omega arith) (ap isTree d) (omega arith) l (ap isTree u) in
         absurd (omega (arith, mate-before p t fits (suc i) h (ap opens u))))
 
     pub leaf-own : (i : ℕ) → suc i < darts p → letterOf p i ≡ down → mateOf p i ≡ suc i

@@ -1,7 +1,15 @@
 pub mod Letters
 pub mod Positions
-pub mod Leaves
 pub mod Plans
+pub mod OpenEdges
+pub mod Nesting
+pub mod WordDarts
+pub mod Mates
+pub mod Darts
+pub mod Lists
+pub mod Rotation
+pub mod Leaves
 pub mod Validity
 pub mod Counts
 pub mod Found
+pub mod Bracketing

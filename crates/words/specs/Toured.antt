@@ -6,13 +6,15 @@
 --   posOf p d        the position of dart d
 --   mateOf p i       the position of the opposite of the dart at position i
 --   fellow l         the letter of the opposite dart
---   isTree l         the letter of a dart of a tree edge
+--   isTree l, isChord l   the letter of a dart of a tree edge, of another edge
 --   Toured p         the traversal meets every dart once, step by step, and its letters say what is seen
---   Bracketed p      the darts of the tree edges match like brackets along the traversal, and so do those of the other edges
+--   Brackets part p  the darts of the edges of a part, tree or chord, match like brackets along the traversal
+--   Bracketed p      both do
+--   matching part p  the mate of a position of the part; any other position stays
 use Prim.Native.Nat.{ℕ, suc, _≤_, _<_}
 use mathlib.Core.Path.{_≡_}
 use mathlib.Core.Logic.{_≢_}
-use mathlib.Core.Bool.{Bool, true, false}
+use mathlib.Core.Bool.{Bool, true, false, not, cond}
 use mathlib.Core.List.{List, map}
 use lib.ListN.{length, getD}
 use Rattle.model.specs.Numbers.{position}
@@ -65,9 +67,17 @@ isTree up = true
 isTree first = false
 isTree second = false
 
--- what lies between the two darts of an edge is matched there; trees: among tree edges, chords: among the others
+abbrev pub isChord : Letter → Bool
+isChord l = not (isTree l)
+
+-- what lies between the two darts of an edge is matched there
+abbrev pub Brackets : (Letter → Bool) → Plan → Type 0
+Brackets part p = (i x : ℕ) → i < darts p → part (letterOf p i) ≡ true → i < x → x < mateOf p i → part (letterOf p x) ≡ true
+    → (i < mateOf p x) × (mateOf p x < mateOf p i)
+
 pub record Bracketed (p : Plan) : Type 0 where
-  pub trees : (i x : ℕ) → i < darts p → letterOf p i ≡ down → i < x → x < mateOf p i → isTree (letterOf p x) ≡ true
-      → (i < mateOf p x) × (mateOf p x < mateOf p i)
-  pub chords : (i x : ℕ) → i < darts p → letterOf p i ≡ first → i < x → x < mateOf p i → isTree (letterOf p x) ≡ false
-      → (i < mateOf p x) × (mateOf p x < mateOf p i)
+  pub trees : Brackets isTree p
+  pub chords : Brackets isChord p
+
+unfoldable pub matching : (Letter → Bool) → Plan → ℕ → ℕ
+matching part p i = cond (part (letterOf p i)) (mateOf p i) i

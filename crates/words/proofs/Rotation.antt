@@ -26,14 +26,15 @@ use Rattle.orbits.specs.Chord as Chord
 use Rattle.orbits.proofs.Chord.{next-cases, φ-perm, μ-inj}
 use Rattle.orbits.proofs.Maps.{perm-list}
 use Rattle.orbits.proofs.Inverse.{inverse, inverse-bound, back-there, there-back}
 use Rattle.words.specs.Word.{wordDarts, placeOf, link, rotationOf, head}
 use Rattle.words.specs.Toured.{isTree}
 use Rattle.words.proofs.Plans.{rotation-length}
-use Rattle.building.specs.Position.{letter, dartNo, Balance}
-use Rattle.building.proofs.Lists.{filled, filled-at, head-drop}
-use Rattle.building.proofs.Machine.{length-wordDarts, wordDarts-at}
-use Rattle.building.proofs.Mates.{τ, τ-inv, τ-tree, τ-chord}
-use Rattle.building.proofs.Darts.{dart-perm, dart-mate, dart-zero}
+use Rattle.words.specs.Brackets.{letter}
+use Rattle.words.specs.Position.{dartNo, Balance}
+use Rattle.words.proofs.Lists.{filled, filled-at, head-drop}
+use Rattle.words.proofs.WordDarts.{length-wordDarts, wordDarts-at}
+use Rattle.words.proofs.Mates.{τ, τ-inv, τ-tree, τ-chord}
+use Rattle.words.proofs.Darts.{dart-perm, dart-mate, dart-zero}
 
 module _ (w : List Letter) (b : Balance (letter w) (length w)) where
   abbrev N : ℕ

@@ -24,11 +24,12 @@ use Rattle.orbits.proofs.Tally.{count-ext, count-below}
 use Rattle.orbits.proofs.Chord.{μ-inj}
 use Rattle.orbits.proofs.Euler.{Free, chords-half}
 use Rattle.orbits.proofs.Match.{close-top}
 use Rattle.words.specs.Word.{head}
 use Rattle.words.specs.Toured.{isTree}
 use Rattle.words.proofs.Letters.{fellow-opens, fellow-closes}
-use Rattle.building.specs.Position.{treeKind, chordKind, treeWord, chordWord, opened, dartBy, dartNo, Balance}
-use Rattle.building.proofs.Mates.{mate, mate-inv, fellows, later, earlier, τ-tree, χ-chord}
+use Rattle.words.specs.Brackets.{treeKind, chordKind, treeWord, chordWord}
+use Rattle.words.specs.Position.{opened, dartBy, dartNo, Balance}
+use Rattle.words.proofs.Mates.{mate, mate-inv, fellows, later, earlier, τ-tree, χ-chord}
 
 module _ (ℓ : ℕ → Letter) (N : ℕ) (b : Balance ℓ N) where
   abbrev x : ℕ → ℕ

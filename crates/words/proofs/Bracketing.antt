@@ -7,8 +7,8 @@ use mathlib.Core.Bool.{true, false, true≢false, false≢true}
 use Rattle.model.specs.Traversal.{Letter, down, up, first, second}
 use Rattle.orbits.specs.Stack.{flat, open′, close}
 use Rattle.orbits.proofs.Decode.{flat≢open, close≢open, flat≢close}
 use Rattle.words.specs.Toured.{isTree}
-use Rattle.building.specs.Position.{treeKind, chordKind}
+use Rattle.words.specs.Brackets.{treeKind, chordKind}
 
 pub is-down : (l : Letter) → treeKind l ≡ open′ → l ≡ down
 is-down down e = refl
