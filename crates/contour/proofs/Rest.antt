@@ -1,9 +1,8 @@
 -- What is left of the walk gives the answer.
 --
---   plan rot root               the plan with this rotation and root
---   lettersOf vs                the letters of visits, by number
---   left rot root d i w         the letters of the walk from d on, i darts being met
---   Started, started            a walk's area w, and w₁, the same with no dart met and no vertex seen
+--   codes vs                    the letters of visits, by number
+--   left rot root d i w         those of the walk from d on, i darts being met
+--   Started, started            a walk's area w, and w₂, the same with no dart met and no vertex seen
 --   Walking rot root w₀ d i w   i darts are met and d comes next: the letters noted and those that are left are the word
 --   begun                       at the root, its vertex seen
 --   going-on                    one step that doesn't lead back to the root
@@ -14,41 +13,36 @@ use mathlib.Core.Bool.{true}
 use mathlib.Core.List.{List, [], _∷_, _++_, map, append-nil, append-assoc}
 use Prim.Native.Nat.{ℕ, suc, _+_, _-_, _*_, _≤_, _<_}
 use native.Mathlib.Omega.{arith}
-use lib.ListN.{length, getD, set, replicate, length-set, length-replicate, getD-replicate, length-map}
-use lib.Seq.{ext-getD}
+use lib.ListN.{length, getD, set, replicate, length-set, length-replicate, length-map}
 use borrow.Author.Tests.{eq-eqb, ne-eqb}
 use Rattle.model.specs.Numbers.{isPermutation}
 use Rattle.model.specs.Map.{Plan, vertexOf, dartCountFits}
 use Rattle.model.specs.Traversal.{code, Visit, letterAt, onward, seenAfter, walk, visits, word}
 use Rattle.model.proofs.Fitness.{count-parts}
+use Rattle.work.specs.Map.{MET, SEEN, LETTERS}
 use Rattle.work.specs.Area.{region, placed}
-use Rattle.work.proofs.Regions.{length-region, getD-region, length-placed, getD-placed, region-placed-other, region-set, region-set-other}
-use Rattle.contour.specs.Steps.{VerticesNamed, letterIn, Visited}
+use Rattle.work.proofs.Regions.{length-region, length-placed, region-placed, region-placed-other, region-set, region-set-other}
+use Rattle.contour.specs.Steps.{metIn, seenIn, codesIn, VerticesNamed, letterIn, Visited}
 use Rattle.contour.specs.Walked.{Walked}
 use Rattle.contour.proofs.Steps.{name-at, name-bound, onward-bound}
 
-unfoldable pub lettersOf : List Visit → List ℕ
-lettersOf vs = map code (map (λ v. v .letter) vs)
+unfoldable pub codes : List Visit → List ℕ
+codes vs = map code (map (λ v. v .letter) vs)
 
 abbrev pub left : List ℕ → ℕ → ℕ → ℕ → List ℕ → List ℕ
-left rot root d i w =
-    lettersOf (walk rot root (length rot - i) d (region (length rot) (length rot) w) (region (2 * length rot) (length rot) w))
+left rot root d i w = codes (walk rot root (length rot - i) d (metIn (length rot) w) (seenIn (length rot) w))
 
-abbrev pub plan : List ℕ → ℕ → Plan
-plan rot root = record { rotation = rot; root = root }
-
-pub record Started (rot : List ℕ) (root : ℕ) (w w₁ : List ℕ) : Type 0 where
+pub record Started (rot : List ℕ) (root : ℕ) (w w₂ : List ℕ) : Type 0 where
   pub count : dartCountFits (length rot) ≡ true
   pub perm : isPermutation rot ≡ true
   pub few : length rot ≤ 8192
   pub inside : root < length rot
-  pub room : 4 * length rot ≤ length w
-  pub named : VerticesNamed rot w
-  pub names : VerticesNamed rot w₁
-  pub bound : getD w₁ root 0 < length rot
-  pub unmet : region (length rot) (length rot) w₁ ≡ replicate (length rot) 0
-  pub unseen : region (2 * length rot) (length rot) w₁ ≡ replicate (length rot) 0
-  pub kept : length w₁ ≡ length w
+  pub room : 4 * length rot ≤ length w₂
+  pub names : VerticesNamed rot w₂
+  pub bound : getD w₂ root 0 < length rot
+  pub unmet : metIn (length rot) w₂ ≡ replicate (length rot) 0
+  pub unseen : seenIn (length rot) w₂ ≡ replicate (length rot) 0
+  pub kept : length w₂ ≡ length w
 
 pub record Walking (rot : List ℕ) (root : ℕ) (w₀ : List ℕ) (d i : ℕ) (w : List ℕ) : Type 0 where
   pub inside : d < length rot
@@ -56,101 +50,108 @@ pub record Walking (rot : List ℕ) (root : ℕ) (w₀ : List ℕ) (d i : ℕ) (
   pub room : 4 * length rot ≤ length w
   pub kept : length w ≡ length w₀
   pub names : VerticesNamed rot w
-  pub rest : region (3 * length rot) i w ++ left rot root d i w ≡ lettersOf (visits (plan rot root))
+  pub rest : codesIn (length rot) i w ++ left rot root d i w ≡ map code (word (record { rotation = rot; root = root }))
 
 -- ---- the area is cleared
 
--- a region of zeros that were placed
-zeros-in : (a m b k : ℕ) (w : List ℕ) → a + m ≤ length w → a ≤ b → b + k ≤ a + m → region b k (placed a (replicate m 0) w) ≡ replicate k 0
-zeros-in a m b k w fits low high =
-    let r = length-replicate {A = ℕ} m 0 in
-    let p = length-placed a (replicate m 0) w (omega arith) in
-    let n = length-region b k (placed a (replicate m 0) w) (omega arith) in
-    ext-getD 0 (region b k (placed a (replicate m 0) w)) (replicate k 0) (n ∙ sym (length-replicate k 0))
-    (λ i h.
-    let j = b - a + i in
-    let e : b + i ≡ a + j = omega arith in
-    getD-region b k (placed a (replicate m 0) w) i (omega arith)
-    ∙ ap (λ (x : ℕ). getD (placed a (replicate m 0) w) x 0) e
-    ∙ getD-placed a (replicate m 0) w (omega arith) j (omega arith)
-    ∙ getD-replicate m j 0 0 (omega arith)
-    ∙ sym (getD-replicate k i 0 0 (omega arith)))
-
-pub started : (rot : List ℕ) (root : ℕ) (w w₁ : List ℕ) → dartCountFits (length rot) ≡ true → isPermutation rot ≡ true → root < length rot
-    → 4 * length rot ≤ length w → VerticesNamed rot w → w₁ ≡ placed (length rot) (replicate (2 * length rot) 0) w → Started rot root w w₁
-started rot root w w₁ count perm inside room named e =
+pub started : (rot : List ℕ) (root : ℕ) (w w₁ w₂ : List ℕ) → dartCountFits (length rot) ≡ true → isPermutation rot ≡ true → root < length rot
+    → 4 * length rot ≤ length w → VerticesNamed rot w → w₁ ≡ placed (MET * length rot) (replicate (length rot) 0) w
+    → w₂ ≡ placed (SEEN * length rot) (replicate (length rot) 0) w₁ → Started rot root w w₂
+started rot root w w₁ w₂ count perm inside room named e₁ e₂ =
     let n = length rot in
-    let r = length-replicate {A = ℕ} (2 * n) 0 in
-    let names : VerticesNamed rot w₁ =
-    ap (region 0 n) e ∙ region-placed-other n (replicate (2 * n) 0) w (omega arith) 0 n (λ h. absurd (omega arith)) ∙ named in
+    let zs : List ℕ = replicate n 0 in
+    let z : length zs ≡ n = length-replicate n 0 in
+    let k₁ : length w₁ ≡ length w = ap length e₁ ∙ length-placed (MET * n) zs w (omega arith) in
+    let k₂ : length w₂ ≡ length w₁ = ap length e₂ ∙ length-placed (SEEN * n) zs w₁ (omega arith) in
+    let names : VerticesNamed rot w₂ =
+    ap (region 0 n) e₂ ∙ region-placed-other (SEEN * n) zs w₁ (omega arith) 0 n (λ h. absurd (omega arith))
+    ∙ ap (region 0 n) e₁ ∙ region-placed-other (MET * n) zs w (omega arith) 0 n (λ h. absurd (omega arith)) ∙ named in
     record {
       count = count;
       perm = perm;
       few = count-parts n count .2;
       inside = inside;
-      room = room;
-      named = named;
+      room = omega arith;
       names = names;
-      bound = name-bound rot w₁ names root inside;
-      unmet = ap (region n n) e ∙ zeros-in n (2 * n) n n w (omega arith) (omega arith) (omega arith);
-      unseen = ap (region (2 * n) n) e ∙ zeros-in n (2 * n) (2 * n) n w (omega arith) (omega arith) (omega arith);
-      kept = ap length e ∙ length-placed n (replicate (2 * n) 0) w (omega arith);
+      bound = name-bound rot w₂ names root inside;
+      unmet = ap (metIn n) e₂ ∙ region-placed-other (SEEN * n) zs w₁ (omega arith) (MET * n) n (λ h. absurd (omega arith))
+          ∙ ap (metIn n) e₁ ∙ region-placed (MET * n) zs w (omega arith) n (sym z);
+      unseen = ap (seenIn n) e₂ ∙ region-placed (SEEN * n) zs w₁ (omega arith) n (sym z);
+      kept = k₂ ∙ k₁;
     }
 
 -- ---- the definition of the walk, one step of it
 
 module _ (rot : List ℕ) (root k d e : ℕ) (met seen met′ seen′ : List ℕ) (on : e ≡ onward rot (letterAt rot met seen d) d) where
   walk-on : met′ ≡ set met d (code (letterAt rot met seen d)) → seen′ ≡ seenAfter rot (letterAt rot met seen d) d seen → (e ≢ root)
-      → lettersOf (walk rot root (suc k) d met seen) ≡ code (letterAt rot met seen d) ∷ lettersOf (walk rot root k e met′ seen′)
-  unfolding lettersOf walk
+      → codes (walk rot root (suc k) d met seen) ≡ code (letterAt rot met seen d) ∷ codes (walk rot root k e met′ seen′)
+  unfolding codes walk
   walk-on m s ne = rw (m, s, on, ne-eqb _ _ (λ q. ne (on ∙ q)))
 
-  walk-back : e ≡ root → lettersOf (walk rot root (suc k) d met seen) ≡ code (letterAt rot met seen d) ∷ []
-  unfolding lettersOf walk
+  walk-back : e ≡ root → codes (walk rot root (suc k) d met seen) ≡ code (letterAt rot met seen d) ∷ []
+  unfolding codes walk
   walk-back b = rw (eq-eqb _ _ (sym on ∙ b))
 
 region-none : (a : ℕ) (w : List ℕ) → region a 0 w ≡ []
 unfolding region
 region-none a w = refl
 
-module _ {rot : List ℕ} {root : ℕ} {w w₁ : List ℕ} (s : Started rot root w w₁) where
+module _ {rot : List ℕ} {root : ℕ} {w w₂ : List ℕ} (s : Started rot root w w₂) where
+  abbrev n : ℕ
+  n = length rot
+
+  abbrev p : Plan
+  p = record { rotation = rot; root = root }
+
   -- ---- the start
 
-  pub begun : Walking rot root (set w₁ (2 * length rot + getD w₁ root 0) 1) root 0 (set w₁ (2 * length rot + getD w₁ root 0) 1)
-  unfolding lettersOf visits
+  pub begun : Walking rot root (set w₂ (SEEN * n + getD w₂ root 0) 1) root 0 (set w₂ (SEEN * n + getD w₂ root 0) 1)
+  unfolding codes visits word
   begun =
-      let n = length rot in
-      let v = getD w₁ root 0 in
+      let v = getD w₂ root 0 in
       let b : v < n = s .bound in
-      let l = length-set w₁ (2 * n + v) 1 in
-      let k = s .kept in
-      let room : 4 * n ≤ length w = s .room in
-      let met : region n n (set w₁ (2 * n + v) 1) ≡ replicate n 0 = region-set-other n n w₁ (2 * n + v) 1 (λ _. omega arith) ∙ s .unmet in
-      let seen : region (2 * n) n (set w₁ (2 * n + v) 1) ≡ set (replicate n 0) (vertexOf rot root) 1 =
-      region-set (2 * n) n w₁ v 1 b ∙ ap (λ (r : List ℕ). set r v 1) (s .unseen)
-      ∙ ap (λ (x : ℕ). set (replicate n 0) x 1) (name-at rot w₁ (s .names) root (s .inside)) in
+      let w₀ = set w₂ (SEEN * n + v) 1 in
+      let met : metIn n w₀ ≡ replicate n 0 = region-set-other (MET * n) n w₂ (SEEN * n + v) 1 (λ _. omega arith) ∙ s .unmet in
+      let seen : seenIn n w₀ ≡ set (replicate n 0) (vertexOf rot root) 1 =
+      region-set (SEEN * n) n w₂ v 1 b ∙ ap (λ (r : List ℕ). set r v 1) (s .unseen)
+      ∙ ap (λ (x : ℕ). set (replicate n 0) x 1) (name-at rot w₂ (s .names) root (s .inside)) in
       let whole : n - 0 ≡ n = omega arith in
       record {
         inside = s .inside;
         places = omega arith;
-        room = omega arith;
+        room = omega (arith, s .room, length-set w₂ (SEEN * n + v) 1);
         kept = refl;
-        names = region-set-other 0 n w₁ (2 * n + v) 1 (λ _. omega arith) ∙ s .names;
-        rest = rw (met, seen, region-none (3 * n) (set w₁ (2 * n + v) 1), whole);
+        names = region-set-other 0 n w₂ (SEEN * n + v) 1 (λ _. omega arith) ∙ s .names;
+        rest = rw (met, seen, region-none (LETTERS * n) w₀, whole);
       }
+
+  -- ---- the end
+
+  walked : (count : ℕ) (w′ : List ℕ) → count ≤ n → length w′ ≡ length w → codesIn n count w′ ≡ map code (word p) → Walked p w count w′
+  unfolding word
+  walked count w′ h kept letters = record {
+    counted = sym (length-region (LETTERS * n) count w′ (omega (arith, s .room, s .kept))) ∙ ap length letters ∙ length-map (word p) code
+        ∙ length-map (visits p) (λ v. v .letter);
+    letters = letters;
+    kept = kept;
+  }
+
+  pub walked-all : {w₀ : List ℕ} {d i : ℕ} {w′ : List ℕ} → Walking rot root w₀ d i w′ → length w₀ ≡ length w₂ → n ≤ i → Walked p w i w′
+  unfolding codes walk
+  walked-all {w₀} {d} {i} {w′} at l h =
+      let none : n - i ≡ 0 = omega arith in
+      walked i w′ (at .places) (at .kept ∙ (l ∙ s .kept)) (sym (append-nil _) ∙ ap (λ (r : List ℕ). codesIn n i w′ ++ r) (rw none) ∙ at .rest)
 
   -- ---- one step
 
-  module _ {w₀ : List ℕ} {d i : ℕ} {u : List ℕ} (at : Walking rot root w₀ d i u) (more : i < length rot) {e : ℕ} {w′ : List ℕ}
-      (v : Visited rot d i u e w′) where
+  module _ {w₀ : List ℕ} {d i : ℕ} {u : List ℕ} (at : Walking rot root w₀ d i u) (more : i < n) {e : ℕ} {w′ : List ℕ} (v : Visited rot d i u e w′) where
     -- the letter that is noted comes off what is left
-    moved : (xs : List ℕ) → left rot root d i u ≡ code (letterIn rot u d) ∷ xs
-        → region (3 * length rot) (i + 1) w′ ++ xs ≡ lettersOf (visits (plan rot root))
+    moved : (xs : List ℕ) → left rot root d i u ≡ code (letterIn rot u d) ∷ xs → codesIn n (i + 1) w′ ++ xs ≡ map code (word p)
     moved xs q =
-        ap (λ (r : List ℕ). r ++ xs) (v .letters) ∙ append-assoc (region (3 * length rot) i u) (code (letterIn rot u d) ∷ []) xs
-        ∙ ap (λ (r : List ℕ). region (3 * length rot) i u ++ r) (sym q) ∙ at .rest
+        ap (λ (r : List ℕ). r ++ xs) (v .letters) ∙ append-assoc (codesIn n i u) (code (letterIn rot u d) ∷ []) xs
+        ∙ ap (λ (r : List ℕ). codesIn n i u ++ r) (sym q) ∙ at .rest
 
-    spent : length rot - i ≡ suc (length rot - (i + 1))
+    spent : n - i ≡ suc (n - (i + 1))
     spent = omega arith
 
     pub going-on : (e ≢ root) → Walking rot root w₀ e (i + 1) w′
@@ -158,41 +159,14 @@ module _ {rot : List ℕ} {root : ℕ} {w w₁ : List ℕ} (s : Started rot root
     going-on ne = record {
       inside = let b = onward-bound rot (s .perm) (s .count) (letterIn rot u d) d (at .inside) in let q = v .onwards in omega arith;
       places = omega arith;
-      room = let k = v .kept in let r = at .room in omega arith;
+      room = omega (arith, v .kept, at .room);
       kept = v .kept ∙ at .kept;
       names = v .names ∙ at .names;
-      rest = moved (left rot root e (i + 1) w′)
-          (rw spent (walk-on rot root (length rot - (i + 1)) d e _ _ _ _ (v .onwards) (v .met) (v .seen) ne));
+      rest = moved (left rot root e (i + 1) w′) (rw spent (walk-on rot root (n - (i + 1)) d e _ _ _ _ (v .onwards) (v .met) (v .seen) ne));
     }
 
-    back : e ≡ root → region (3 * length rot) (i + 1) w′ ≡ lettersOf (visits (plan rot root))
+    pub walked-back : length w₀ ≡ length w₂ → e ≡ root → Walked p w (i + 1) w′
     unfolding letterIn
-    back b = sym (append-nil _) ∙ moved [] (rw spent (walk-back rot root (length rot - (i + 1)) d e _ _ [] [] (v .onwards) b))
-
-  -- ---- the end
-
-  walked : (count : ℕ) (w′ : List ℕ) → count ≤ length rot → length w′ ≡ length w → VerticesNamed rot w′
-      → region (3 * length rot) count w′ ≡ lettersOf (visits (plan rot root)) → Walked (plan rot root) w count w′
-  unfolding lettersOf word
-  walked count w′ h kept names letters =
-      let room : 4 * length rot ≤ length w = s .room in
-      record {
-        counted = sym (length-region (3 * length rot) count w′ (omega arith)) ∙ ap length letters ∙ length-map (word (plan rot root)) code
-            ∙ length-map (visits (plan rot root)) (λ v. v .letter);
-        letters = letters;
-        names = names ∙ sym (s .named);
-        kept = kept;
-      }
-
-  pub walked-back : {w₀ : List ℕ} {d i : ℕ} {u : List ℕ} → Walking rot root w₀ d i u → i < length rot → {e : ℕ} {w′ : List ℕ}
-      → Visited rot d i u e w′ → length w₀ ≡ length w₁ → e ≡ root → Walked (plan rot root) w (i + 1) w′
-  walked-back {w₀} {d} {i} {u} at more {e} {w′} v l b =
-      walked (i + 1) w′ (omega arith) (v .kept ∙ (at .kept ∙ (l ∙ s .kept))) (v .names ∙ at .names) (back at more v b)
-
-  pub walked-all : {w₀ : List ℕ} {d i : ℕ} {w′ : List ℕ} → Walking rot root w₀ d i w′ → length w₀ ≡ length w₁ → length rot ≤ i
-      → Walked (plan rot root) w i w′
-  unfolding lettersOf walk
-  walked-all {w₀} {d} {i} {w′} at l h =
-      let none : length rot - i ≡ 0 = omega arith in
-      walked i w′ (at .places) (at .kept ∙ (l ∙ s .kept)) (at .names)
-      (sym (append-nil _) ∙ ap (λ (r : List ℕ). region (3 * length rot) i w′ ++ r) (rw none) ∙ at .rest)
+    walked-back l b =
+        walked (i + 1) w′ (omega arith) (v .kept ∙ (at .kept ∙ (l ∙ s .kept)))
+        (sym (append-nil _) ∙ moved [] (rw spent (walk-back rot root (n - (i + 1)) d e _ _ [] [] (v .onwards) b)))

@@ -1,11 +1,12 @@
 -- One step of the walk, from the stores that make it.
 --
 --   noted                        the two stores of a letter
---   other-bound, entry-bound, onward-bound   opposites, entries and the dart after a dart are darts
+--   onward-bound                 the dart after a dart is a dart
 --   name-at, name-bound          a dart's vertex, read in the work area, and its bound
 --   Here, here                   what a step of dart d at position i relies on, o being the other dart of its edge
---   goes-down, is-noted          the other dart is not met: its vertex is not seen, or it is
---   comes-up, is-noted-again     the other dart is met: it went down, or it was only noted
+--   metOver, seenOver            the letter of o, and whether its vertex is seen, in the work area
+--   goes-down, is-noted          o is not met: its vertex is not seen, or it is
+--   comes-up, is-noted-again     o is met: it went down, or it was only noted
 use mathlib.Core.Path.{_≡_, refl, sym, ap, _∙_}
 use mathlib.Core.Logic.{_≢_}
 use mathlib.Core.Bool.{true}
@@ -16,15 +17,16 @@ use lib.ListN.{length, getD, set, take, length-set}
 use lib.Seq.{getD-set-same, drop-cons}
 use borrow.Author.Tests.{eq-eqb, ne-eqb}
 use Rattle.model.specs.Numbers.{isPermutation}
-use Rattle.model.specs.Map.{opposite, next, vertexOf, dartCountFits}
+use Rattle.model.specs.Map.{opposite, next, faceNext, vertexOf, dartCountFits}
 use Rattle.model.specs.Traversal.{Letter, down, up, first, second, code, letterAt, onward, seenAfter}
 use Rattle.model.proofs.Fitness.{opposite-bound, count-parts}
 use Rattle.orbits.proofs.Cycle.{least-le}
-use Rattle.work.specs.Area.{region}
+use Rattle.orbits.proofs.Maps.{next-perm}
 use Rattle.orbits.proofs.Table.{tabulate-at}
+use Rattle.work.specs.Map.{MET, SEEN, LETTERS}
+use Rattle.work.specs.Area.{region}
 use Rattle.work.proofs.Regions.{getD-region, region-set, region-set-other, region-split}
-use Rattle.cycles.proofs.Steps.{next-perm}
-use Rattle.contour.specs.Steps.{VerticesNamed, letterIn, Noted, Visited}
+use Rattle.contour.specs.Steps.{namesIn, metIn, seenIn, codesIn, VerticesNamed, letterIn, Noted, Visited}
 
 -- ---- stores
 
@@ -33,41 +35,39 @@ one : (a : ℕ) (w : List ℕ) → a < length w → region a 1 w ≡ getD w a 0 
 unfolding region
 one a w h = ap (take 1) (drop-cons w a 0 h)
 
-pub noted : (n d i l : ℕ) (w : List ℕ) → d < n → i < n → 4 * n ≤ length w → Noted n d i l w (set (set w (n + d) l) (3 * n + i) l)
+pub noted : (n d i l : ℕ) (w : List ℕ) → d < n → i < n → 4 * n ≤ length w → Noted n d i l w (set (set w (MET * n + d) l) (LETTERS * n + i) l)
 noted n d i l w hd hi room =
-    let w₁ = set w (n + d) l in
-    let k : length w₁ ≡ length w = length-set w (n + d) l in
-    let k₂ : length (set w₁ (3 * n + i) l) ≡ length w₁ = length-set w₁ (3 * n + i) l in
+    let w₁ = set w (MET * n + d) l in
+    let w₂ = set w₁ (LETTERS * n + i) l in
+    let k : length w₁ ≡ length w = length-set w (MET * n + d) l in
+    let k₂ : length w₂ ≡ length w₁ = length-set w₁ (LETTERS * n + i) l in
     record {
-      names = region-set-other 0 n w₁ (3 * n + i) l (λ _. omega arith) ∙ region-set-other 0 n w (n + d) l (λ _. omega arith);
-      met = region-set-other n n w₁ (3 * n + i) l (λ _. omega arith) ∙ region-set n n w d l hd;
-      seen = region-set-other (2 * n) n w₁ (3 * n + i) l (λ _. omega arith) ∙ region-set-other (2 * n) n w (n + d) l (λ h. absurd (omega arith));
+      names = region-set-other 0 n w₁ (LETTERS * n + i) l (λ _. omega arith) ∙ region-set-other 0 n w (MET * n + d) l (λ _. omega arith);
+      met = region-set-other (MET * n) n w₁ (LETTERS * n + i) l (λ _. omega arith) ∙ region-set (MET * n) n w d l hd;
+      seen = region-set-other (SEEN * n) n w₁ (LETTERS * n + i) l (λ _. omega arith)
+          ∙ region-set-other (SEEN * n) n w (MET * n + d) l (λ h. absurd (omega arith));
       letters =
-          region-split (3 * n) i 1 (set w₁ (3 * n + i) l)
-          ∙ ap (λ (r : List ℕ). r ++ region (3 * n + i) 1 (set w₁ (3 * n + i) l))
-          (region-set-other (3 * n) i w₁ (3 * n + i) l (λ _. omega arith) ∙ region-set-other (3 * n) i w (n + d) l (λ h. absurd (omega arith)))
-          ∙ ap (λ (r : List ℕ). region (3 * n) i w ++ r)
-          (one (3 * n + i) (set w₁ (3 * n + i) l) (omega arith)
-          ∙ ap (λ (x : ℕ). x ∷ []) (getD-set-same w₁ (3 * n + i) l 0 (omega arith)));
+          region-split (LETTERS * n) i 1 w₂
+          ∙ ap (λ (r : List ℕ). r ++ region (LETTERS * n + i) 1 w₂)
+          (region-set-other (LETTERS * n) i w₁ (LETTERS * n + i) l (λ _. omega arith)
+          ∙ region-set-other (LETTERS * n) i w (MET * n + d) l (λ h. absurd (omega arith)))
+          ∙ ap (λ (r : List ℕ). codesIn n i w ++ r)
+          (one (LETTERS * n + i) w₂ (omega arith) ∙ ap (λ (x : ℕ). x ∷ []) (getD-set-same w₁ (LETTERS * n + i) l 0 (omega arith)));
       kept = k₂ ∙ k;
     }
 
 -- ---- darts and names
 
-pub other-bound : (n d : ℕ) → dartCountFits n ≡ true → d < n → opposite d < n
-other-bound n d count h = opposite-bound n d (count-parts n count .1) h
+over-bound : (n d : ℕ) → dartCountFits n ≡ true → d < n → opposite d < n
+over-bound n d count = opposite-bound n d (count-parts n count .1)
 
-module _ (rot : List ℕ) (perm : isPermutation rot ≡ true) where
-  pub entry-bound : (d : ℕ) → d < length rot → getD rot d 0 < length rot
-  unfolding next
-  entry-bound d h = next-perm rot perm .bound d h
-
-  pub onward-bound : dartCountFits (length rot) ≡ true → (l : Letter) (d : ℕ) → d < length rot → onward rot l d < length rot
-  unfolding onward next
-  onward-bound count down d h = entry-bound (opposite d) (other-bound (length rot) d count h)
-  onward-bound count up d h = entry-bound (opposite d) (other-bound (length rot) d count h)
-  onward-bound count first d h = entry-bound d h
-  onward-bound count second d h = entry-bound d h
+pub onward-bound : (rot : List ℕ) → isPermutation rot ≡ true → dartCountFits (length rot) ≡ true → (l : Letter) (d : ℕ) → d < length rot
+    → onward rot l d < length rot
+unfolding onward
+onward-bound rot perm count down d h = next-perm rot perm .bound (opposite d) (over-bound (length rot) d count h)
+onward-bound rot perm count up d h = next-perm rot perm .bound (opposite d) (over-bound (length rot) d count h)
+onward-bound rot perm count first d h = next-perm rot perm .bound d h
+onward-bound rot perm count second d h = next-perm rot perm .bound d h
 
 module _ (rot w : List ℕ) (named : VerticesNamed rot w) (d : ℕ) (h : d < length rot) where
   pub name-at : getD w d 0 ≡ vertexOf rot d
@@ -91,13 +91,11 @@ pub record Here (rot w : List ℕ) (d i o : ℕ) : Type 0 where
   pub over : o < length rot
   pub name : getD w o 0 ≡ vertexOf rot (opposite d)
   pub bound : getD w o 0 < length rot
-  pub entry : getD rot d 0 < length rot
-  pub entry-over : getD rot o 0 < length rot
 
-pub here : (rot w : List ℕ) (d i o : ℕ) → dartCountFits (length rot) ≡ true → isPermutation rot ≡ true → d < length rot → i < length rot
-    → 4 * length rot ≤ length w → VerticesNamed rot w → o ≡ opposite d → Here rot w d i o
-here rot w d i o count perm hd hi room named e =
-    let b = other-bound (length rot) d count hd in
+pub here : (rot w : List ℕ) (d i o : ℕ) → dartCountFits (length rot) ≡ true → d < length rot → i < length rot → 4 * length rot ≤ length w
+    → VerticesNamed rot w → o ≡ opposite d → Here rot w d i o
+here rot w d i o count hd hi room named e =
+    let b = over-bound (length rot) d count hd in
     let over : o < length rot = omega arith in
     record {
       few = count-parts (length rot) count .2;
@@ -108,78 +106,75 @@ here rot w d i o count perm hd hi room named e =
       over = over;
       name = ap (λ (k : ℕ). getD w k 0) e ∙ name-at rot w named (opposite d) b;
       bound = name-bound rot w named o over;
-      entry = entry-bound rot perm d hd;
-      entry-over = entry-bound rot perm o over;
     }
 
 module _ {rot w : List ℕ} {d i o : ℕ} (at : Here rot w d i o) where
-  met-at : getD (region (length rot) (length rot) w) (opposite d) 0 ≡ getD w (length rot + o) 0
-  met-at =
-      ap (λ (k : ℕ). getD (region (length rot) (length rot) w) k 0) (sym (at .other)) ∙ getD-region (length rot) (length rot) w o (at .over)
+  abbrev n : ℕ
+  n = length rot
 
-  seen-at : getD (region (2 * length rot) (length rot) w) (vertexOf rot (opposite d)) 0 ≡ getD w (2 * length rot + getD w o 0) 0
-  seen-at =
-      ap (λ (k : ℕ). getD (region (2 * length rot) (length rot) w) k 0) (sym (at .name))
-      ∙ getD-region (2 * length rot) (length rot) w (getD w o 0) (at .bound)
+  abbrev pub metOver : ℕ
+  metOver = getD w (MET * n + o) 0
 
-  across : getD rot o 0 ≡ next rot (opposite d)
-  unfolding next
-  across = ap (λ (k : ℕ). getD rot k 0) (at .other)
+  abbrev pub seenOver : ℕ
+  seenOver = getD w (SEEN * n + getD w o 0) 0
 
-  is-down : getD w (length rot + o) 0 ≡ 0 → getD w (2 * length rot + getD w o 0) 0 ≡ 0 → letterIn rot w d ≡ down
+  met-over : getD (metIn n w) (opposite d) 0 ≡ metOver
+  met-over = ap (λ (k : ℕ). getD (metIn n w) k 0) (sym (at .other)) ∙ getD-region (MET * n) n w o (at .over)
+
+  seen-over : getD (seenIn n w) (vertexOf rot (opposite d)) 0 ≡ seenOver
+  seen-over = ap (λ (k : ℕ). getD (seenIn n w) k 0) (sym (at .name)) ∙ getD-region (SEEN * n) n w (getD w o 0) (at .bound)
+
+  is-down : metOver ≡ 0 → seenOver ≡ 0 → letterIn rot w d ≡ down
   unfolding letterIn letterAt
-  is-down m s = rw (eq-eqb _ _ (met-at ∙ m), eq-eqb _ _ (seen-at ∙ s))
+  is-down m s = rw (eq-eqb _ _ (met-over ∙ m), eq-eqb _ _ (seen-over ∙ s))
 
-  is-first : getD w (length rot + o) 0 ≡ 0 → (getD w (2 * length rot + getD w o 0) 0 ≢ 0) → letterIn rot w d ≡ first
+  is-first : metOver ≡ 0 → (seenOver ≢ 0) → letterIn rot w d ≡ first
   unfolding letterIn letterAt
-  is-first m s = rw (eq-eqb _ _ (met-at ∙ m), ne-eqb _ _ (λ e. s (sym seen-at ∙ e)))
+  is-first m s = rw (eq-eqb _ _ (met-over ∙ m), ne-eqb _ _ (λ e. s (sym seen-over ∙ e)))
 
-  is-up : getD w (length rot + o) 0 ≡ 1 → letterIn rot w d ≡ up
+  is-up : metOver ≡ code down → letterIn rot w d ≡ up
   unfolding letterIn letterAt
-  is-up m = rw (met-at ∙ m)
+  is-up m = rw (met-over ∙ m)
 
-  is-second : (getD w (length rot + o) 0 ≢ 0) → (getD w (length rot + o) 0 ≢ 1) → letterIn rot w d ≡ second
+  is-second : (metOver ≢ 0) → (metOver ≢ code down) → letterIn rot w d ≡ second
   unfolding letterIn letterAt
-  is-second m₀ m₁ = rw (ne-eqb _ _ (λ e. m₀ (sym met-at ∙ e)), ne-eqb _ _ (λ e. m₁ (sym met-at ∙ e)))
+  is-second m₀ m₁ = rw (ne-eqb _ _ (λ e. m₀ (sym met-over ∙ e)), ne-eqb _ _ (λ e. m₁ (sym met-over ∙ e)))
 
   -- the step from its letter: w₁ is w with what is seen then
-  visited : (w₁ w′ : List ℕ) (e : ℕ) (l : Letter) → letterIn rot w d ≡ l → e ≡ onward rot l d
-      → region 0 (length rot) w₁ ≡ region 0 (length rot) w → region (length rot) (length rot) w₁ ≡ region (length rot) (length rot) w
-      → region (2 * length rot) (length rot) w₁ ≡ seenAfter rot l d (region (2 * length rot) (length rot) w)
-      → region (3 * length rot) i w₁ ≡ region (3 * length rot) i w → length w₁ ≡ length w → Noted (length rot) d i (code l) w₁ w′
+  visited : (w₁ w′ : List ℕ) (e : ℕ) (l : Letter) → letterIn rot w d ≡ l → e ≡ onward rot l d → namesIn n w₁ ≡ namesIn n w → metIn n w₁ ≡ metIn n w
+      → seenIn n w₁ ≡ seenAfter rot l d (seenIn n w) → codesIn n i w₁ ≡ codesIn n i w → length w₁ ≡ length w → Noted n d i (code l) w₁ w′
       → Visited rot d i w e w′
-  visited w₁ w′ e l is on names met seen letters kept n = record {
+  visited w₁ w′ e l is on names met seen letters kept t = record {
     onwards = rw is on;
-    names = n .names ∙ names;
-    met = rw is (n .met ∙ ap (λ (r : List ℕ). set r d (code l)) met);
-    seen = rw is (n .seen ∙ seen);
-    letters = rw is (n .letters ∙ ap (λ (r : List ℕ). r ++ (code l ∷ [])) letters);
-    kept = n .kept ∙ kept;
+    names = t .names ∙ names;
+    met = rw is (t .met ∙ ap (λ (r : List ℕ). set r d (code l)) met);
+    seen = rw is (t .seen ∙ seen);
+    letters = rw is (t .letters ∙ ap (λ (r : List ℕ). r ++ (code l ∷ [])) letters);
+    kept = t .kept ∙ kept;
   }
 
-  pub goes-down : (w′ : List ℕ) → getD w (length rot + o) 0 ≡ 0 → getD w (2 * length rot + getD w o 0) 0 ≡ 0
-      → Noted (length rot) d i 1 (set w (2 * length rot + getD w o 0) 1) w′ → Visited rot d i w (getD rot o 0) w′
-  unfolding onward seenAfter
-  goes-down w′ m s n =
+  pub goes-down : {e : ℕ} {w′ : List ℕ} → metOver ≡ 0 → seenOver ≡ 0 → Noted n d i (code down) (set w (SEEN * n + getD w o 0) 1) w′
+      → e ≡ faceNext rot d → Visited rot d i w e w′
+  unfolding onward seenAfter faceNext
+  goes-down {e} {w′} m s t on =
       let v = getD w o 0 in
-      let b : v < length rot = at .bound in
-      visited (set w (2 * length rot + v) 1) w′ (getD rot o 0) down (is-down m s) across
-      (region-set-other 0 (length rot) w (2 * length rot + v) 1 (λ _. omega arith))
-      (region-set-other (length rot) (length rot) w (2 * length rot + v) 1 (λ _. omega arith))
-      (region-set (2 * length rot) (length rot) w v 1 b ∙ ap (λ (k : ℕ). set (region (2 * length rot) (length rot) w) k 1) (at .name))
-      (region-set-other (3 * length rot) i w (2 * length rot + v) 1 (λ h. absurd (omega arith)))
-      (length-set w (2 * length rot + v) 1) n
+      let b : v < n = at .bound in
+      visited (set w (SEEN * n + v) 1) w′ e down (is-down m s) on
+      (region-set-other 0 n w (SEEN * n + v) 1 (λ _. omega arith))
+      (region-set-other (MET * n) n w (SEEN * n + v) 1 (λ _. omega arith))
+      (region-set (SEEN * n) n w v 1 b ∙ ap (λ (k : ℕ). set (seenIn n w) k 1) (at .name))
+      (region-set-other (LETTERS * n) i w (SEEN * n + v) 1 (λ h. absurd (omega arith)))
+      (length-set w (SEEN * n + v) 1) t
 
-  pub is-noted : (w′ : List ℕ) → getD w (length rot + o) 0 ≡ 0 → (getD w (2 * length rot + getD w o 0) 0 ≢ 0) → Noted (length rot) d i 3 w w′
-      → Visited rot d i w (getD rot d 0) w′
-  unfolding onward seenAfter next
-  is-noted w′ m s n = visited w w′ (getD rot d 0) first (is-first m s) refl refl refl refl refl refl n
-
-  pub comes-up : (w′ : List ℕ) → getD w (length rot + o) 0 ≡ 1 → Noted (length rot) d i 2 w w′ → Visited rot d i w (getD rot o 0) w′
+  pub is-noted : {e : ℕ} {w′ : List ℕ} → metOver ≡ 0 → (seenOver ≢ 0) → Noted n d i (code first) w w′ → e ≡ next rot d → Visited rot d i w e w′
   unfolding onward seenAfter
-  comes-up w′ m n = visited w w′ (getD rot o 0) up (is-up m) across refl refl refl refl refl n
+  is-noted {e} {w′} m s t on = visited w w′ e first (is-first m s) on refl refl refl refl refl t
 
-  pub is-noted-again : (w′ : List ℕ) → (getD w (length rot + o) 0 ≢ 0) → (getD w (length rot + o) 0 ≢ 1) → Noted (length rot) d i 4 w w′
-      → Visited rot d i w (getD rot d 0) w′
-  unfolding onward seenAfter next
-  is-noted-again w′ m₀ m₁ n = visited w w′ (getD rot d 0) second (is-second m₀ m₁) refl refl refl refl refl refl n
+  pub comes-up : {e : ℕ} {w′ : List ℕ} → metOver ≡ code down → Noted n d i (code up) w w′ → e ≡ faceNext rot d → Visited rot d i w e w′
+  unfolding onward seenAfter faceNext
+  comes-up {e} {w′} m t on = visited w w′ e up (is-up m) on refl refl refl refl refl t
+
+  pub is-noted-again : {e : ℕ} {w′ : List ℕ} → (metOver ≢ 0) → (metOver ≢ code down) → Noted n d i (code second) w w′ → e ≡ next rot d
+      → Visited rot d i w e w′
+  unfolding onward seenAfter
+  is-noted-again {e} {w′} m₀ m₁ t on = visited w w′ e second (is-second m₀ m₁) on refl refl refl refl refl t

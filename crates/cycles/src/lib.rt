@@ -21,7 +21,7 @@ pub fn other(d: usize) -> usize
 }
 
 // One step round a vertex, or, across an edge, along a face.
-fn step(order: &[u16], across: bool, d: usize) -> usize
+pub fn step(order: &[u16], across: bool, d: usize) -> usize
     requires { ⌜ (dartCountFits (length (now order)) ≡ true) × (d < length (now order)) ⌝ }
     ensures { λ r. ⌜ r ≡ stepOf (now (order .entry)) across d ⌝ }
 {

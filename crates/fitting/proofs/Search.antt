@@ -1,26 +1,28 @@
--- A search of the numbers below n, from 0 on.
+-- The searches for loops and for dead ends, from dart 0 on.
 --
 --   NoneBelow f i        no number below i passes the test f
 --   none-more            nor any below i + 1, if i does not pass
---   some-none            none below n: the search fails
---   opposite-even        an even dart and the one after it are opposite
---   loopAt names d       dart d has the name of its opposite
---   loop-pair            in a search for loops, a pair of darts that is no loop
---   even-below, found, none-found   the ways of that search
---   dead-end-found, not-alone, root-alone, dead-end-none   the ways of a search for dead ends
-use Prim.Native.Nat.{ℕ, zero, suc, _+_, _%_, _≤_, _<_}
+--   loopAt rot d         the edge of dart d is a loop
+--   even-below           an even number below an even one leaves room for the next
+--   loop-here, loop-pair, loop-none   the ways of a search for loops, by the vertices' names
+--   deadEndAt p d        dart d is alone at its vertex, which is not the root's
+--   dead-end-here, root-alone, not-alone, dead-end-none   the ways of a search for dead ends
+use Prim.Native.Nat.{ℕ, _+_, _%_, _≤_, _<_}
 use native.Mathlib.Omega.{arith}
 use native.Mathlib.Decide.{ℕ-discrete}
-use mathlib.Core.Path.{_≡_, refl, sym, ap, _∙_}
-use mathlib.Core.Bool.{Bool, true, false, not}
+use mathlib.Core.Path.{_≡_, sym, ap, _∙_}
+use mathlib.Core.Logic.{_≢_}
+use mathlib.Core.Bool.{Bool, true, false, not, _&&_}
 use mathlib.Core.List.{List}
 use lib.Dec.{eqb}
 use lib.ListN.{length, getD}
-use borrow.Author.Tests.{eq-eqb, ne-eqb}
-use Rattle.model.specs.Numbers.{some}
-use Rattle.model.specs.Map.{opposite, next, degreeOne}
-use Rattle.model.proofs.Booleans.{some-in, both}
-use Rattle.fitting.specs.Checks.{loopIn, deadEndAt, deadEndIn}
+use borrow.Author.Tests.{eq-eqb, ne-eqb, eqb-true, eqb-false, not-false}
+use Rattle.model.specs.Numbers.{isPermutation}
+use Rattle.model.specs.Map.{Plan, darts, opposite, next, vertexOf, degreeOne, hasLoop, hasDeadEnd}
+use Rattle.model.proofs.Booleans.{some-in, no-some, both, not-left}
+use Rattle.orbits.proofs.Maps.{next-perm, vertex-alone}
+use Rattle.contour.specs.Steps.{VerticesNamed}
+use Rattle.contour.proofs.Steps.{name-at}
 
 abbrev pub NoneBelow : (ℕ → Bool) → ℕ → Type 0
 NoneBelow f i = (j : ℕ) → j < i → f j ≡ false
@@ -32,53 +34,63 @@ none-more f i none e j h = go (ℕ-discrete j i)
     go (yes q) = ap f q ∙ e
     go (no q) = none j (omega arith)
 
-pub some-none : (f : ℕ → Bool) (n : ℕ) → NoneBelow f n → some f n ≡ false
-unfolding some
-some-none f zero none = refl
-some-none f (suc n) none = rw (none n (omega arith), some-none f n (λ j h. none j (omega arith)))
+-- ---- loops
 
-pub opposite-even : (d : ℕ) → d % 2 ≡ 0 → (opposite d ≡ d + 1) × (opposite (d + 1) ≡ d)
+abbrev pub loopAt : List ℕ → ℕ → Bool
+loopAt rot d = eqb (vertexOf rot d) (vertexOf rot (opposite d))
+
+-- an even dart and the one after it are opposite
+opposite-even : (d : ℕ) → d % 2 ≡ 0 → (opposite d ≡ d + 1) × (opposite (d + 1) ≡ d)
 unfolding opposite
 opposite-even d e = (omega arith, omega arith)
 
-abbrev pub loopAt : List ℕ → ℕ → Bool
-loopAt names d = eqb (getD names d 0) (getD names (opposite d) 0)
-
-pub loop-pair : (names : List ℕ) (d : ℕ) → d % 2 ≡ 0 → (getD names d 0 ≡ getD names (d + 1) 0 → ⊥) → NoneBelow (loopAt names) d
-    → NoneBelow (loopAt names) (d + 2)
-loop-pair names d e ne none j h =
-    let o = opposite-even d e in
-    let here : loopAt names d ≡ false = rw (o .0) (ne-eqb (getD names d 0) (getD names (d + 1) 0) ne) in
-    let there : loopAt names (d + 1) ≡ false = rw (o .1) (ne-eqb (getD names (d + 1) 0) (getD names d 0) (λ q. ne (sym q))) in
-    none-more (loopAt names) (d + 1) (none-more (loopAt names) d none here) there j (omega arith)
-
--- an even number below an even one leaves room for the next
 pub even-below : (n d : ℕ) → d < n → n % 2 ≡ 0 → d % 2 ≡ 0 → d + 2 ≤ n
 even-below n d h e f = omega arith
 
-pub found : (names : List ℕ) (n d : ℕ) → d < n → d % 2 ≡ 0 → getD names d 0 ≡ getD names (d + 1) 0 → true ≡ loopIn names n
-unfolding loopIn
-found names n d h e q = sym (some-in (loopAt names) n d h (rw (opposite-even d e .0) (eq-eqb (getD names d 0) (getD names (d + 1) 0) q)))
+module _ (rot names : List ℕ) (named : VerticesNamed rot names) (d : ℕ) (even : d % 2 ≡ 0) (fits : d + 2 ≤ length rot) where
+  name : getD names d 0 ≡ vertexOf rot d
+  name = name-at rot names named d (omega arith)
 
-pub none-found : (names : List ℕ) (n d : ℕ) → n ≤ d → NoneBelow (loopAt names) d → false ≡ loopIn names n
-unfolding loopIn
-none-found names n d h none = sym (some-none (loopAt names) n (λ j l. none j (omega arith)))
+  name-next : getD names (d + 1) 0 ≡ vertexOf rot (d + 1)
+  name-next = name-at rot names named (d + 1) (omega arith)
+
+  pub loop-here : getD names d 0 ≡ getD names (d + 1) 0 → true ≡ hasLoop rot
+  unfolding hasLoop
+  loop-here q = sym (some-in (loopAt rot) (length rot) d (omega arith)
+      (eq-eqb _ _ (sym name ∙ q ∙ name-next ∙ ap (vertexOf rot) (sym (opposite-even d even .0)))))
+
+  pub loop-pair : (getD names d 0 ≢ getD names (d + 1) 0) → NoneBelow (loopAt rot) d → NoneBelow (loopAt rot) (d + 2)
+  loop-pair ne none j h =
+      let o = opposite-even d even in
+      let apart : vertexOf rot d ≢ vertexOf rot (d + 1) = λ q. ne (name ∙ q ∙ sym name-next) in
+      let here : loopAt rot d ≡ false = rw (o .0) (ne-eqb _ _ apart) in
+      let there : loopAt rot (d + 1) ≡ false = rw (o .1) (ne-eqb _ _ (λ q. apart (sym q))) in
+      none-more (loopAt rot) (d + 1) (none-more (loopAt rot) d none here) there j (omega arith)
+
+pub loop-none : (rot : List ℕ) (d : ℕ) → length rot ≤ d → NoneBelow (loopAt rot) d → false ≡ hasLoop rot
+unfolding hasLoop
+loop-none rot d h none = sym (no-some (loopAt rot) (length rot) (λ j l. none j (omega arith)))
 
 -- ---- dead ends
 
-module _ (rot : List ℕ) (root : ℕ) where
-  pub dead-end-found : (d : ℕ) → d < length rot → getD rot d 0 ≡ d → not (eqb d root) ≡ true → true ≡ deadEndIn rot root
-  unfolding deadEndIn degreeOne next
-  dead-end-found d h own other = sym (some-in (deadEndAt rot root) (length rot) d h (both (eq-eqb (getD rot d 0) d own) other))
+abbrev pub deadEndAt : Plan → ℕ → Bool
+deadEndAt p d = degreeOne (p .rotation) d && not (eqb (vertexOf (p .rotation) d) (vertexOf (p .rotation) (p .root)))
 
-  pub not-alone : (d : ℕ) → (getD rot d 0 ≡ d → ⊥) → deadEndAt rot root d ≡ false
+module _ (p : Plan) (d : ℕ) where
+  pub dead-end-here : isPermutation (p .rotation) ≡ true → p .root < darts p → d < darts p → getD (p .rotation) d 0 ≡ d → not (eqb d (p .root)) ≡ true
+      → true ≡ hasDeadEnd p
+  unfolding hasDeadEnd degreeOne next
+  dead-end-here entries low h own other = sym (some-in (deadEndAt p) (darts p) d h (both (eq-eqb _ d own)
+      (ap not (ne-eqb _ _ (λ same. eqb-false d (p .root) (not-left _ other) (vertex-alone (p .rotation) (next-perm (p .rotation) entries) d (p .root) low own same))))))
+
+  pub root-alone : getD (p .rotation) d 0 ≡ d → not (eqb d (p .root)) ≡ false → deadEndAt p d ≡ false
   unfolding degreeOne next
-  not-alone d other = rw (ne-eqb (getD rot d 0) d other)
+  root-alone own same = rw (eq-eqb _ d own, eq-eqb _ _ (ap (vertexOf (p .rotation)) (eqb-true d (p .root) (not-false _ same))))
 
-  pub root-alone : (d : ℕ) → getD rot d 0 ≡ d → not (eqb d root) ≡ false → deadEndAt rot root d ≡ false
+  pub not-alone : (getD (p .rotation) d 0 ≢ d) → deadEndAt p d ≡ false
   unfolding degreeOne next
-  root-alone d own same = rw (eq-eqb (getD rot d 0) d own, same)
+  not-alone other = rw (ne-eqb _ _ other)
 
-  pub dead-end-none : (d : ℕ) → length rot ≤ d → NoneBelow (deadEndAt rot root) d → false ≡ deadEndIn rot root
-  unfolding deadEndIn
-  dead-end-none d h none = sym (some-none (deadEndAt rot root) (length rot) (λ j l. none j (omega arith)))
+  pub dead-end-none : darts p ≤ d → NoneBelow (deadEndAt p) d → false ≡ hasDeadEnd p
+  unfolding hasDeadEnd
+  dead-end-none h none = sym (no-some (deadEndAt p) (darts p) (λ j l. none j (omega arith)))

@@ -1,10 +1,10 @@
 -- What the checks of a plan in the work area find: refusals 9 to 12.
 --
---   Surveyed             the vertices named at 0, the letters by position at 3n, how many vertices and how many darts met
+--   Surveyed             how many vertices, whether some edge is a loop, how many darts are met, and the letters by position
 --   localOf k p          the verdict of 11 and 12 alone
 --   lateRefusal k p      the first of 9, 10, 11, 12 that concerns the plan; 0 if none does
 --   verdictOf k p        the same as a verdict, 10 with the characteristic
---   Judged               the verdict, and in the work area, at 3n, the contour word of a plan that fits
+--   Judged               the verdict, and in the work area the contour word of a plan that fits
 use Prim.Native.Nat.{ℕ, _*_}
 use mathlib.Core.Path.{_≡_}
 use mathlib.Core.Bool.{cond}
@@ -15,17 +15,17 @@ use Rattle.model.specs.Numbers.{firstRefusal}
 use Rattle.model.specs.Map.{Plan, darts, characteristic, vertices, hasLoop, degreeRefused}
 use Rattle.model.specs.Traversal.{code, visits, word}
 use Rattle.model.specs.Calls.{lateRefusals}
+use Rattle.work.specs.Map.{LETTERS}
 use Rattle.work.specs.Area.{region}
-use Rattle.contour.specs.Steps.{VerticesNamed}
 use Rattle.fitting.specs.declared.Survey.{Survey}
 use Rattle.fitting.specs.declared.Verdict.{Verdict}
 use Rattle.fitting.specs.declared.Verdict.the-variants.{Fits, Refused, NotPlanar}
 
 pub record Surveyed (p : Plan) (w : List ℕ) (s : Survey) (w′ : List ℕ) : Type 0 where
   pub counted : s .vertices ≡ vertices (p .rotation)
+  pub searched : s .looped ≡ hasLoop (p .rotation)
   pub all-met : s .met ≡ length (visits p)
-  pub named : VerticesNamed (p .rotation) w′
-  pub letters : region (3 * darts p) (s .met) w′ ≡ map code (word p)
+  pub letters : region (LETTERS * darts p) (s .met) w′ ≡ map code (word p)
   pub kept : length w′ ≡ length w
 
 unfoldable pub localOf : ℕ → Plan → Verdict
@@ -40,5 +40,5 @@ verdictOf k p =
 
 pub record Judged (k : ℕ) (p : Plan) (w : List ℕ) (verdict : Verdict) (w′ : List ℕ) : Type 0 where
   pub answered : verdict ≡ verdictOf k p
-  pub letters : lateRefusal k p ≡ 0 → region (3 * darts p) (darts p) w′ ≡ map code (word p)
+  pub letters : lateRefusal k p ≡ 0 → region (LETTERS * darts p) (darts p) w′ ≡ map code (word p)
   pub kept : length w′ ≡ length w

@@ -21,6 +21,7 @@ note-spec =
     (λ c. search needs)
     (λ c. search needs)
     (λ c. search needs)
+    (λ c. search needs)
     slice-write-w-2
     (λ c. search needs)
     returns)

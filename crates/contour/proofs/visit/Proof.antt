@@ -12,16 +12,19 @@ at : (c : tie.After-other) → let a = c .before .before .before in
 at c =
     let a = c .before .before .before in
     here (a .args .order .now) (a .args .w .now) (a .args .d) (a .args .i) (c .other .result)
-    (a .pre .0) (a .pre .1) (a .pre .2) (a .pre .3) (a .pre .4) (a .pre .5) (c .other .ensures)
+    (a .pre .0) (a .pre .1) (a .pre .2) (a .pre .3) (a .pre .4) (c .other .ensures)
 
 other-requires : tie.Need-other-requires
 other-requires c κs = let k = count-parts _ (c .before .before .pre .0) in omega arith
 
+mul-met : tie.Need-mul-met
+mul-met c = let f = at c in omega arith
+
 add-met : tie.Need-add-met
 add-met c = let f = at c in omega arith
 
-mul-met : tie.Need-mul-met
-mul-met c = let f = at c in omega arith
+mul-met-2 : tie.Need-mul-met-2
+mul-met-2 c = let f = at c in omega arith
 
 slice-read-met : tie.Need-slice-read-met
 slice-read-met c = let f = at (c .before) in omega arith
@@ -56,20 +59,10 @@ slice-write-w c = let f = at (c .before .before .before .before .before) in omeg
 note-requires : tie.Need-note-requires
 note-requires c κs = let f = at (c .before .before .before .before .before .before) in (f .few, f .dart, f .place, simp length-set (f .room))
 
-mul-result : tie.Need-mul-result
-mul-result c = let f = at (c .before .before .before .before .before .before .before .before .before) in omega arith
-
-shared-slice-read-result : tie.Need-shared-slice-read-result
-shared-slice-read-result c = let f = at (c .before .before .before .before .before .before .before .before .before .before) in omega arith
-
-cast-result : tie.Need-cast-result
-cast-result c = let f = at (c .before .before .before .before .before .before .before .before .before .before) in omega arith
-
 returns : tie.Need-returns
 returns c =
-    goes-down (at (c .before .before .before .before .before .before .before .before .before .before)) _
-    (c .before .before .before .before .before .before .before .before .if1 .taken)
-    (c .before .before .before .before .before .if2 .taken) (c .before .before .before .note .ensures)
+    goes-down (at (c .before .before .before .before .before .before .before .before .before .before)) (c .before .before .before .before .before .before .before .before .if1 .taken)
+    (c .before .before .before .before .before .if2 .taken) (c .before .before .before .note .ensures) (c .step .ensures)
 
 same-length : tie.Need-same-length
 same-length c = returns c .kept
@@ -77,63 +70,35 @@ same-length c = returns c .kept
 note-requires-2 : tie.Need-note-requires-2
 note-requires-2 c κs = let f = at (c .before .before .before .before .before .before) in (f .few, f .dart, f .place, f .room)
 
-mul-result-2 : tie.Need-mul-result-2
-mul-result-2 c = let f = at (c .before .before .before .before .before .before .before .before .before) in omega arith
-
-shared-slice-read-result-2 : tie.Need-shared-slice-read-result-2
-shared-slice-read-result-2 c = let f = at (c .before .before .before .before .before .before .before .before .before .before) in omega arith
-
-cast-result-2 : tie.Need-cast-result-2
-cast-result-2 c = let f = at (c .before .before .before .before .before .before .before .before .before .before) in omega arith
-
 returns-2 : tie.Need-returns-2
 returns-2 c =
-    is-noted (at (c .before .before .before .before .before .before .before .before .before .before)) _
-    (c .before .before .before .before .before .before .before .before .if1 .taken)
-    (c .before .before .before .before .before .if2 .left) (c .before .before .before .note2 .ensures)
+    is-noted (at (c .before .before .before .before .before .before .before .before .before .before)) (c .before .before .before .before .before .before .before .before .if1 .taken)
+    (c .before .before .before .before .before .if2 .left) (c .before .before .before .note2 .ensures) (c .step2 .ensures)
 
 note-requires-3 : tie.Need-note-requires-3
 note-requires-3 c κs = let f = at (c .before .before .before .before) in (f .few, f .dart, f .place, f .room)
 
-mul-result-3 : tie.Need-mul-result-3
-mul-result-3 c = let f = at (c .before .before .before .before .before .before .before) in omega arith
-
-shared-slice-read-result-3 : tie.Need-shared-slice-read-result-3
-shared-slice-read-result-3 c = let f = at (c .before .before .before .before .before .before .before .before) in omega arith
-
-cast-result-3 : tie.Need-cast-result-3
-cast-result-3 c = let f = at (c .before .before .before .before .before .before .before .before) in omega arith
-
 returns-3 : tie.Need-returns-3
 returns-3 c =
-    comes-up (at (c .before .before .before .before .before .before .before .before)) _ (c .before .before .before .before .before .if3 .taken)
-    (c .before .before .before .note3 .ensures)
+    comes-up (at (c .before .before .before .before .before .before .before .before)) (c .before .before .before .before .before .if3 .taken)
+    (c .before .before .before .note3 .ensures) (c .step3 .ensures)
 
 note-requires-4 : tie.Need-note-requires-4
 note-requires-4 c κs = let f = at (c .before .before .before .before) in (f .few, f .dart, f .place, f .room)
 
-mul-result-4 : tie.Need-mul-result-4
-mul-result-4 c = let f = at (c .before .before .before .before .before .before .before) in omega arith
-
-shared-slice-read-result-4 : tie.Need-shared-slice-read-result-4
-shared-slice-read-result-4 c = let f = at (c .before .before .before .before .before .before .before .before) in omega arith
-
-cast-result-4 : tie.Need-cast-result-4
-cast-result-4 c = let f = at (c .before .before .before .before .before .before .before .before) in omega arith
-
 returns-4 : tie.Need-returns-4
 returns-4 c =
-    is-noted-again (at (c .before .before .before .before .before .before .before .before)) _
-    (c .before .before .before .before .before .before .if1 .left)
-    (c .before .before .before .before .before .if3 .left) (c .before .before .before .note4 .ensures)
+    is-noted-again (at (c .before .before .before .before .before .before .before .before)) (c .before .before .before .before .before .before .if1 .left)
+    (c .before .before .before .before .before .if3 .left) (c .before .before .before .note4 .ensures) (c .step4 .ensures)
 
 pub visit-spec : {M : Type 1} → statement M
 visit-spec =
     tie.close
     (tie.spec
     other-requires
-    add-met
     mul-met
+    add-met
+    mul-met-2
     slice-read-met
     mul-s
     mul-s-2
@@ -145,26 +110,18 @@ visit-spec =
     mul-w
     slice-write-w
     note-requires
-    mul-result
-    shared-slice-read-result
-    cast-result
+    (λ c κs. search needs)
     same-length
     returns
     note-requires-2
-    mul-result-2
-    shared-slice-read-result-2
-    cast-result-2
+    (λ c κs. search needs)
     (λ c. search needs)
     returns-2
     note-requires-3
-    mul-result-3
-    shared-slice-read-result-3
-    cast-result-3
+    (λ c κs. search needs)
     (λ c. search needs)
     returns-3
     note-requires-4
-    mul-result-4
-    shared-slice-read-result-4
-    cast-result-4
+    (λ c κs. search needs)
     (λ c. search needs)
     returns-4)

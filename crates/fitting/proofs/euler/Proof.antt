@@ -1,4 +1,3 @@
--- `fitting::euler` meets its contract.
 use native.Mathlib.Omega.{arith}
 use mir.Facts.{toZ-ofZ}
 use Rattle.fitting.proofs.Signed.{fits-less, back-less, fits-all, small}

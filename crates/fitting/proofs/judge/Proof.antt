@@ -2,54 +2,43 @@ use mir.Facts.{toZ-ofZ}
 use mir.Syntax.{w32}
 use mir.Val.{SFits}
 use native.Mathlib.Omega.{arith}
-use Rattle.model.proofs.Fitness.{count-parts}
 use Rattle.fitting.proofs.Signed.{bits-is, bits-not}
-use Rattle.fitting.proofs.Cases.{few, few-vertices, room-local, parted, curved, flat, still-named}
+use Rattle.fitting.proofs.Cases.{Looked, parted, few-counts, curved, flat}
 use borrow.Author.Needs.{needs}
 use Rattle.fitting.proofs.judge.Statement.{statement}
 use Rattle.fitting.proofs.judge.Tie as tie
 
+-- the plan is surveyed
+looked : (c : tie.After-surveyed) → let a = c .before .before .before .before in
+    Looked (record { rotation = a .args .order .now; root = a .args .root }) (a .args .w .now) (c .surveyed .result) (c .surveyed .last .1 .1 .0)
+looked c =
+    let a = c .before .before .before .before in
+    record { fits = a .pre .0; entries = a .pre .1; low = a .pre .2; room = a .pre .3; survey = c .surveyed .ensures }
+
+-- the characteristic is a small number
+small : (c : tie.After-euler) → SFits w32 (c .euler .result)
+small c = record { sfits = c .euler .ok }
+
 returns : tie.Need-returns
-returns c = let st = c .before .before .before .before .before .before .before in
-    let s = c .before .before .before .walked in
-    parted (st .args .kind) _ (st .pre .0) (st .pre .2) (st .pre .1) (st .args .w .now) (s .result) _ (st .pre .3) (s .ensures) (c .if1 .taken)
+returns c = parted (looked (c .before .before .before)) (c .if1 .taken)
 
 euler-requires : tie.Need-euler-requires
-euler-requires c κs = let st = c .before .before .before .before .before .before .before .before .before .before .before in
-    let s = c .before .before .before .before .before .before .before .walked in
-    let n = count-parts _ (st .pre .0) .2 in
-    (few-vertices _ _ n (s .ensures .counted), omega arith, few _ _ _ n (c .before .before .name .ensures .counted))
+euler-requires c κs = few-counts (looked (c .before .before .before .before .before .before .before)) (c .before .before .before .before .if1 .left) (c .before .before .name .ensures)
 
 returns-2 : tie.Need-returns-2
-returns-2 c = let st = c .before .before .before .before .before .before .before .before .before .before .before .before .before in
-    let s = c .before .before .before .before .before .before .before .before .before .walked in
-    let l = c .before .before .before .before .name in
+returns-2 c =
     let x = c .before .euler in
-    let fits : SFits w32 (x .result) = record { sfits = x .ok } in
-    rw (toZ-ofZ fits) (curved (st .args .kind) _ (st .pre .0) (st .pre .2) (st .pre .1) (st .args .w .now) (s .result) _ (st .pre .3) (s .ensures)
-    (c .before .before .before .before .before .before .if1 .left) (l .result) _ (l .ensures) (x .result) (x .ensures) (bits-not (x .result) 2 (c .if2 .taken)))
+    rw (toZ-ofZ (small (c .before)))
+    (curved (looked (c .before .before .before .before .before .before .before .before .before)) (c .before .before .before .before .before .before .if1 .left) (c .before .before .before .before .name .ensures) (x .ensures) (bits-not (x .result) 2 (c .if2 .taken)))
 
 local-requires : tie.Need-local-requires
-local-requires c κs = let st = c .before .before .before .before .before .before .before .before .before .before .before .before .before .before in
-    let s = c .before .before .before .before .before .before .before .before .before .before .walked in
-    let l = c .before .before .before .before .before .name in (
-      (st .pre .0, st .pre .1, st .pre .2),
-      (
-        room-local _ (st .args .w .now) (s .last .1 .1 .0) (l .last .1 .1 .0) (s .kept .1 .1 .0) (l .kept .1 .1 .0) (st .pre .3),
-        still-named (st .args .kind) _ (st .pre .0) (st .pre .2) (st .pre .1) (st .args .w .now) (s .result) _ (st .pre .3) (s .ensures)
-            (c .before .before .before .before .before .before .before .if1 .left) (l .result) _ (l .ensures),
-      ),
-    )
+local-requires c κs = let l = looked (c .before .before .before .before .before .before .before .before .before) in (l .entries, l .low, l .survey .searched)
 
 returns-3 : tie.Need-returns-3
-returns-3 c = let st = c .before .before .before .before .before .before .before .before .before .before .before .before .before .before .before in
-    let s = c .before .before .before .before .before .before .before .before .before .before .before .walked in
-    let l = c .before .before .before .before .before .before .name in
-    let x = c .before .before .before .euler in
-    let fits : SFits w32 (x .result) = record { sfits = x .ok } in
-    flat (st .args .kind) _ (st .pre .0) (st .pre .2) (st .pre .1) (st .args .w .now) (s .result) _ (st .pre .3) (s .ensures)
-    (c .before .before .before .before .before .before .before .before .if1 .left) (l .result) _ (l .ensures) (x .result) (x .ensures)
-    (bits-is (x .result) 2 (omega arith) fits (c .before .before .if2 .left)) (c .local .result) (c .local .ensures)
+returns-3 c =
+    let x = c .before .before .euler in
+    flat (looked (c .before .before .before .before .before .before .before .before .before .before)) (c .before .before .before .before .before .before .before .if1 .left) (c .before .before .before .before .before .name .ensures) (x .ensures)
+    (bits-is (x .result) 2 (omega arith) (small (c .before .before)) (c .before .if2 .left)) (c .local .ensures)
 
 pub judge-spec : {M : Type 1} → statement M
 judge-spec =

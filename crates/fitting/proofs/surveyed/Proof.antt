@@ -1,0 +1,28 @@
+use native.Mathlib.Omega.{arith}
+use Rattle.contour.specs.Steps.{VerticesNamed}
+use Rattle.fitting.proofs.Cases.{vertices-named, surveyed}
+use borrow.Author.Needs.{needs}
+use Rattle.fitting.proofs.surveyed.Statement.{statement}
+use Rattle.fitting.proofs.surveyed.Tie as tie
+
+-- the vertices are named
+named : (c : tie.After-name) → VerticesNamed (c .before .before .before .before .args .order .now) (c .name .last .1 .1 .0)
+named c = let st = c .before .before .before .before in
+    vertices-named (st .args .order .now) (st .args .w .now) (c .name .result) _ (omega (arith, st .pre .3)) (c .name .ensures)
+
+has-loop-requires : tie.Need-has-loop-requires
+has-loop-requires c κs = let st = c .before .before .before .before .before .before .before in (st .pre .0, search needs, named (c .before .before .before))
+
+walk-requires : tie.Need-walk-requires
+walk-requires c κs = let st = c .before .before .before .before .before .before .before .before .before in (st .pre .0, st .pre .1, st .pre .2, search needs, named (c .before .before .before .before .before))
+
+returns : tie.Need-returns
+returns c =
+    let st = c .before .before .before .before .before .before .before .before .before .before .before .before in
+    let v = c .before .before .before .before .before .before .before .before .name in
+    let t = c .before .before .walk in
+    surveyed _ (st .args .w .now) (v .last .1 .1 .0) _ (v .result) (t .result) _ (omega (arith, st .pre .3)) (v .ensures) (c .before .before .before .before .has-loop .ensures) (t .ensures)
+
+pub surveyed-spec : {M : Type 1} → statement M
+surveyed-spec =
+    tie.close (tie.spec (λ c κs. search needs) has-loop-requires walk-requires (λ c. search needs) returns)
