@@ -12,7 +12,6 @@ use lib.ListN.{length, getD, set, drop, length-set, length-drop}
 use lib.Seq.{getD-drop}
 use Rattle.packing.specs.Unpack.{bits, groups}
 use Rattle.packing.proofs.Place.{unpack-read, put-fits, unpack-put}
-use Rattle.bits.specs.Places.{labelsFrom}
 
 -- ---- bits
 
@@ -54,6 +53,6 @@ module _ (s : List ℕ) (from i : ℕ) (f : from ≤ length s) (h : i < 5 * (len
   room : i < length (drop from s) * 5
   room = let e = length-drop from s in omega arith
 
-  pub label-read : getD s (from + i / 5) 0 / 3 ^ (4 - i % 5) % 3 ≡ getD (labelsFrom s from) i 0
-  unfolding groups labelsFrom
+  pub label-read : getD s (from + i / 5) 0 / 3 ^ (4 - i % 5) % 3 ≡ getD (groups (drop from s)) i 0
+  unfolding groups
   label-read = rw (label-power, getD-drop from s (i / 5) 0) at (unpack-read 3 5 (length (drop from s)) i (drop from s) (omega arith) room)

@@ -2,9 +2,8 @@
 // It knows bytes and digits, no heads of records and no plans.
 ghost use mathlib.Core.Path.{_≡_};
 ghost use Prim.Native.Nat.{_-_, _*_, _^_, _<_, _≤_};
-ghost use lib.ListN.{length, getD, set};
-ghost use Rattle.packing.specs.Unpack.{bits};
-ghost use Rattle.bits.specs.Places.{labelsFrom};
+ghost use lib.ListN.{length, getD, set, drop};
+ghost use Rattle.packing.specs.Unpack.{bits, groups};
 
 // Bit k of the bytes.
 pub fn bit_at(s: &[u8], k: usize) -> u8
@@ -49,7 +48,7 @@ fn place_value(j: usize) -> u8
 // Label i of the groups from byte `from` on.
 pub fn label_at(s: &[u8], from: usize, i: usize) -> u8
     requires { ⌜ (from ≤ length (now s)) × (i < 5 * (length (now s) - from)) ⌝ }
-    ensures { λ r. ⌜ r ≡ getD (labelsFrom (now (s .entry)) from) i 0 ⌝ }
+    ensures { λ r. ⌜ r ≡ getD (groups (drop from (now (s .entry)))) i 0 ⌝ }
 {
     let q = from + i / 5;
     let b = s[q];

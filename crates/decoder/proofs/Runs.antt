@@ -8,30 +8,31 @@
 --   running-on, running-less   and after a turn that goes on, with less left
 --   turned-goes, turned-done, turned-stuck   what a turn hands back, by its case
 --   answer-stuck, answer-done   the answer where the machine is stuck, and where it is done
---   answer-kept           the answer, from a work area of the same length
---   answer-unreadable, answer-readable   the answer for the record
+--   Prepared, prepared    what the loop begins with
+--   answer-unclean, answer-clean   the answer for the payload
 use Prim.Native.Nat.{ℕ, _+_, _-_, _*_, _≤_, _<_}
 use native.Mathlib.Omega.{arith}
 use mathlib.Core.Path.{_≡_, refl, sym, ap, _∙_, subst}
 use mathlib.Core.Bool.{Bool, true, false, true≢false, false≢true}
 use mathlib.Core.List.{List, [], _∷_, _++_, append-nil, append-assoc}
-use lib.ListN.{length, set, replicate, length-append, length-drop, length-set}
+use lib.ListN.{length, set, replicate, length-append, length-drop, length-replicate}
 use Rattle.model.specs.Numbers.{allBelow}
 use Rattle.model.specs.Traversal.{Letter}
-use Rattle.model.specs.Shelf.{edgesOf}
-use Rattle.packing.specs.Unlay.{bitsIn, labelsIn, readable}
+use Rattle.packing.specs.Unlay.{payloadBits, payloadLabels, payloadClean}
 use Rattle.words.specs.Word.{Found, found, none, after, done, stuck, turn, start, head, wordDarts, rotationOf, decodeWord}
 use Rattle.machine.specs.Reading.{left, run}
 use Rattle.machine.proofs.Decoding.{wordIn}
 use Rattle.machine.proofs.Runs.{turn-left, turn-none, run-on, run-done, run-stuck, decodeWord-run}
-use Rattle.work.specs.Area.{region, stack}
+use Rattle.work.specs.Area.{region, placed, stack}
+use Rattle.work.proofs.Regions.{length-placed, region-placed, region-placed-other}
 use Rattle.work.proofs.Stacks.{length-stack}
 use Rattle.decoder.specs.declared.Cursor.{Cursor}
 use Rattle.decoder.specs.declared.State.{State}
 use Rattle.decoder.specs.declared.Outcome.{Outcome}
 use Rattle.decoder.specs.declared.Outcome.the-variants.{Goes, Done, Stuck}
-use Rattle.coding.specs.Decode.{decodePayload, decodeRecord}
-use Rattle.unpacker.specs.Unpacked.{Head}
+use Rattle.coding.specs.Decode.{decodePayload}
+use Rattle.unpacker.specs.Unpacked.{Sized}
+use Rattle.unpacker.proofs.Payload.{bits-room}
 use Rattle.decoder.specs.Decoded.{Answered}
 use Rattle.decoder.specs.States.{labelsOf, machineOf, outcome, Fits, Moved, Turned}
 use Rattle.decoder.proofs.Linking.{linked-end, first-dart, linked-whole}
@@ -118,11 +119,10 @@ module _ (m : ℕ) (bs ls w₀ : List ℕ) where
     only-these [] = refl
     only-these (x ∷ xs) = ap (λ (r : List Letter). found (x ∷ r)) (append-nil xs)
 
-    pub answer-stuck : (w′ : List ℕ) → turn (machineOf m bs ls w s c) ≡ stuck → w′ ≡ w → Answered (decodeWord bs ls) (2 * m) w₀ false w′
-    answer-stuck w′ e q = record {
+    pub answer-stuck : (w′ : List ℕ) → turn (machineOf m bs ls w s c) ≡ stuck → Answered (decodeWord bs ls) (2 * m) false w′
+    answer-stuck w′ e = record {
       word-found = λ f. absurd (false≢true f);
       none-found = λ f. decodeWord-run bs ls ∙ sym (i .answer) ∙ ap (after (i .letters)) (run-stuck (machineOf m bs ls w s c) e) ∙ nothing-after (i .letters);
-      kept = ap length q ∙ i .kept;
     }
 
     -- w′ has dart 0 where the last dart waits for its successor
@@ -148,11 +148,10 @@ module _ (m : ℕ) (bs ls w₀ : List ℕ) where
           ∙ i .built []
           ∙ rw (append-nil (i .letters), clear) (linked-whole (2 * m) (i .letters) all-read begun)
 
-      pub answer-done : Answered (decodeWord bs ls) (2 * m) w₀ true w′
+      pub answer-done : Answered (decodeWord bs ls) (2 * m) true w′
       answer-done = record {
         word-found = λ f. (i .letters, decodeWord-run bs ls ∙ whole, plan-built);
         none-found = λ f. absurd (true≢false f);
-        kept = ap length q ∙ length-set w (s .place) 0 ∙ i .kept;
       }
 
 -- ---- what a turn hands back
@@ -174,20 +173,36 @@ module _ (m : ℕ) (bs ls w : List ℕ) (s : State) (c : Cursor) (o : Outcome) (
   unfolding Turned
   turned-stuck e = subst (λ (y : Outcome). Turned m bs ls w s c y w′) e turned
 
--- ---- the record
+-- ---- the payload
 
-pub answer-kept : (f : Found) (n : ℕ) (v w : List ℕ) (b : Bool) (w′ : List ℕ) → length v ≡ length w → Answered f n v b w′ → Answered f n w b w′
-answer-kept f n v w b w′ e a = record { word-found = a .word-found; none-found = a .none-found; kept = a .kept ∙ e }
+-- the payload is clean, its labels stand in the work area, and the rotation is cleared
+pub record Prepared (k m : ℕ) (ps w : List ℕ) : Type 0 where
+  pub clean : payloadClean k m ps ≡ true
+  pub sizes : (1 ≤ m) × (m ≤ 4096) × (2 * m ≤ 8 * length ps)
+  pub room : 32 * m ≤ length w
+  pub labelled : region (18 * m) m w ≡ payloadLabels k m ps
+  pub blank : region 0 (2 * m) w ≡ replicate (2 * m) 0
 
-read : (r : List ℕ) → readable r ≡ true → decodeRecord r ≡ decodeWord (bitsIn r) (labelsIn r)
-unfolding decodeRecord decodePayload readable bitsIn labelsIn
-read r e = rw e
+module _ (k m : ℕ) (ps : List ℕ) where
+  pub prepared : Sized ps k m → payloadClean k m ps ≡ true → (w w′ : List ℕ) → 32 * m ≤ length w → region (18 * m) m w ≡ payloadLabels k m ps
+      → w′ ≡ placed 0 (replicate (2 * m) 0) w → Prepared k m ps w′
+  prepared h e w w′ r l f =
+      let none : List ℕ = replicate (2 * m) 0 in
+      let n : length none ≡ 2 * m = length-replicate (2 * m) 0 in
+      let fits : 0 + length none ≤ length w = omega arith in
+      record {
+        clean = e;
+        sizes = (h .some-edge, h .few-edges, bits-room ps m k h);
+        room = rw (f, length-placed 0 none w fits) r;
+        labelled = rw f (region-placed-other 0 none w fits (18 * m) m (λ g. omega arith) ∙ l);
+        blank = rw f (region-placed 0 none w fits (2 * m) (sym n));
+      }
 
-pub answer-unreadable : (r : List ℕ) (n : ℕ) (w : List ℕ) → readable r ≡ false → Answered (decodeRecord r) n w false w
-unfolding decodeRecord decodePayload readable bitsIn labelsIn
-answer-unreadable r n w e = record { word-found = λ f. absurd (false≢true f); none-found = λ f. rw e; kept = refl }
+  pub answer-unclean : (n : ℕ) (w : List ℕ) → payloadClean k m ps ≡ false → Answered (decodePayload k m ps) n false w
+  unfolding decodePayload
+  answer-unclean n w e = record { word-found = λ f. absurd (false≢true f); none-found = λ f. rw e }
 
-pub answer-readable : (r : List ℕ) (k m : ℕ) (w : List ℕ) (b : Bool) (w′ : List ℕ) → Head r k m → readable r ≡ true
-    → Answered (decodeWord (bitsIn r) (labelsIn r)) (2 * m) w b w′ → Answered (decodeRecord r) (2 * edgesOf r) w b w′
-answer-readable r k m w b w′ h e a =
-    subst (λ (n : ℕ). Answered (decodeRecord r) (2 * n) w b w′) (h .2) (subst (λ (f : Found). Answered f (2 * m) w b w′) (sym (read r e)) a)
+  pub answer-clean : (n : ℕ) (w : List ℕ) (b : Bool) (w′ : List ℕ) → Prepared k m ps w
+      → Answered (decodeWord (payloadBits m ps) (region (18 * m) m w)) n b w′ → Answered (decodePayload k m ps) n b w′
+  unfolding decodePayload
+  answer-clean n w b w′ p a = rw (p .clean, ← p .labelled) a

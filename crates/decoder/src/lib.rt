@@ -1,17 +1,16 @@
-// A record's payload decoded into the standard plan, in the lent work area, by a machine that reads tree bits and labels in step and enters each dart of
+// A payload decoded into the standard plan, in the lent work area, by a machine that reads tree bits and labels in step and enters each dart of
 // the traversal where the dart before it waits for its successor. With m edges: the rotation at 0; stacks: vertices that the present one hangs from at
-// 10m, open tree edges at 12m, vertices where other open edges began at 14m, those edges at 16m; the record's labels by number at 18m.
+// 10m, open tree edges at 12m, vertices where other open edges began at 14m, those edges at 16m; the labels by number at 18m.
 ghost use mathlib.Core.Path.{_≡_};
 ghost use mathlib.Core.Logic.{_≢_};
-ghost use mathlib.Core.Bool.{true};
 ghost use Prim.Native.Nat.{_*_, _≤_, _<_};
 ghost use lib.ListN.{length, replicate};
-ghost use Rattle.model.specs.Shelf.{edgesOf, passes};
 ghost use Rattle.words.specs.Word.{decodeWord};
-ghost use Rattle.packing.specs.Unlay.{bitsIn, labelsIn};
+ghost use Rattle.packing.specs.Unlay.{payloadBits};
 ghost use Rattle.work.specs.Area.{region};
-ghost use Rattle.unpacker.specs.Unpacked.{Head};
-ghost use Rattle.decoder.specs.Decoded.{Decoded, Answered};
+ghost use Rattle.coding.specs.Decode.{decodePayload};
+ghost use Rattle.unpacker.specs.Unpacked.{Sized};
+ghost use Rattle.decoder.specs.Decoded.{Answered};
 ghost use Rattle.decoder.specs.States.{nextBit, nextLabel, before, Standing, Fits, Room, Ready, Turned, Closed};
 ghost use Rattle.decoder.specs.States.{risenState, leafedState, backedState, enteredState, risenArea, leafedArea, backedArea, enteredArea};
 
@@ -63,14 +62,14 @@ const LABELS: usize = 18;
 
 impl Cursor {
     // The tree bit here.
-    fn bit(self, bytes: &[u8], m: usize) -> Next
-        requires { ⌜ (passes (now bytes) ≡ true) × (m ≡ edgesOf (now bytes)) ⌝ }
-        ensures { λ r. ⌜ r ≡ nextBit (bitsIn (now (bytes .entry))) self ⌝ }
+    fn bit(self, payload: &[u8], m: usize) -> Next
+        requires { ⌜ (m ≤ 4096) × (2 * m ≤ 8 * length (now payload)) ⌝ }
+        ensures { λ r. ⌜ r ≡ nextBit (payloadBits m (now (payload .entry))) self ⌝ }
     {
         let bits = self.bits;
         let labels = self.labels;
         if bits < 2 * m {
-            let b = bits::bit_at(bytes, 48 + bits);
+            let b = bits::bit_at(payload, bits);
             return Next::Value(
                 b as u16,
                 Cursor {
@@ -246,14 +245,14 @@ fn enter(w: &mut [u16], m: usize, s: State, e: usize) -> State
 }
 
 // A bit that is not 0 was read up to c: a bit and a label more say what begins. Where a tree edge begins, that bit is the next to be read.
-fn descend(bytes: &[u8], m: usize, w: &mut [u16], s: State, c: Cursor) -> Outcome
-    requires { ⌜ (passes (now bytes) ≡ true) × (m ≡ edgesOf (now bytes)) ⌝ }
-    requires { ⌜ Ready m (bitsIn (now bytes)) (now w) s c × (s .label ≢ 1) ⌝ }
-    ensures { λ r. ⌜ Turned m (bitsIn (now (bytes .entry))) (region (18 * m) m (now (w .entry))) (now (w .entry)) s (before c) r (now (w .exit)) ⌝ }
+fn descend(payload: &[u8], m: usize, w: &mut [u16], s: State, c: Cursor) -> Outcome
+    requires { ⌜ 2 * m ≤ 8 * length (now payload) ⌝ }
+    requires { ⌜ Ready m (payloadBits m (now payload)) (now w) s c × (s .label ≢ 1) ⌝ }
+    ensures { λ r. ⌜ Turned m (payloadBits m (now (payload .entry))) (region (18 * m) m (now (w .entry))) (now (w .entry)) s (before c) r (now (w .exit)) ⌝ }
 {
     let at = c.bits;
     let edge = c.labels;
-    match c.bit(bytes, m) {
+    match c.bit(payload, m) {
         Next::End => {
             return Outcome::Stuck;
         }
@@ -281,10 +280,10 @@ fn descend(bytes: &[u8], m: usize, w: &mut [u16], s: State, c: Cursor) -> Outcom
 }
 
 // One turn.
-fn turn(bytes: &[u8], m: usize, w: &mut [u16], s: State, c: Cursor) -> Outcome
-    requires { ⌜ (passes (now bytes) ≡ true) × (m ≡ edgesOf (now bytes)) ⌝ }
+fn turn(payload: &[u8], m: usize, w: &mut [u16], s: State, c: Cursor) -> Outcome
+    requires { ⌜ 2 * m ≤ 8 * length (now payload) ⌝ }
     requires { ⌜ Fits m (now w) s c ⌝ }
-    ensures { λ r. ⌜ Turned m (bitsIn (now (bytes .entry))) (region (18 * m) m (now (w .entry))) (now (w .entry)) s c r (now (w .exit)) ⌝ }
+    ensures { λ r. ⌜ Turned m (payloadBits m (now (payload .entry))) (region (18 * m) m (now (w .entry))) (now (w .entry)) s c r (now (w .exit)) ⌝ }
 {
     let label = s.label;
     let depth = s.depth;
@@ -293,7 +292,7 @@ fn turn(bytes: &[u8], m: usize, w: &mut [u16], s: State, c: Cursor) -> Outcome
     if label == 1 {
         return close(w, m, s, c);
     }
-    match c.bit(bytes, m) {
+    match c.bit(payload, m) {
         Next::End => {
             if 0 < depth + opens {
                 return Outcome::Stuck;
@@ -305,7 +304,7 @@ fn turn(bytes: &[u8], m: usize, w: &mut [u16], s: State, c: Cursor) -> Outcome
         }
         Next::Value(b, d) => {
             if b != 0 {
-                return descend(bytes, m, w, s, d);
+                return descend(payload, m, w, s, d);
             }
             if depth == 0 {
                 return Outcome::Stuck;
@@ -317,10 +316,10 @@ fn turn(bytes: &[u8], m: usize, w: &mut [u16], s: State, c: Cursor) -> Outcome
 }
 
 // The machine from its start until it is done or stuck. The last dart's successor is dart 0.
-fn run(bytes: &[u8], m: usize, w: &mut [u16]) -> bool
-    requires { ⌜ (passes (now bytes) ≡ true) × (m ≡ edgesOf (now bytes)) ⌝ }
-    requires { ⌜ (32 * m ≤ length (now w)) × (region (18 * m) m (now w) ≡ labelsIn (now bytes)) × (region 0 (2 * m) (now w) ≡ replicate (2 * m) 0) ⌝ }
-    ensures { λ r. ⌜ Answered (decodeWord (bitsIn (now (bytes .entry))) (labelsIn (now (bytes .entry)))) (2 * m) (now (w .entry)) r (now (w .exit)) ⌝ }
+fn run(payload: &[u8], m: usize, w: &mut [u16]) -> bool
+    requires { ⌜ (1 ≤ m) × (m ≤ 4096) × (2 * m ≤ 8 * length (now payload)) ⌝ }
+    requires { ⌜ (32 * m ≤ length (now w)) × (region 0 (2 * m) (now w) ≡ replicate (2 * m) 0) ⌝ }
+    ensures { λ r. ⌜ Answered (decodeWord (payloadBits m (now (payload .entry))) (region (18 * m) m (now (w .entry)))) (2 * m) r (now (w .exit)) ⌝ }
 {
     let mut s = State {
         n: 1,
@@ -333,7 +332,7 @@ fn run(bytes: &[u8], m: usize, w: &mut [u16]) -> bool
     let mut c = Cursor { bits: 0, labels: 0 };
     loop {
         let place = s.place;
-        match turn(bytes, m, w, s, c) {
+        match turn(payload, m, w, s, c) {
             Outcome::Goes(t, d) => {
                 s = t;
                 c = d;
@@ -349,17 +348,17 @@ fn run(bytes: &[u8], m: usize, w: &mut [u16]) -> bool
     }
 }
 
-// The standard plan of a record that passes 1, 2, 3 and 5: whether there is one, and its rotation in the first 2m entries.
-pub fn decode(bytes: &[u8], kind: u16, m: usize, w: &mut [u16]) -> bool
-    requires { ⌜ Head (now bytes) kind m ⌝ }
+// The standard plan of a payload: whether there is one, and its rotation in the first 2m entries.
+pub fn decode(payload: &[u8], kind: u16, m: usize, w: &mut [u16]) -> bool
+    requires { ⌜ Sized (now payload) kind m ⌝ }
     requires { ⌜ 32 * m ≤ length (now w) ⌝ }
-    ensures { λ r. ⌜ Decoded (now (bytes .entry)) (now (w .entry)) r (now (w .exit)) ⌝ }
+    ensures { λ r. ⌜ Answered (decodePayload kind m (now (payload .entry))) (2 * m) r (now (w .exit)) ⌝ }
 {
-    let readable = unpacker::clean(bytes, kind, m);
-    if !readable {
+    let clean = unpacker::clean(payload, kind, m);
+    if !clean {
         return false;
     }
-    unpacker::spread(bytes, kind, m, w);
+    unpacker::spread(payload, kind, m, w);
     work::fill(w, 0, 2 * m, 0);
-    run(bytes, m, w)
+    run(payload, m, w)
 }

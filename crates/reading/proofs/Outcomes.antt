@@ -19,7 +19,8 @@ use Rattle.model.specs.Calls.{front, readRefusal, Reads, refused, read, unreada
 use Rattle.words.specs.Word.{planOf}
 use Rattle.coding.proofs.Records.{decodes-has, decodes-standard, none-has}
 use Rattle.work.specs.Area.{region}
-use Rattle.decoder.specs.Decoded.{Decoded}
+use Rattle.coding.specs.Decode.{decodeRecord}
+use Rattle.decoder.specs.Decoded.{Answered}
 use Rattle.reading.specs.Core.{Planned, Core}
 use Rattle.reading.specs.Core as core
 use Rattle.reading.proofs.Answers.{not-both}
@@ -34,11 +35,12 @@ module _ (r w : List ℕ) where
       let s = q ∙ core-room r (length w) in
       record { outcome = core.refused (λ z. d (s ∙ z)) (ap readback.Refused s); kept = refl }
 
-  module _ (early : readRefusal r (length w) 8192 ≡ 0) (b : Bool) (x : List ℕ) (decoded : Decoded r w b x) where
+  module _ (early : readRefusal r (length w) 8192 ≡ 0) (b : Bool) (x : List ℕ) (decoded : Answered (decodeRecord r) (2 * edgesOf r) b x)
+      (same : length x ≡ length w) where
     pub core-unreadable : b ≡ false → Core r w (readback.Refused 13) x
     core-unreadable e = record {
       outcome = core.unreadable (core-none r (length w) 8192 early) (none-has r (decoded .none-found e)) refl;
-      kept = decoded .kept;
+      kept = same;
     }
 
     pub core-read : allBelow 256 r ≡ true → (m : ℕ) → m ≡ edgesOf r → b ≡ true → Core r w (readback.Edges m) x
@@ -49,7 +51,7 @@ module _ (r w : List ℕ) where
         record {
           outcome = core.read (core-none r (length w) 8192 early) (planOf (f .0)) (decodes-has r (f .0) passed bytes (f .1)) (ap readback.Edges m-is)
               (f .2 ∙ ap (λ (p : Plan). p .rotation) (sym (decodes-standard r (f .0) passed bytes (f .1))));
-          kept = decoded .kept;
+          kept = same;
         }
 
 -- ---- with an output

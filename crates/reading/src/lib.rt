@@ -38,7 +38,7 @@ pub fn read_core(record: &[u8], w: &mut [u16]) -> ReadBack
     }
     let kind = heads::field(record, 2);
     let m = heads::field(record, 4);
-    let found = decoder::decode(record, kind, m as usize, w);
+    let found = decoder::decode(&record[6..], kind, m as usize, w);
     if found {
         return ReadBack::Edges(m);
     }

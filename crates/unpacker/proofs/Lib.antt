@@ -1,3 +1,3 @@
 pub mod Payload
-pub mod Readable
-pub mod Labels
+mod Padding
+mod Labels

@@ -1,103 +1,92 @@
--- The payload of a record that passes: its sizes, and where its bits and labels stand. Assumes nothing.
+-- The sizes of a payload, by kind, and where its bits and labels stand. Assumes nothing.
 --
---   Sizes, sizes          how many bits and labels there are, and how long the record is
---   KindOne, one, KindTwo, two    the same in kind 1, and in kind 2
---   bit-at-place          where a tree bit stands among all bits
+--   length-bits           how many bits the bytes hold
+--   bit-count, bit-place  the tree bits of a payload that has room for them: how many, and where they stand among all bits
+--   bits-room             a payload has room for its tree bits
+--   KindOne, one          the sizes in kind 1
+--   KindTwo, two          the sizes in kind 2
+--   other-kind            a kind that is not 1 is 2
+--   of-kind, labels-of-kind   the sizes and the labels, by the kind's number
 --   label-one             where a label of kind 1 stands among all bits
 --   labels-two            the labels of kind 2 are the first of those in the groups
 use Prim.Native.Nat.{ℕ, _+_, _*_, _/_, _≤_, _<_}
 use native.Mathlib.Omega.{arith}
-use mathlib.Core.Path.{_≡_, refl, sym, _∙_}
+use mathlib.Core.Path.{_≡_, refl, sym, ap, _∙_, subst}
 use mathlib.Core.Logic.{_≢_}
-use mathlib.Core.Bool.{Bool, true, false, cond}
 use mathlib.Core.List.{List}
-use lib.Dec.{eqb}
 use lib.ListN.{length, getD, take, drop}
-use lib.Seq.{drop-drop}
-use borrow.Author.Tests.{ne-eqb}
+use lib.Seq.{length-take-le, getD-take, getD-drop}
 use Rattle.model.specs.Record.{recordLength}
-use Rattle.model.specs.Shelf.{kindOf, edgesOf}
 use Rattle.packing.specs.Unpack.{bits, groups}
-use Rattle.packing.specs.Unlay.{payloadLabels, bitsIn, labelsIn}
-use Rattle.packing.proofs.Head.{kind-cases, recordLength-range, passes-facts}
-use Rattle.packing.proofs.Unlay.{unlay-laid, bitsIn-at, labelsIn-one}
-use Rattle.unpacker.specs.Unpacked.{Head}
+use Rattle.packing.specs.Unlay.{payloadBits, payloadLabels}
+use Rattle.packing.proofs.Head.{kind-cases}
+use Rattle.packing.proofs.Packed.{length-unpack}
+use Rattle.packing.proofs.Payload.{unpayload-parts}
+use Rattle.unpacker.specs.Unpacked.{Sized}
+
+-- ---- tree bits
+
+pub length-bits : (s : List ℕ) → length (bits s) ≡ 8 * length s
+unfolding bits
+length-bits s = let e = length-unpack 2 8 (length s) s in omega arith
+
+module _ (ps : List ℕ) (m : ℕ) where
+  pub bit-count : 2 * m ≤ 8 * length ps → length (payloadBits m ps) ≡ 2 * m
+  unfolding payloadBits
+  bit-count h = length-take-le (2 * m) (bits ps) (let e = length-bits ps in omega arith)
+
+  pub bit-place : (i : ℕ) → i < 2 * m → getD (bits ps) i 0 ≡ getD (payloadBits m ps) i 0
+  unfolding payloadBits
+  bit-place i h = sym (getD-take (2 * m) (bits ps) i 0 h)
 
 -- ---- sizes
 
-pub record Sizes (r : List ℕ) (k m : ℕ) : Type 0 where
+pub record KindOne (ps : List ℕ) (m : ℕ) : Type 0 where
   pub few-edges : m ≤ 4096
   pub some-edge : 1 ≤ m
-  pub bit-count : length (bitsIn r) ≡ 2 * m
-  pub label-count : length (labelsIn r) ≡ m
-  pub short : length r ≤ 1850
-  pub length-one : k ≡ 1 → length r ≡ 6 + (3 * m + 7) / 8
-  pub length-two : k ≢ 1 → length r ≡ 6 + (2 * m + 7) / 8 + (m + 4) / 5
-  pub bits-room : 48 + 2 * m ≤ 8 * length r
-  pub other-kind : k ≢ 1 → k ≡ 2
+  pub bytes : length ps ≡ (3 * m + 7) / 8
+  pub label-count : length (payloadLabels 1 m ps) ≡ m
 
-long-one : (k m : ℕ) → k ≡ 1 → recordLength k m ≡ 6 + (3 * m + 7) / 8
-unfolding recordLength
-long-one k m e = rw e
-
-long-two : (k m : ℕ) → k ≢ 1 → recordLength k m ≡ 6 + (2 * m + 7) / 8 + (m + 4) / 5
-unfolding recordLength
-long-two k m e = rw (ne-eqb k 1 e)
-
-room : (k m n : ℕ) → n ≡ recordLength k m → 48 + 2 * m ≤ 8 * n
-unfolding recordLength
-room k m n e = go (eqb k 1) e
-  where
-    go : (b : Bool) → n ≡ cond b (6 + (3 * m + 7) / 8) (6 + (2 * m + 7) / 8 + (m + 4) / 5) → 48 + 2 * m ≤ 8 * n
-    go true q = omega arith
-    go false q = omega arith
-
-pub sizes : (r : List ℕ) (k m : ℕ) → Head r k m → Sizes r k m
-sizes r k m h =
-    let f = passes-facts r (h .0) in let u = unlay-laid r (h .0) in
-    let n = recordLength-range (kindOf r) (edgesOf r) (f .some-edge) (f .few-edges) in let l = f .right-length in
-    rw (h .1, h .2)
-    (record {
-      few-edges = f .few-edges;
-      some-edge = f .some-edge;
-      bit-count = u .bit-count;
-      label-count = u .label-count;
-      short = omega arith;
-      length-one = λ e. l ∙ long-one (kindOf r) (edgesOf r) e;
-      length-two = λ e. l ∙ long-two (kindOf r) (edgesOf r) e;
-      bits-room = room (kindOf r) (edgesOf r) (length r) l;
-      other-kind = kind-cases (λ (j : ℕ). j ≢ 1 → j ≡ 2) (λ e. absurd (e refl)) (λ e. refl) (kindOf r) (f .kind);
-    })
-
--- the sizes in kind 1, and in kind 2
-pub record KindOne (r : List ℕ) (m : ℕ) : Type 0 where
+pub record KindTwo (ps : List ℕ) (m : ℕ) : Type 0 where
   pub few-edges : m ≤ 4096
   pub some-edge : 1 ≤ m
-  pub long : length r ≡ 6 + (3 * m + 7) / 8
-  pub label-count : length (labelsIn r) ≡ m
+  pub bytes : length ps ≡ (2 * m + 7) / 8 + (m + 4) / 5
 
-pub record KindTwo (r : List ℕ) (m : ℕ) : Type 0 where
-  pub few-edges : m ≤ 4096
-  pub some-edge : 1 ≤ m
-  pub long : length r ≡ 6 + (2 * m + 7) / 8 + (m + 4) / 5
+module _ (ps : List ℕ) (m : ℕ) where
+  pub one : Sized ps 1 m → KindOne ps m
+  unfolding recordLength
+  one h =
+      let l = h .long in
+      record {
+        few-edges = h .few-edges;
+        some-edge = h .some-edge;
+        bytes = omega arith;
+        label-count = unpayload-parts 1 m ps (h .kind) (omega arith) .label-count;
+      }
 
-module _ (r : List ℕ) (k m : ℕ) (h : Head r k m) where
-  pub one : k ≡ 1 → KindOne r m
-  one e =
-      let z = sizes r k m h in
-      record { few-edges = z .few-edges; some-edge = z .some-edge; long = z .length-one e; label-count = z .label-count }
+  pub two : Sized ps 2 m → KindTwo ps m
+  unfolding recordLength
+  two h = let l = h .long in record { few-edges = h .few-edges; some-edge = h .some-edge; bytes = omega arith }
 
-  pub two : k ≢ 1 → KindTwo r m
-  two e = let z = sizes r k m h in record { few-edges = z .few-edges; some-edge = z .some-edge; long = z .length-two e }
+  pub bits-room : (k : ℕ) → Sized ps k m → 2 * m ≤ 8 * length ps
+  bits-room k h =
+      kind-cases (λ (j : ℕ). Sized ps j m → 2 * m ≤ 8 * length ps) (λ g. let z = one g in omega arith) (λ g. let z = two g in omega arith) k (h .kind) h
 
-  -- ---- places
+  pub other-kind : (k : ℕ) → Sized ps k m → k ≢ 1 → k ≡ 2
+  other-kind k h = kind-cases (λ (j : ℕ). j ≢ 1 → j ≡ 2) (λ e. absurd (e refl)) (λ e. refl) k (h .kind)
 
-  pub label-one : (i : ℕ) → k ≡ 1 → i < m → getD (bits r) (48 + (2 * m + i)) 0 ≡ getD (labelsIn r) i 0
-  label-one i e l = rw (h .2) (sym (labelsIn-one r i (sym (h .1) ∙ e) (rw (h .2) at l)))
+  pub of-kind : (k j : ℕ) → k ≡ j → Sized ps k m → Sized ps j m
+  of-kind k j e h = subst (λ (i : ℕ). Sized ps i m) e h
 
-  pub labels-two : k ≢ 1 → take m (groups (drop (6 + (2 * m + 7) / 8) r)) ≡ labelsIn r
-  unfolding labelsIn payloadLabels
-  labels-two e = rw (← h .1, ← h .2, ne-eqb k 1 e, drop-drop ((2 * m + 7) / 8) 6 r)
+  pub labels-of-kind : (k j : ℕ) → k ≡ j → payloadLabels j m ps ≡ payloadLabels k m ps
+  labels-of-kind k j e = ap (λ (i : ℕ). payloadLabels i m ps) (sym e)
 
-pub bit-at-place : (r : List ℕ) (m i : ℕ) → m ≡ edgesOf r → i < 2 * m → getD (bits r) (48 + i) 0 ≡ getD (bitsIn r) i 0
-bit-at-place r m i e h = sym (bitsIn-at r i (rw e at h))
+  -- ---- labels
+
+  pub label-one : (i : ℕ) → i < m → getD (bits ps) (2 * m + i) 0 ≡ getD (payloadLabels 1 m ps) i 0
+  unfolding payloadLabels
+  label-one i h = sym (getD-take m (drop (2 * m) (bits ps)) i 0 h ∙ getD-drop (2 * m) (bits ps) i 0)
+
+  pub labels-two : take m (groups (drop ((2 * m + 7) / 8) ps)) ≡ payloadLabels 2 m ps
+  unfolding payloadLabels
+  labels-two = refl

@@ -1,17 +1,22 @@
 -- What the code that takes a payload apart is given, and what it stores.
 --
---   Head r k m            the record r passes 1, 2, 3 and 5, and has kind k and m edges
+--   Sized ps k m          ps is as long as the payload of a record of kind k with m edges
 --   grouped at g w        w with the five labels of the group g from place at on
-use Prim.Native.Nat.{ℕ}
+use Prim.Native.Nat.{ℕ, _+_, _≤_}
 use mathlib.Core.Path.{_≡_}
 use mathlib.Core.Bool.{true}
 use mathlib.Core.List.{List}
-use Rattle.model.specs.Shelf.{kindOf, edgesOf, passes}
+use lib.ListN.{length}
+use Rattle.model.specs.Map.{isKind}
+use Rattle.model.specs.Record.{recordLength}
 use Rattle.packing.specs.Unpack.{digitsOf}
 use Rattle.work.specs.Area.{placed}
 
-abbrev pub Head : List ℕ → ℕ → ℕ → Type 0
-Head r k m = (passes r ≡ true) × (k ≡ kindOf r) × (m ≡ edgesOf r)
+pub record Sized (ps : List ℕ) (k m : ℕ) : Type 0 where
+  pub kind : isKind k ≡ true
+  pub some-edge : 1 ≤ m
+  pub few-edges : m ≤ 4096
+  pub long : 6 + length ps ≡ recordLength k m
 
 -- "first label highest in base 3, one byte a group"
 abbrev pub grouped : ℕ → ℕ → List ℕ → List ℕ

@@ -1,14 +1,13 @@
-// A record's payload taken apart: whether its padding bits and fill labels are 0 and its groups fit, and its labels by number, put into the lent work
-// area. It knows digits and bytes, and what a record's head says; no letters, no words and no plans. With n = 2m darts the labels stand from 9n on.
+// A payload taken apart: whether its padding bits and fill labels are 0 and its groups fit, and its labels by number, put into the lent work area.
+// It knows digits and bytes; no heads of records, no letters, no words and no plans.
 ghost use mathlib.Core.Path.{_≡_};
 ghost use Prim.Native.Nat.{_+_, _*_, _^_, _≤_, _<_};
 ghost use lib.ListN.{length, take, drop};
 ghost use Rattle.model.specs.Numbers.{allBelow};
-ghost use Rattle.packing.specs.Unpack.{bits};
-ghost use Rattle.packing.specs.Unlay.{labelsIn, readable};
+ghost use Rattle.packing.specs.Unpack.{bits, groups};
+ghost use Rattle.packing.specs.Unlay.{payloadLabels, payloadClean};
 ghost use Rattle.work.specs.Area.{region};
-ghost use Rattle.bits.specs.Places.{labelsFrom};
-ghost use Rattle.unpacker.specs.Unpacked.{Head, grouped};
+ghost use Rattle.unpacker.specs.Unpacked.{Sized, grouped};
 
 // Where the labels begin, in units of m.
 const LABELS: usize = 18;
@@ -34,7 +33,7 @@ fn zero_bits(bytes: &[u8], from: usize, to: usize) -> bool
 // Every label of the groups from byte `from` on is 0, from number m on.
 fn zero_labels(bytes: &[u8], from: usize, m: usize) -> bool
     requires { ⌜ (from ≤ length (now bytes)) × (length (now bytes) < 2 ^ 32) ⌝ }
-    ensures { λ r. ⌜ r ≡ allBelow 1 (drop m (labelsFrom (now (bytes .entry)) from)) ⌝ }
+    ensures { λ r. ⌜ r ≡ allBelow 1 (drop m (groups (drop from (now (bytes .entry))))) ⌝ }
 {
     let end = 5 * (bytes.len() - from);
     let mut k = m;
@@ -64,36 +63,36 @@ fn groups_fit(bytes: &[u8], from: usize) -> bool
 }
 
 // "unused low bits are 0", "the last group filled with 0", and five labels make no more than 242.
-pub fn clean(bytes: &[u8], kind: u16, m: usize) -> bool
-    requires { ⌜ Head (now bytes) kind m ⌝ }
-    ensures { λ r. ⌜ r ≡ readable (now (bytes .entry)) ⌝ }
+pub fn clean(payload: &[u8], kind: u16, m: usize) -> bool
+    requires { ⌜ Sized (now payload) kind m ⌝ }
+    ensures { λ r. ⌜ r ≡ payloadClean kind m (now (payload .entry)) ⌝ }
 {
     if kind == 1 {
-        return zero_bits(bytes, 48 + 3 * m, 8 * bytes.len());
+        return zero_bits(payload, 3 * m, 8 * payload.len());
     }
-    let from = 6 + (2 * m + 7) / 8;
-    let padded = zero_bits(bytes, 48 + 2 * m, 8 * from);
+    let from = (2 * m + 7) / 8;
+    let padded = zero_bits(payload, 2 * m, 8 * from);
     if !padded {
         return false;
     }
-    let fit = groups_fit(bytes, from);
+    let fit = groups_fit(payload, from);
     if !fit {
         return false;
     }
-    zero_labels(bytes, from, m)
+    zero_labels(payload, from, m)
 }
 
 // ---- labels by number
 
-// The labels of a record of kind 1.
-fn spread_bits(bytes: &[u8], m: usize, w: &mut [u16])
-    requires { ⌜ Head (now bytes) 1 m ⌝ }
+// The labels of kind 1.
+fn spread_bits(payload: &[u8], m: usize, w: &mut [u16])
+    requires { ⌜ Sized (now payload) 1 m ⌝ }
     requires { ⌜ 32 * m ≤ length (now w) ⌝ }
-    ensures { λ _. ⌜ region (18 * m) m (now (w .exit)) ≡ labelsIn (now (bytes .entry)) ⌝ }
+    ensures { λ _. ⌜ region (18 * m) m (now (w .exit)) ≡ payloadLabels 1 m (now (payload .entry)) ⌝ }
 {
     let mut i = 0;
     while i < m {
-        let l = bits::bit_at(bytes, 48 + (2 * m + i));
+        let l = bits::bit_at(payload, 2 * m + i);
         w[LABELS * m + i] = l as u16;
         i += 1;
     }
@@ -112,31 +111,31 @@ fn put_group(w: &mut [u16], at: usize, group: u8)
     w[at + 4] = g % 3;
 }
 
-// The labels of a record of kind 2, and those that fill its last group.
-fn spread_groups(bytes: &[u8], m: usize, w: &mut [u16])
-    requires { ⌜ Head (now bytes) 2 m ⌝ }
+// The labels of kind 2, and those that fill the last group.
+fn spread_groups(payload: &[u8], m: usize, w: &mut [u16])
+    requires { ⌜ Sized (now payload) 2 m ⌝ }
     requires { ⌜ 32 * m ≤ length (now w) ⌝ }
-    ensures { λ _. ⌜ region (18 * m) m (now (w .exit)) ≡ labelsIn (now (bytes .entry)) ⌝ }
+    ensures { λ _. ⌜ region (18 * m) m (now (w .exit)) ≡ payloadLabels 2 m (now (payload .entry)) ⌝ }
 {
-    let from = 6 + (2 * m + 7) / 8;
-    let count = bytes.len() - from;
+    let from = (2 * m + 7) / 8;
+    let count = payload.len() - from;
     let mut i = 0;
     while i < count {
-        let group = bytes[from + i];
+        let group = payload[from + i];
         put_group(w, LABELS * m + 5 * i, group);
         i += 1;
     }
 }
 
 // The labels by number, so that whoever reads them one by one needs no division.
-pub fn spread(bytes: &[u8], kind: u16, m: usize, w: &mut [u16])
-    requires { ⌜ Head (now bytes) kind m ⌝ }
+pub fn spread(payload: &[u8], kind: u16, m: usize, w: &mut [u16])
+    requires { ⌜ Sized (now payload) kind m ⌝ }
     requires { ⌜ 32 * m ≤ length (now w) ⌝ }
-    ensures { λ _. ⌜ region (18 * m) m (now (w .exit)) ≡ labelsIn (now (bytes .entry)) ⌝ }
+    ensures { λ _. ⌜ region (18 * m) m (now (w .exit)) ≡ payloadLabels kind m (now (payload .entry)) ⌝ }
 {
     if kind == 1 {
-        spread_bits(bytes, m, w);
+        spread_bits(payload, m, w);
         return;
     }
-    spread_groups(bytes, m, w);
+    spread_groups(payload, m, w);
 }

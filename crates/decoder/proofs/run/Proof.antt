@@ -1,14 +1,11 @@
--- `run`: the machine from its start until it is done or stuck. Assumes nothing.
-use Prim.Native.Nat.{ℕ, _+_, _-_, _<_}
+use Prim.Native.Nat.{ℕ, _+_, _-_, _*_, _<_}
 use native.Mathlib.Omega.{arith}
 use mathlib.Core.Path.{_≡_, refl, ap, _∙_}
-use mathlib.Core.Bool.{true}
 use mathlib.Core.List.{List}
 use lib.ListN.{length, set, length-set}
-use Rattle.model.specs.Shelf.{kindOf, edgesOf, passes}
-use Rattle.packing.specs.Unlay.{bitsIn, labelsIn}
-use Rattle.unpacker.specs.Unpacked.{Head}
-use Rattle.unpacker.proofs.Payload.{sizes}
+use Rattle.packing.specs.Unlay.{payloadBits}
+use Rattle.work.specs.Area.{region}
+use Rattle.unpacker.proofs.Payload.{bit-count}
 use Rattle.decoder.specs.States.{Moved}
 use Rattle.decoder.proofs.Runs.{Running, running-start, running-on, running-less, turned-goes, turned-done, turned-stuck}
 use Rattle.decoder.proofs.Runs.{answer-stuck, answer-done}
@@ -17,21 +14,17 @@ use Rattle.decoder.proofs.run.Statement.{statement}
 use Rattle.decoder.proofs.run.Tie as tie
 
 abbrev Inv-loop : tie.InvT-loop
-Inv-loop bytes m w₀ s₀ c₀ w s c = Running m (bitsIn bytes) (labelsIn bytes) w₀ w s c
+Inv-loop payload m w₀ s₀ c₀ w s c = Running m (payloadBits m payload) (region (18 * m) m w₀) w₀ w s c
 
 abbrev μ-loop : tie.MeasureT-loop
-μ-loop bytes m w₀ s₀ c₀ w s c = length (bitsIn bytes) - c .bits + s .opens
-
--- the kind is not looked at
-headed : (r : List ℕ) (m : ℕ) → (passes r ≡ true) × (m ≡ edgesOf r) → Head r (kindOf r) m
-headed r m h = (h .0, refl, h .1)
+μ-loop payload m w₀ s₀ c₀ w s c = length (payloadBits m payload) - c .bits + s .opens
 
 moved : (c : tie.After-known-told Inv-loop μ-loop) →
     let a = c .before .before .before .before .before .before .before .before .before .before .args in
     let at = c .before .before .before .before .before .before .before .loop in
     let t = c .before .t .given .0 in
     let w = c .before .before .before .before .before .turn .last .1 .1 .0 in
-    Moved (a .m) (bitsIn (a .bytes .now)) (labelsIn (a .bytes .now)) (at .w) (at .s) (at .c) (t .0) (t .1 .0) w
+    Moved (a .m) (payloadBits (a .m) (a .payload .now)) (region (18 * a .m) (a .m) (a .w .now)) (at .w) (at .s) (at .c) (t .0) (t .1 .0) w
 moved c =
     let v = c .before .before .before .before .before .turn in
     let i = c .before .before .before .before .before .before .before .loop .inv in
@@ -40,11 +33,10 @@ moved c =
 loop-holds : tie.Need-loop-holds Inv-loop μ-loop
 loop-holds c =
     let p = c .before .before .pre in
-    let z = sizes _ _ _ (headed _ _ (p .0)) in
-    running-start _ _ _ _ (z .some-edge) (z .few-edges) (p .1 .0) (p .1 .1)
+    running-start _ _ _ _ (p .0 .0) (p .0 .1) (p .1 .0) refl
 
 turn-requires : tie.Need-turn-requires Inv-loop μ-loop
-turn-requires c κs = let h = c .before .before .before .before .pre .0 in (h, c .before .loop .inv .fits)
+turn-requires c κs = let h = c .before .before .before .before .pre .0 in (h .2, c .before .loop .inv .fits)
 
 loop-less : tie.Need-loop-less Inv-loop μ-loop
 loop-less c = running-less _ _ _ _ _ _ _ (c .before .before .before .before .before .before .before .loop .inv) _ _ _ (moved c)
@@ -79,14 +71,14 @@ returns c =
     let at = c .before .before .before .before .before .before .loop in
     let i = at .inv in
     let d = turned-done _ _ _ _ _ _ (v .result) _ (i .labelled) (v .ensures) (c .enum-told .given .1) in
-    answer-done _ _ _ _ _ _ _ i _ (sizes _ _ _ (headed _ _ (p .0)) .bit-count) (p .1 .2) (d .0) (ap (λ (x : List ℕ). set x (at .s .place) 0) (d .1))
+    answer-done _ _ _ _ _ _ _ i _ (bit-count _ _ (p .0 .2)) (p .1 .1) (d .0) (ap (λ (x : List ℕ). set x (at .s .place) 0) (d .1))
 
 returns-2 : tie.Need-returns-2 Inv-loop μ-loop
 returns-2 c =
     let v = c .before .before .before .before .turn in
     let i = c .before .before .before .before .before .before .loop .inv in
     let d = turned-stuck _ _ _ _ _ _ (v .result) _ (i .labelled) (v .ensures) (c .enum-told2 .given .1) in
-    answer-stuck _ _ _ _ _ _ _ i _ (d .0) (d .1)
+    answer-stuck _ _ _ _ _ _ _ i _ (d .0)
 
 pub run-spec : {M : Type 1} → statement M
 run-spec =

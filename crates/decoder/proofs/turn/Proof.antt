@@ -3,8 +3,7 @@ use Prim.Native.Nat.{_*_, _≤_}
 use mathlib.Core.Path.{_≡_, refl, sym, _∙_, subst}
 use native.Mathlib.Omega.{arith}
 use lib.ListN.{length}
-use Rattle.model.specs.Shelf.{kindOf}
-use Rattle.packing.specs.Unlay.{bitsIn}
+use Rattle.packing.specs.Unlay.{payloadBits}
 use Rattle.work.specs.Area.{region}
 use Rattle.work.proofs.Regions.{length-region}
 use Rattle.decoder.specs.declared.Cursor.{Cursor}
@@ -12,13 +11,13 @@ use Rattle.decoder.specs.States.{Turned}
 use Rattle.decoder.proofs.Cursors.{BitRead, bit-read, bit-end}
 use Rattle.decoder.proofs.Moves.{open-left, label-left, finishing, at-root}
 use Rattle.decoder.proofs.Turning.{before-moved, ready, rise-turn}
-use Rattle.unpacker.proofs.Payload.{sizes}
+use Rattle.unpacker.proofs.Payload.{bit-count}
 use borrow.Author.Needs.{needs}
 use Rattle.decoder.proofs.turn.Statement.{statement}
 use Rattle.decoder.proofs.turn.Tie as tie
 
-bit-count : (c : tie.Start) → length (bitsIn (c .args .bytes .now)) ≡ 2 * c .args .m
-bit-count c = sizes _ (kindOf (c .args .bytes .now)) _ (c .pre .0 .0, refl, c .pre .0 .1) .bit-count
+bits-are : (c : tie.Start) → length (payloadBits (c .args .m) (c .args .payload .now)) ≡ 2 * c .args .m
+bits-are c = bit-count _ _ (c .pre .0)
 
 label-count : (c : tie.Start) → length (region (18 * c .args .m) (c .args .m) (c .args .w .now)) ≡ c .args .m
 label-count c = length-region _ _ _ (let r = c .pre .1 .stands .room in omega arith)
@@ -26,12 +25,12 @@ label-count c = length-region _ _ _ (let r = c .pre .1 .stands .room in omega ar
 one-read : (c : tie.After-known-told) →
     let a = c .before .before .before .before .before .before .before .args in
     let g = c .before .b .given in
-    BitRead (bitsIn (a .bytes .now)) (a .c) (g .0 .0) (g .0 .1 .0)
+    BitRead (payloadBits (a .m) (a .payload .now)) (a .c) (g .0 .0) (g .0 .1 .0)
 one-read c = let b = c .before .before .before .bit in bit-read _ _ (b .result) _ _ (b .ensures) (c .before .b .given .1)
 
 none-left : (c : tie.After-enum-told) →
     let a = c .before .before .before .before .before .before .args in
-    length (bitsIn (a .bytes .now)) ≤ a .c .bits
+    length (payloadBits (a .m) (a .payload .now)) ≤ a .c .bits
 none-left c = let b = c .before .before .bit in bit-end _ _ (b .result) (b .ensures) (c .enum-told .given .1)
 
 returns : tie.Need-returns
@@ -45,21 +44,21 @@ returns-3 : tie.Need-returns-3
 unfolding Turned
 returns-3 c =
     let st = c .before .before .before .before .before .before .before .before in
-    let z = bit-count st in let y = label-count st in
+    let z = bits-are st in let y = label-count st in
     (label-left _ _ _ _ _ _ (c .before .before .before .before .before .if1 .left) (none-left (c .before .before)) (omega arith), refl)
 
 returns-4 : tie.Need-returns-4
 unfolding Turned
 returns-4 c =
     let st = c .before .before .before .before .before .before .before .before in
-    let z = bit-count st in let y = label-count st in
+    let z = bits-are st in let y = label-count st in
     let q = none-left (c .before .before) in
     (finishing _ _ _ _ _ _ (c .before .before .before .before .before .if1 .left) q (omega arith) (omega arith) (omega arith), refl)
 
 descend-requires : tie.Need-descend-requires
 descend-requires c κs =
     let st = c .before .before .before .before .before .before .before .before .before in
-    let z = bit-count st in
+    let z = bits-are st in
     let r = ready _ _ _ _ _ _ _ z (st .pre .1) (one-read (c .before .before)) (c .before .if4 .taken) in
     (st .pre .0, (r, c .before .before .before .before .before .before .if1 .left))
 
@@ -68,7 +67,7 @@ returns-5 c =
     let a = c .before .before .before .before .before .before .before .before .before .before .before .before .args in
     let d = c .before .before .descend in
     let ls = region (18 * a .m) (a .m) (a .w .now) in
-    subst (λ (x : Cursor). Turned (a .m) (bitsIn (a .bytes .now)) ls (a .w .now) (a .s) x (d .result) (d .last .1 .1 .0))
+    subst (λ (x : Cursor). Turned (a .m) (payloadBits (a .m) (a .payload .now)) ls (a .w .now) (a .s) x (d .result) (d .last .1 .1 .0))
     (before-moved _ _ (one-read (c .before .before .before .before .before) .2)) (d .ensures)
 
 returns-6 : tie.Need-returns-6
@@ -85,7 +84,7 @@ returns-7 : tie.Need-returns-7
 unfolding Turned
 returns-7 c =
     let st = c .before .before .before .before .before .before .before .before .before .before .before .before .before in
-    let z = bit-count st in
+    let z = bits-are st in
     let t = c .before .before .before .before .before .before .before .before .before .before .if1 .left in
     let r = one-read (c .before .before .before .before .before .before) in
     rise-turn _ _ _ _ _ _ t z refl (st .pre .1) _ _ r (c .before .before .before .before .before .if4 .left) (c .before .before .before .before .if5 .left) _ _

@@ -1,13 +1,18 @@
 -- `read_core`: the checks, and the plan that the decoder leaves.
+use Prim.Native.Nat.{_*_}
 use mathlib.Core.Path.{_≡_, sym, _∙_}
 use mathlib.Core.Bool.{true}
 use native.Mathlib.Omega.{arith}
 use lib.ListN.{length}
 use Rattle.model.specs.Numbers.{allBelow}
+use Rattle.model.specs.Shelf.{edgesOf}
 use Rattle.model.specs.Calls.{readRefusal}
+use Rattle.coding.specs.Decode.{decodeRecord}
+use Rattle.decoder.specs.Decoded.{Answered}
 use Rattle.packing.proofs.Below.{at-below}
 use Rattle.packing.proofs.Head.{passes-facts}
 use Rattle.reading.proofs.Checks.{Early, early-facts}
+use Rattle.reading.proofs.Payloads.{payload-sized, record-decoded}
 use Rattle.reading.proofs.Outcomes.{core-refused, core-unreadable, core-read}
 use borrow.Author.Needs.{needs}
 use Rattle.reading.proofs.read_core.Statement.{statement}
@@ -31,22 +36,37 @@ field-requires c κs = let l = passes-facts _ (checked c .passed) .whole-head in
 field-requires-2 : tie.Need-field-requires-2
 field-requires-2 c κs = let l = passes-facts _ (checked (c .before) .passed) .whole-head in omega arith
 
+sub-decode : tie.Need-sub-decode
+sub-decode c = let l = passes-facts _ (checked (c .before .before) .passed) .whole-head in omega arith
+
+part-decode-start : tie.Need-part-decode-start
+part-decode-start c = let l = passes-facts _ (checked (c .before .before) .passed) .whole-head in omega arith
+
+part-decode-end : tie.Need-part-decode-end
+part-decode-end c = let l = passes-facts _ (checked (c .before .before) .passed) .whole-head in omega arith
+
 decode-requires : tie.Need-decode-requires
 decode-requires c κs =
-    let at = c .before .before .before in
+    let at = c .before .before .before .before in
     let e = checked at in
-    ((e .passed, c .before .before .field .ensures, c .before .field2 .ensures), omega arith)
+    (payload-sized _ _ _ (e .passed) (c .before .before .before .field .ensures) (c .before .before .field2 .ensures), omega arith)
+
+decoded : (c : tie.After-decode) → let a = c .before .before .before .before .before .before .before .before .before .args in
+    Answered (decodeRecord (a .«record» .now)) (2 * edgesOf (a .«record» .now)) (c .decode .result) (c .decode .last .1 .1 .1 .0)
+decoded c =
+    let at = c .before .before .before .before .before in
+    record-decoded _ _ _ (checked at .passed) (c .before .before .before .before .field .ensures) (c .before .before .before .field2 .ensures) _ _ (c .decode .ensures)
 
 returns-2 : tie.Need-returns-2
 returns-2 c =
     let d = c .before .before .before in
-    let at = d .before .before .before .before in
-    core-read _ _ (clear at) _ _ (d .decode .ensures) (bytes at) _ (d .before .before .field2 .ensures) (c .if2 .taken)
+    let at = d .before .before .before .before .before in
+    core-read _ _ (clear at) _ _ (decoded d) (d .decode .kept .1 .1 .1 .0) (bytes at) _ (d .before .before .before .field2 .ensures) (c .if2 .taken)
 
 returns-3 : tie.Need-returns-3
 returns-3 c =
     let d = c .before .before .before in
-    core-unreadable _ _ (clear (d .before .before .before .before)) _ _ (d .decode .ensures) (c .if2 .left)
+    core-unreadable _ _ (clear (d .before .before .before .before .before)) _ _ (decoded d) (d .decode .kept .1 .1 .1 .0) (c .if2 .left)
 
 pub read-core-spec : {M : Type 1} → statement M
 read-core-spec =
@@ -56,6 +76,9 @@ read-core-spec =
     returns
     field-requires
     field-requires-2
+    sub-decode
+    part-decode-start
+    part-decode-end
     (λ c. search needs)
     decode-requires
     (λ c. search needs)

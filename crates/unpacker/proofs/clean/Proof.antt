@@ -1,24 +1,17 @@
--- `clean`: padding bits and fill labels are 0, and the groups fit. Assumes nothing.
 use mathlib.Core.Path.{sym, _∙_}
 use native.Mathlib.Omega.{arith}
 use borrow.Author.Tests.{not-true, not-false}
-use Rattle.unpacker.proofs.Payload.{KindOne, one, KindTwo, two}
-use Rattle.unpacker.proofs.Readable.{readable-one, readable-two}
+use Rattle.unpacker.proofs.Payload.{KindOne, one, KindTwo, two, other-kind, of-kind}
+use Rattle.unpacker.proofs.Padding.{clean-one, clean-two}
 use borrow.Author.Needs.{needs}
 use Rattle.unpacker.proofs.clean.Statement.{statement}
 use Rattle.unpacker.proofs.clean.Tie as tie
 
-in-one : (c : tie.Then1) → KindOne (c .before .before .args .bytes .now) (c .before .before .args .m)
-in-one c = one _ _ _ (c .before .before .pre) (c .if1 .taken)
+in-one : (c : tie.Then1) → KindOne (c .before .before .args .payload .now) (c .before .before .args .m)
+in-one c = one _ _ (of-kind _ _ _ _ (c .if1 .taken) (c .before .before .pre))
 
-in-two : (c : tie.Else1) → KindTwo (c .before .before .args .bytes .now) (c .before .before .args .m)
-in-two c = two _ _ _ (c .before .before .pre) (c .if1 .left)
-
-mul-zero-bits : tie.Need-mul-zero-bits
-mul-zero-bits c = let z = in-one c in omega arith
-
-add-zero-bits : tie.Need-add-zero-bits
-add-zero-bits c = let z = in-one c in omega arith
+in-two : (c : tie.Else1) → KindTwo (c .before .before .args .payload .now) (c .before .before .args .m)
+in-two c = let h = c .before .before .pre in two _ _ (of-kind _ _ _ _ (other-kind _ _ _ h (c .if1 .left)) h)
 
 mul-zero-bits-2 : tie.Need-mul-zero-bits-2
 mul-zero-bits-2 c = let z = in-one c in omega arith
@@ -27,22 +20,7 @@ zero-bits-requires : tie.Need-zero-bits-requires
 zero-bits-requires c κs = let z = in-one c in omega arith
 
 returns : tie.Need-returns
-returns c = c .zero-bits .ensures ∙ readable-one _ _ _ (c .before .before .before .pre) (c .before .if1 .taken)
-
-mul-from : tie.Need-mul-from
-mul-from c = let z = in-two c in omega arith
-
-add-from : tie.Need-add-from
-add-from c = let z = in-two c in omega arith
-
-mul-zero-bits-3 : tie.Need-mul-zero-bits-3
-mul-zero-bits-3 c = let z = in-two c in omega arith
-
-add-zero-bits-2 : tie.Need-add-zero-bits-2
-add-zero-bits-2 c = let z = in-two c in omega arith
-
-mul-zero-bits-4 : tie.Need-mul-zero-bits-4
-mul-zero-bits-4 c = let z = in-two c in omega arith
+returns c = c .zero-bits .ensures ∙ clean-one _ _ _ (c .before .if1 .taken)
 
 zero-bits-requires-2 : tie.Need-zero-bits-requires-2
 zero-bits-requires-2 c κs = let z = in-two c in omega arith
@@ -50,13 +28,13 @@ zero-bits-requires-2 c κs = let z = in-two c in omega arith
 returns-2 : tie.Need-returns-2
 returns-2 c =
     let p = sym (c .before .zero-bits2 .ensures) ∙ not-true _ (c .if2 .taken) in
-    rw (readable-two _ _ _ (c .before .before .before .before .pre) (c .before .before .if1 .left), p)
+    rw (clean-two _ _ _ (c .before .before .before .before .pre) (c .before .before .if1 .left), p)
 
 returns-3 : tie.Need-returns-3
 returns-3 c =
     let p = sym (c .before .before .before .zero-bits2 .ensures) ∙ not-false _ (c .before .before .if2 .left) in
     let q = sym (c .before .groups-fit .ensures) ∙ not-true _ (c .if3 .taken) in
-    rw (readable-two _ _ _ (c .before .before .before .before .before .before .pre) (c .before .before .before .before .if1 .left), p, q)
+    rw (clean-two _ _ _ (c .before .before .before .before .before .before .pre) (c .before .before .before .before .if1 .left), p, q)
 
 zero-labels-requires : tie.Need-zero-labels-requires
 zero-labels-requires c κs = let z = in-two (c .before .before .before .before) in (omega arith, omega arith)
@@ -65,24 +43,20 @@ returns-4 : tie.Need-returns-4
 returns-4 c =
     let p = sym (c .before .before .before .before .zero-bits2 .ensures) ∙ not-false _ (c .before .before .before .if2 .left) in
     let q = sym (c .before .before .groups-fit .ensures) ∙ not-false _ (c .before .if3 .left) in
-    let k = c .before .before .before .before .before .if1 .left in
-    rw (readable-two _ _ _ (c .before .before .before .before .before .before .before .pre) k, p, q) (c .zero-labels .ensures)
+    rw (clean-two _ _ _ (c .before .before .before .before .before .before .before .pre) (c .before .before .before .before .before .if1 .left), p, q) (c .zero-labels .ensures)
 
 pub clean-spec : {M : Type 1} → statement M
 clean-spec =
     tie.close
     (tie.spec
-    mul-zero-bits
-    add-zero-bits
+    (λ c. search needs)
     mul-zero-bits-2
     zero-bits-requires
     returns
-    mul-from
-    add-from
     (λ c. search needs)
-    mul-zero-bits-3
-    add-zero-bits-2
-    mul-zero-bits-4
+    (λ c. search needs)
+    (λ c. search needs)
+    (λ c. search needs)
     zero-bits-requires-2
     returns-2
     (λ c κs. search needs)

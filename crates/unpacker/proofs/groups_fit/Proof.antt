@@ -1,4 +1,3 @@
--- `groups_fit`: no byte from a place on is above 242. Assumes nothing.
 use Prim.Native.Nat.{_-_}
 use mathlib.Core.Path.{_≡_, refl, sym, _∙_}
 use native.Mathlib.Omega.{arith}

@@ -1,4 +1,3 @@
--- `put_group`: five stores. Assumes nothing.
 use native.Mathlib.Omega.{arith}
 use lib.ListN.{length-set}
 use Rattle.unpacker.proofs.Labels.{five}

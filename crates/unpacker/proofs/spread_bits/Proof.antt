@@ -1,9 +1,8 @@
--- `spread_bits`: the labels of kind 1, copied one by one. Assumes nothing.
 use Prim.Native.Nat.{_-_, _*_, _≤_}
 use mathlib.Core.Path.{_≡_, refl, _∙_}
 use native.Mathlib.Omega.{arith}
 use lib.ListN.{length, take, length-set}
-use Rattle.packing.specs.Unlay.{labelsIn}
+use Rattle.packing.specs.Unlay.{payloadLabels}
 use Rattle.work.specs.Area.{region}
 use Rattle.unpacker.proofs.Payload.{KindOne, one, label-one}
 use Rattle.unpacker.proofs.Labels.{labels-start, label-on, labels-end}
@@ -12,52 +11,31 @@ use Rattle.unpacker.proofs.spread_bits.Statement.{statement}
 use Rattle.unpacker.proofs.spread_bits.Tie as tie
 
 abbrev Inv-loop : tie.InvT-loop
-Inv-loop bytes m w₀ i₀ w i = (i ≤ m) × (length w ≡ length w₀) × (region (18 * m) i w ≡ take i (labelsIn bytes))
+Inv-loop payload m w₀ i₀ w i = (i ≤ m) × (length w ≡ length w₀) × (region (18 * m) i w ≡ take i (payloadLabels 1 m payload))
 
 abbrev μ-loop : tie.MeasureT-loop
-μ-loop bytes m w₀ i₀ w i = m - i
+μ-loop payload m w₀ i₀ w i = m - i
 
-facts : (c : tie.Start Inv-loop μ-loop) → KindOne (c .args .bytes .now) (c .args .m)
-facts c = one _ _ _ (c .pre .0) refl
+facts : (c : tie.Start Inv-loop μ-loop) → KindOne (c .args .payload .now) (c .args .m)
+facts c = one _ _ (c .pre .0)
 
 loop-holds : tie.Need-loop-holds Inv-loop μ-loop
 loop-holds c =
     let a = c .before .before .args in
-    (omega arith, refl, labels-start (18 * a .m) (labelsIn (a .bytes .now)) (a .w .now))
-
-mul-bit-at : tie.Need-mul-bit-at Inv-loop μ-loop
-mul-bit-at c = let z = facts (c .before .before .before .before) in omega arith
-
-add-bit-at : tie.Need-add-bit-at Inv-loop μ-loop
-add-bit-at c = let z = facts (c .before .before .before .before) in omega arith
-
-add-bit-at-2 : tie.Need-add-bit-at-2 Inv-loop μ-loop
-add-bit-at-2 c = let z = facts (c .before .before .before .before) in omega arith
+    (omega arith, refl, labels-start (18 * a .m) (payloadLabels 1 (a .m) (a .payload .now)) (a .w .now))
 
 bit-at-requires : tie.Need-bit-at-requires Inv-loop μ-loop
 bit-at-requires c κs = let z = facts (c .before .before .before .before) in omega arith
 
-mul-w : tie.Need-mul-w Inv-loop μ-loop
-mul-w c = let z = facts (c .before .before .before .before .before) in omega arith
-
-add-w : tie.Need-add-w Inv-loop μ-loop
-add-w c = let z = facts (c .before .before .before .before .before) in omega arith
-
-mul-w-2 : tie.Need-mul-w-2 Inv-loop μ-loop
-mul-w-2 c = let z = facts (c .before .before .before .before .before) in omega arith
-
 slice-write-w : tie.Need-slice-write-w Inv-loop μ-loop
 slice-write-w c = let h = c .before .before .before .before .before .pre .1 in let k = c .before .before .loop .inv .1 in omega arith
-
-add-i : tie.Need-add-i Inv-loop μ-loop
-add-i c = let z = facts (c .before .before .before .before .before) in omega arith
 
 loop-again : tie.Need-loop-again Inv-loop μ-loop
 loop-again c =
     let st = c .before .before .before .before .before in
     let z = facts st in let h = st .pre .1 in
     let at = c .before .before .loop in let k = at .inv .1 in
-    let l = c .bit-at .ensures ∙ label-one _ _ _ (st .pre .0) (at .i) refl (c .before .loop-test .taken) in
+    let l = c .bit-at .ensures ∙ label-one _ _ (at .i) (c .before .loop-test .taken) in
     (omega arith, simp length-set k, label-on _ _ _ _ _ (omega arith) (omega arith) l (at .inv .2))
 
 returns : tie.Need-returns Inv-loop μ-loop
@@ -72,16 +50,15 @@ spread-bits-spec =
     Inv-loop
     μ-loop
     loop-holds
-    mul-bit-at
-    add-bit-at
-    add-bit-at-2
+    (λ c. search needs)
+    (λ c. search needs)
     bit-at-requires
     (λ c. search needs)
-    mul-w
-    add-w
-    mul-w-2
+    (λ c. search needs)
+    (λ c. search needs)
+    (λ c. search needs)
     slice-write-w
-    add-i
+    (λ c. search needs)
     (λ c. search needs)
     loop-again
     (λ c. search needs)

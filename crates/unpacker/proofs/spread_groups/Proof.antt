@@ -1,4 +1,3 @@
--- `spread_groups`: the labels of kind 2, copied group by group. Assumes nothing.
 use Prim.Native.Nat.{_+_, _-_, _*_, _/_, _≤_}
 use mathlib.Core.Path.{_≡_, refl, ap, _∙_}
 use native.Mathlib.Omega.{arith}
@@ -12,23 +11,14 @@ use Rattle.unpacker.proofs.spread_groups.Statement.{statement}
 use Rattle.unpacker.proofs.spread_groups.Tie as tie
 
 abbrev Inv-loop : tie.InvT-loop
-Inv-loop bytes m w₀ from count i₀ w i =
-    (i ≤ (m + 4) / 5) × (length w ≡ length w₀) × (region (18 * m) (5 * i) w ≡ groups (take i (drop (6 + (2 * m + 7) / 8) bytes)))
+Inv-loop payload m w₀ from count i₀ w i =
+    (i ≤ (m + 4) / 5) × (length w ≡ length w₀) × (region (18 * m) (5 * i) w ≡ groups (take i (drop ((2 * m + 7) / 8) payload)))
 
 abbrev μ-loop : tie.MeasureT-loop
-μ-loop bytes m w₀ from count i₀ w i = (m + 4) / 5 - i
+μ-loop payload m w₀ from count i₀ w i = (m + 4) / 5 - i
 
-facts : (c : tie.Start Inv-loop μ-loop) → KindTwo (c .args .bytes .now) (c .args .m)
-facts c = two _ _ _ (c .pre .0) (λ e. let z : ⊥ = omega arith in z)
-
-mul-from : tie.Need-mul-from Inv-loop μ-loop
-mul-from c = let z = facts (c .before .before) in omega arith
-
-add-from : tie.Need-add-from Inv-loop μ-loop
-add-from c = let z = facts (c .before .before) in omega arith
-
-add-from-2 : tie.Need-add-from-2 Inv-loop μ-loop
-add-from-2 c = let z = facts (c .before .before) in omega arith
+facts : (c : tie.Start Inv-loop μ-loop) → KindTwo (c .args .payload .now) (c .args .m)
+facts c = two _ _ (c .pre .0)
 
 sub-count : tie.Need-sub-count Inv-loop μ-loop
 sub-count c = let z = facts (c .before .before) in omega arith
@@ -36,19 +26,13 @@ sub-count c = let z = facts (c .before .before) in omega arith
 loop-holds : tie.Need-loop-holds Inv-loop μ-loop
 loop-holds c =
     let a = c .before .before .args in
-    (omega arith, refl, groups-start (18 * a .m) (6 + (2 * a .m + 7) / 8) (a .bytes .now) (a .w .now))
+    (omega arith, refl, groups-start (18 * a .m) ((2 * a .m + 7) / 8) (a .payload .now) (a .w .now))
 
 add-group : tie.Need-add-group Inv-loop μ-loop
 add-group c = let z = facts (c .before .before .before .before) in omega arith
 
 shared-slice-read-group : tie.Need-shared-slice-read-group Inv-loop μ-loop
 shared-slice-read-group c = let z = facts (c .before .before .before .before .before) in omega arith
-
-mul-put-group : tie.Need-mul-put-group Inv-loop μ-loop
-mul-put-group c = let z = facts (c .before .before .before .before .before .before) in omega arith
-
-mul-put-group-2 : tie.Need-mul-put-group-2 Inv-loop μ-loop
-mul-put-group-2 c = let z = facts (c .before .before .before .before .before .before) in omega arith
 
 add-put-group : tie.Need-add-put-group Inv-loop μ-loop
 add-put-group c = let z = facts (c .before .before .before .before .before .before) in omega arith
@@ -73,15 +57,15 @@ loop-again c =
       omega arith,
       p .kept .0 ∙ k,
       ap (region (18 * st .args .m) (5 * (at .i + 1))) (p .ensures)
-          ∙ group-on (18 * st .args .m) (6 + (2 * st .args .m + 7) / 8) (st .args .bytes .now) (at .w) (at .i) (omega arith) (omega arith) (at .inv .2),
+          ∙ group-on (18 * st .args .m) ((2 * st .args .m + 7) / 8) (st .args .payload .now) (at .w) (at .i) (omega arith) (omega arith) (at .inv .2),
     )
 
 returns : tie.Need-returns Inv-loop μ-loop
 returns c =
     let st = c .before .before .before .before in
     let y = facts st in let at = c .before .loop in
-    groups-end (18 * st .args .m) (6 + (2 * st .args .m + 7) / 8) (st .args .bytes .now) (at .w) (at .i) (st .args .m) (omega arith) (omega arith) (at .inv .2)
-    ∙ labels-two _ _ _ (st .pre .0) (λ e. let z : ⊥ = omega arith in z)
+    groups-end (18 * st .args .m) ((2 * st .args .m + 7) / 8) (st .args .payload .now) (at .w) (at .i) (st .args .m) (omega arith) (omega arith) (at .inv .2)
+    ∙ labels-two _ _
 
 pub spread-groups-spec : {M : Type 1} → statement M
 spread-groups-spec =
@@ -89,15 +73,14 @@ spread-groups-spec =
     (tie.spec
     Inv-loop
     μ-loop
-    mul-from
-    add-from
-    add-from-2
+    (λ c. search needs)
+    (λ c. search needs)
     sub-count
     loop-holds
     add-group
     shared-slice-read-group
-    mul-put-group
-    mul-put-group-2
+    (λ c. search needs)
+    (λ c. search needs)
     add-put-group
     put-group-requires
     add-i

@@ -1,11 +1,10 @@
--- `zero_bits`: every bit from a place up to another is 0. Assumes nothing.
 use Prim.Native.Nat.{_-_}
 use mathlib.Core.Path.{_≡_, refl, sym, _∙_}
 use native.Mathlib.Omega.{arith}
 use lib.ListN.{take, drop}
 use Rattle.model.specs.Numbers.{allBelow}
 use Rattle.packing.specs.Unpack.{bits}
-use Rattle.unpacker.proofs.Readable.{bits-next, bits-stop, bits-end}
+use Rattle.unpacker.proofs.Padding.{bits-next, bits-stop, bits-end}
 use borrow.Author.Needs.{needs}
 use Rattle.unpacker.proofs.zero_bits.Statement.{statement}
 use Rattle.unpacker.proofs.zero_bits.Tie as tie

@@ -1,19 +1,18 @@
--- `zero_labels`: every label from number m on is 0. Assumes nothing.
 use Prim.Native.Nat.{_-_, _*_}
 use mathlib.Core.Path.{_≡_, refl, sym, _∙_}
 use native.Mathlib.Omega.{arith}
 use lib.ListN.{length, drop}
 use Rattle.model.specs.Numbers.{allBelow}
-use Rattle.bits.specs.Places.{labelsFrom}
+use Rattle.packing.specs.Unpack.{groups}
 use Rattle.model.proofs.Below.{below-next, below-stop, below-end}
-use Rattle.unpacker.proofs.Readable.{length-labels}
+use Rattle.unpacker.proofs.Padding.{length-labels}
 use borrow.Author.Needs.{needs}
 use Rattle.unpacker.proofs.zero_labels.Statement.{statement}
 use Rattle.unpacker.proofs.zero_labels.Tie as tie
 
 abbrev Inv-loop : tie.InvT-loop
 Inv-loop bytes from m end k₀ k =
-    (end ≡ 5 * (length bytes - from)) × (allBelow 1 (drop k (labelsFrom bytes from)) ≡ allBelow 1 (drop m (labelsFrom bytes from)))
+    (end ≡ 5 * (length bytes - from)) × (allBelow 1 (drop k (groups (drop from bytes))) ≡ allBelow 1 (drop m (groups (drop from bytes))))
 
 abbrev μ-loop : tie.MeasureT-loop
 μ-loop bytes from m end k₀ k = end - k

@@ -1,0 +1,66 @@
+-- Whether a payload is as it is laid out: padding bits and fill labels are 0, groups fit. Assumes nothing.
+--
+--   length-labels         how many labels the bytes from a place on hold
+--   bits-next, bits-stop, bits-end   the bits from a place up to another are all 0, bit by bit
+--   clean-one, clean-two   what makes a payload of kind 1, and of kind 2, clean
+use Prim.Native.Nat.{ℕ, _+_, _-_, _*_, _/_, _≤_, _<_}
+use native.Mathlib.Omega.{arith}
+use mathlib.Core.Path.{_≡_, sym, ap, _∙_}
+use mathlib.Core.Logic.{_≢_}
+use mathlib.Core.Bool.{true, false, _&&_}
+use mathlib.Core.List.{List, _++_}
+use lib.ListN.{length, getD, take, drop, length-drop, take-append-drop}
+use lib.Seq.{take-all, take-at, length-take-le, getD-take}
+use borrow.Author.Tests.{ne-eqb}
+use Rattle.model.specs.Numbers.{allBelow}
+use Rattle.model.proofs.Below.{below-next, below-stop, below-end}
+use Rattle.packing.specs.Unpack.{bits, groups}
+use Rattle.packing.specs.Unlay.{payloadClean}
+use Rattle.packing.proofs.Packed.{length-unpack, unpack-append}
+use Rattle.unpacker.specs.Unpacked.{Sized}
+use Rattle.unpacker.proofs.Payload.{length-bits, two, other-kind, of-kind}
+
+-- ---- bits and labels of bytes
+
+pub length-labels : (s : List ℕ) (from : ℕ) → length (groups (drop from s)) ≡ 5 * (length s - from)
+unfolding groups
+length-labels s from = let e = length-unpack 3 5 (length (drop from s)) (drop from s) in let d = length-drop from s in omega arith
+
+module _ (s : List ℕ) (to k : ℕ) (t : to ≤ 8 * length s) where
+  window : length (take to (bits s)) ≡ to
+  window = length-take-le to (bits s) (let e = length-bits s in omega arith)
+
+  pub bits-next : k < to → getD (bits s) k 0 ≡ 0 → allBelow 1 (drop k (take to (bits s))) ≡ allBelow 1 (drop (k + 1) (take to (bits s)))
+  bits-next h z = let e = window in let g = getD-take to (bits s) k 0 h in below-next 1 (take to (bits s)) k (omega arith) (omega arith)
+
+  pub bits-stop : k < to → getD (bits s) k 0 ≢ 0 → allBelow 1 (drop k (take to (bits s))) ≡ false
+  bits-stop h z = let e = window in let g = getD-take to (bits s) k 0 h in below-stop 1 (take to (bits s)) k (omega arith) (omega arith)
+
+  pub bits-end : to ≤ k → allBelow 1 (drop k (take to (bits s))) ≡ true
+  bits-end h = let e = window in below-end 1 (take to (bits s)) k (omega arith)
+
+bits-take : (n : ℕ) (s : List ℕ) → n ≤ length s → take (8 * n) (bits s) ≡ bits (take n s)
+unfolding bits
+bits-take n s h =
+    let e = length-bits (take n s) in let l = length-take-le n s h in
+    ap (take (8 * n)) parts ∙ take-at (bits (take n s)) (bits (drop n s)) (8 * n) (omega arith)
+  where
+    parts : bits s ≡ bits (take n s) ++ bits (drop n s)
+    parts = ap bits (sym (take-append-drop n s)) ∙ unpack-append 2 8 (take n s) (drop n s)
+
+-- ---- clean payloads
+
+module _ (k m : ℕ) (ps : List ℕ) where
+  pub clean-one : k ≡ 1 → allBelow 1 (drop (3 * m) (take (8 * length ps) (bits ps))) ≡ payloadClean k m ps
+  unfolding payloadClean
+  clean-one e =
+      let l = length-bits ps in
+      rw e (ap (λ (ds : List ℕ). allBelow 1 (drop (3 * m) ds)) (take-all (8 * length ps) (bits ps) (omega arith)))
+
+  pub clean-two : Sized ps k m → k ≢ 1 → payloadClean k m ps
+      ≡ (allBelow 1 (drop (2 * m) (take (8 * ((2 * m + 7) / 8)) (bits ps)))
+      && (allBelow 243 (drop ((2 * m + 7) / 8) ps) && allBelow 1 (drop m (groups (drop ((2 * m + 7) / 8) ps)))))
+  unfolding payloadClean
+  clean-two h e =
+      let z = two ps m (of-kind ps m k 2 (other-kind ps m k h e) h) in
+      rw (ne-eqb k 1 e, bits-take ((2 * m + 7) / 8) ps (omega arith))
