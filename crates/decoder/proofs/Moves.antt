@@ -22,9 +22,11 @@ use Rattle.model.proofs.Opposite.{opposite-even, opposite-odd}
 use Rattle.words.specs.Word.{Machine, goes, done, stuck, turn, wordDarts, placeOf}
 use Rattle.machine.proofs.Turns.{turn-close, stuck-none, stuck-early, turn-up, stuck-root, turn-done, stuck-left}
 use Rattle.machine.proofs.Turns.{turn-star, turn-back, turn-tree, stuck-bit, stuck-label}
+use Rattle.work.specs.Map.{LABELS, BELOW, TREES, BEGUN, OPENS}
 use Rattle.work.specs.Area.{region, stack}
 use Rattle.work.proofs.Regions.{getD-region}
 use Rattle.work.proofs.Stacks.{length-stack, stack-pop}
+use Rattle.unpacker.specs.Unpacked.{labelsAt}
 use Rattle.decoder.specs.declared.Cursor.{Cursor}
 use Rattle.decoder.specs.declared.State.{State}
 use Rattle.decoder.specs.States.{labelsOf, machineOf, outcome, before, Fits, Room, Ready, Moved, lastOpen, lastTree}
@@ -42,8 +44,8 @@ rest-none [] (suc k) h = refl
 rest-none (x ∷ xs) zero h = absurd (omega arith)
 rest-none (x ∷ xs) (suc k) h = rest-none xs k (omega arith)
 
-label-at : (m : ℕ) (w ls : List ℕ) (e : ℕ) → region (18 * m) m w ≡ ls → e < m → getD w (18 * m + e) 0 ≡ getD ls e 0
-label-at m w ls e l h = sym (getD-region (18 * m) m w e h) ∙ ap (λ (r : List ℕ). getD r e 0) l
+label-at : (m : ℕ) (w ls : List ℕ) (e : ℕ) → labelsAt m w ≡ ls → e < m → getD w (LABELS * (2 * m) + e) 0 ≡ getD ls e 0
+label-at m w ls e l h = sym (getD-region (LABELS * (2 * m)) m w e h) ∙ ap (λ (r : List ℕ). getD r e 0) l
 
 -- ---- an edge of label 1 has ended
 
@@ -56,23 +58,23 @@ module _ (m : ℕ) (bs ls w : List ℕ) (s : State) (c : Cursor) where
   empty t e = stuck-none machine t (rw e)
 
   module _ (t : s .label ≡ 1) (h : 0 < s .opens) where
-    pub early : getD w (14 * m + (s .opens - 1)) 0 ≤ s .here → turn machine ≡ stuck
+    pub early : getD w (BEGUN * (2 * m) + (s .opens - 1)) 0 ≤ s .here → turn machine ≡ stuck
     unfolding machineOf
-    early l = stuck-early machine _ _ t (stack-pop (14 * m) (s .opens) w h) l
+    early l = stuck-early machine _ _ t (stack-pop (BEGUN * (2 * m)) (s .opens) w h) l
 
-    pub closing : region (18 * m) m w ≡ ls → Fits m w s c → s .here < getD w (14 * m + (s .opens - 1)) 0
+    pub closing : labelsAt m w ≡ ls → Fits m w s c → s .here < getD w (BEGUN * (2 * m) + (s .opens - 1)) 0
         → Moved m bs ls w s c (closedState m w s) c (closedArea m w s)
     unfolding machineOf labelsOf outcome wordDarts placeOf
     closing z f l =
         let g = f .stands in let few = g .few-open in
         let e = lastOpen m w s in
-        let top = stack-pop (16 * m) (s .opens) w h in
-        let small = all-first m (16 * m) (s .opens) w h (g .seconds-in) in
+        let top = stack-pop (OPENS * (2 * m)) (s .opens) w h in
+        let small = all-first m (OPENS * (2 * m)) (s .opens) w h (g .seconds-in) in
         let q = f .edges in
         let a = entered m (s .depth) (s .opens - 1) w _ _ _ _ _ _ _ (seen m (s .depth) (s .opens - 1) w) (s .place) (2 * e + 1) (g .place-in) in
         record {
           letters = second ∷ [];
-          turns = turn-close machine _ _ t (stack-pop (14 * m) (s .opens) w h) l
+          turns = turn-close machine _ _ t (stack-pop (BEGUN * (2 * m)) (s .opens) w h) l
               ∙ ap (goes (second ∷ [])) (rw (top, a .below-is, a .trees-are, a .opens-are, a .seconds-are, label-at m w ls e z small));
           built = λ v. rw (a .trees-are, a .seconds-are, a .rotation, top) (linked-step (s .place) _ second v _ _ (region 0 (2 * m) w) refl);
           fits = record {
@@ -82,7 +84,7 @@ module _ (m : ℕ) (bs ls w : List ℕ) (s : State) (c : Cursor) where
               few-open = omega arith;
               place-in = omega arith;
               trees-in = rw (a .trees-are) (g .trees-in);
-              seconds-in = rw (a .seconds-are) (all-rest m (16 * m) (s .opens) w h (g .seconds-in));
+              seconds-in = rw (a .seconds-are) (all-rest m (OPENS * (2 * m)) (s .opens) w h (g .seconds-in));
             };
             bits-in = f .bits-in;
             labels-in = f .labels-in;
@@ -103,19 +105,19 @@ module _ (m : ℕ) (bs ls w : List ℕ) (s : State) (c : Cursor) (t : s .label �
   unfolding machineOf stack
   at-root e = stuck-root (machine m bs ls w s c) (drop (c .bits + 1) bs) t zero-next (rw e)
 
-  pub rising : length bs ≡ 2 * m → region (18 * m) m w ≡ ls → Fits m w s c → 0 < s .depth
+  pub rising : length bs ≡ 2 * m → labelsAt m w ≡ ls → Fits m w s c → 0 < s .depth
       → Moved m bs ls w s c (risenState m w s) (record { bits = c .bits + 1; labels = c .labels }) (risenArea m w s)
   unfolding machineOf labelsOf outcome wordDarts placeOf
   rising p y f h =
       let g = f .stands in let few = g .few-open in
       let e = lastTree m w s in
-      let top = stack-pop (12 * m) (s .depth) w h in
-      let small = all-first m (12 * m) (s .depth) w h (g .trees-in) in
+      let top = stack-pop (TREES * (2 * m)) (s .depth) w h in
+      let small = all-first m (TREES * (2 * m)) (s .depth) w h (g .trees-in) in
       let q = f .edges in
       let a = entered m (s .depth - 1) (s .opens) w _ _ _ _ _ _ _ (seen m (s .depth - 1) (s .opens) w) (s .place) (2 * e + 1) (g .place-in) in
       record {
         letters = up ∷ [];
-        turns = turn-up (machine m bs ls w s c) _ _ (drop (c .bits + 1) bs) t zero-next (stack-pop (10 * m) (s .depth) w h)
+        turns = turn-up (machine m bs ls w s c) _ _ (drop (c .bits + 1) bs) t zero-next (stack-pop (BELOW * (2 * m)) (s .depth) w h)
             ∙ ap (goes (up ∷ [])) (rw (top, a .below-is, a .trees-are, a .opens-are, a .seconds-are, label-at m w ls e y small));
         built = λ v. rw (a .trees-are, a .seconds-are, a .rotation, top)
             (linked-step (s .place) _ up v _ _ (region 0 (2 * m) w) (sym (opposite-odd e)));
@@ -125,7 +127,7 @@ module _ (m : ℕ) (bs ls w : List ℕ) (s : State) (c : Cursor) (t : s .label �
             room = rw (a .long) (g .room);
             few-open = omega arith;
             place-in = omega arith;
-            trees-in = rw (a .trees-are) (all-rest m (12 * m) (s .depth) w h (g .trees-in));
+            trees-in = rw (a .trees-are) (all-rest m (TREES * (2 * m)) (s .depth) w h (g .trees-in));
             seconds-in = rw (a .seconds-are) (g .seconds-in);
           };
           bits-in = omega arith;
@@ -287,7 +289,7 @@ module _ (m : ℕ) (bs ls w : List ℕ) (s : State) (c : Cursor) (t : s .label �
   unfolding machineOf
   open-left h =
       stuck-left (machine m bs ls w s c) t (rest-none bs (c .bits) e)
-      (rw (length-stack (10 * m) (s .depth) w, length-stack (14 * m) (s .opens) w) (omega arith))
+      (rw (length-stack (BELOW * (2 * m)) (s .depth) w, length-stack (BEGUN * (2 * m)) (s .opens) w) (omega arith))
 
   pub label-left : c .labels < length ls → turn (machine m bs ls w s c) ≡ stuck
   unfolding machineOf

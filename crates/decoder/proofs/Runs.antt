@@ -23,6 +23,7 @@ use Rattle.words.specs.Word.{Found, found, none, after, done, stuck, turn, star
 use Rattle.machine.specs.Reading.{left, run}
 use Rattle.machine.proofs.Decoding.{wordIn}
 use Rattle.machine.proofs.Runs.{turn-left, turn-none, run-on, run-done, run-stuck, decodeWord-run}
+use Rattle.work.specs.Map.{LABELS, BEGUN}
 use Rattle.work.specs.Area.{region, placed, stack}
 use Rattle.work.proofs.Regions.{length-placed, region-placed, region-placed-other}
 use Rattle.work.proofs.Stacks.{length-stack}
@@ -31,7 +32,7 @@ use Rattle.decoder.specs.declared.State.{State}
 use Rattle.decoder.specs.declared.Outcome.{Outcome}
 use Rattle.decoder.specs.declared.Outcome.the-variants.{Goes, Done, Stuck}
 use Rattle.coding.specs.Decode.{decodePayload}
-use Rattle.unpacker.specs.Unpacked.{Sized}
+use Rattle.unpacker.specs.Unpacked.{Sized, labelsAt}
 use Rattle.unpacker.proofs.Payload.{bits-room}
 use Rattle.decoder.specs.Decoded.{Answered}
 use Rattle.decoder.specs.States.{labelsOf, machineOf, outcome, Fits, Moved, Turned}
@@ -52,15 +53,15 @@ pub record Running (m : ℕ) (bs ls w₀ w : List ℕ) (s : State) (c : Cursor) 
   pub built : (v : List Letter) → outcome m w s c v ≡ outcome m w₀ first-state first-cursor (letters ++ v)
   pub answer : after letters (run (machineOf m bs ls w s c)) ≡ run (start bs ls)
   pub kept : length w ≡ length w₀
-  pub labelled : region (18 * m) m w ≡ ls
+  pub labelled : labelsAt m w ≡ ls
 
 -- how much is left, by the cursor and the stack
 pub left-is : (m : ℕ) (bs ls w : List ℕ) (s : State) (c : Cursor) → left (machineOf m bs ls w s c) ≡ length bs - c .bits + s .opens
 unfolding machineOf
-left-is m bs ls w s c = rw (length-drop (c .bits) bs, length-stack (14 * m) (s .opens) w)
+left-is m bs ls w s c = rw (length-drop (c .bits) bs, length-stack (BEGUN * (2 * m)) (s .opens) w)
 
 module _ (m : ℕ) (bs ls w₀ : List ℕ) where
-  pub running-start : 1 ≤ m → m ≤ 4096 → 32 * m ≤ length w₀ → region (18 * m) m w₀ ≡ ls → Running m bs ls w₀ w₀ first-state first-cursor
+  pub running-start : 1 ≤ m → m ≤ 4096 → 32 * m ≤ length w₀ → labelsAt m w₀ ≡ ls → Running m bs ls w₀ w₀ first-state first-cursor
   unfolding machineOf labelsOf stack start allBelow
   running-start g h r l = record {
     fits = record {
@@ -156,8 +157,8 @@ module _ (m : ℕ) (bs ls w₀ : List ℕ) where
 
 -- ---- what a turn hands back
 
-module _ (m : ℕ) (bs ls w : List ℕ) (s : State) (c : Cursor) (o : Outcome) (w′ : List ℕ) (l : region (18 * m) m w ≡ ls)
-    (x : Turned m bs (region (18 * m) m w) w s c o w′) where
+module _ (m : ℕ) (bs ls w : List ℕ) (s : State) (c : Cursor) (o : Outcome) (w′ : List ℕ) (l : labelsAt m w ≡ ls)
+    (x : Turned m bs (labelsAt m w) w s c o w′) where
   turned : Turned m bs ls w s c o w′
   turned = subst (λ (y : List ℕ). Turned m bs y w s c o w′) l x
 
@@ -180,11 +181,11 @@ pub record Prepared (k m : ℕ) (ps w : List ℕ) : Type 0 where
   pub clean : payloadClean k m ps ≡ true
   pub sizes : (1 ≤ m) × (m ≤ 4096) × (2 * m ≤ 8 * length ps)
   pub room : 32 * m ≤ length w
-  pub labelled : region (18 * m) m w ≡ payloadLabels k m ps
+  pub labelled : labelsAt m w ≡ payloadLabels k m ps
   pub blank : region 0 (2 * m) w ≡ replicate (2 * m) 0
 
 module _ (k m : ℕ) (ps : List ℕ) where
-  pub prepared : Sized ps k m → payloadClean k m ps ≡ true → (w w′ : List ℕ) → 32 * m ≤ length w → region (18 * m) m w ≡ payloadLabels k m ps
+  pub prepared : Sized ps k m → payloadClean k m ps ≡ true → (w w′ : List ℕ) → 32 * m ≤ length w → labelsAt m w ≡ payloadLabels k m ps
       → w′ ≡ placed 0 (replicate (2 * m) 0) w → Prepared k m ps w′
   prepared h e w w′ r l f =
       let none : List ℕ = replicate (2 * m) 0 in
@@ -194,7 +195,7 @@ module _ (k m : ℕ) (ps : List ℕ) where
         clean = e;
         sizes = (h .some-edge, h .few-edges, bits-room ps m k h);
         room = rw (f, length-placed 0 none w fits) r;
-        labelled = rw f (region-placed-other 0 none w fits (18 * m) m (λ g. omega arith) ∙ l);
+        labelled = rw f (region-placed-other 0 none w fits (LABELS * (2 * m)) m (λ g. omega arith) ∙ l);
         blank = rw f (region-placed 0 none w fits (2 * m) (sym n));
       }
 
@@ -203,6 +204,6 @@ module _ (k m : ℕ) (ps : List ℕ) where
   answer-unclean n w e = record { word-found = λ f. absurd (false≢true f); none-found = λ f. rw e }
 
   pub answer-clean : (n : ℕ) (w : List ℕ) (b : Bool) (w′ : List ℕ) → Prepared k m ps w
-      → Answered (decodeWord (payloadBits m ps) (region (18 * m) m w)) n b w′ → Answered (decodePayload k m ps) n b w′
+      → Answered (decodeWord (payloadBits m ps) (labelsAt m w)) n b w′ → Answered (decodePayload k m ps) n b w′
   unfolding decodePayload
   answer-clean n w b w′ p a = rw (p .clean, ← p .labelled) a

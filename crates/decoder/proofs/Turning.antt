@@ -11,6 +11,7 @@ use mathlib.Core.Logic.{_≢_}
 use mathlib.Core.List.{List}
 use lib.ListN.{length, getD}
 use Rattle.work.specs.Area.{region}
+use Rattle.unpacker.specs.Unpacked.{labelsAt}
 use Rattle.decoder.specs.declared.Cursor.{Cursor}
 use Rattle.decoder.specs.declared.State.{State}
 use Rattle.decoder.specs.States.{before, Fits, Ready, Moved}
@@ -63,7 +64,7 @@ module _ (m : ℕ) (bs ls w : List ℕ) (s : State) where
         here : Cursor → Cursor
         here y = record { bits = c .bits; labels = y .labels }
 
-  pub rise-turn : (c : Cursor) → s .label ≢ 1 → length bs ≡ 2 * m → region (18 * m) m w ≡ ls → Fits m w s c → (b : ℕ) (d : Cursor) → BitRead bs c b d
+  pub rise-turn : (c : Cursor) → s .label ≢ 1 → length bs ≡ 2 * m → labelsAt m w ≡ ls → Fits m w s c → (b : ℕ) (d : Cursor) → BitRead bs c b d
       → b ≡ 0 → s .depth ≢ 0 → (u : State) (w′ : List ℕ) → (u ≡ risenState m w s) × (w′ ≡ risenArea m w s) → Moved m bs ls w s c u d w′
   rise-turn c t p y f b d r z h u w′ x =
       moved-at c _ u _ d _ w′ (x .0) (r .2) (x .1) (rising m bs ls w s c t (r .0) (sym (r .1) ∙ z) p y f (omega arith))

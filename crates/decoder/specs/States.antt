@@ -27,7 +27,9 @@ use lib.ListN.{length, getD, set, drop}
 use Rattle.model.specs.Numbers.{allBelow}
 use Rattle.model.specs.Traversal.{Letter}
 use Rattle.words.specs.Word.{Machine, goes, done, stuck, turn, head, wordDarts, link}
+use Rattle.work.specs.Map.{LABELS, BELOW, TREES, BEGUN, OPENS}
 use Rattle.work.specs.Area.{region, stack}
+use Rattle.unpacker.specs.Unpacked.{labelsAt}
 use Rattle.decoder.specs.declared.Cursor.{Cursor}
 use Rattle.decoder.specs.declared.State.{State}
 use Rattle.decoder.specs.declared.Next.{Next}
@@ -49,10 +51,10 @@ unfoldable pub machineOf : ℕ → List ℕ → List ℕ → List ℕ → State 
 machineOf m bs ls w s c = record {
   n = s .n;
   here = s .here;
-  below = stack (10 * m) (s .depth) w;
-  ups = labelsOf ls (stack (12 * m) (s .depth) w);
-  opens = stack (14 * m) (s .opens) w;
-  seconds = labelsOf ls (stack (16 * m) (s .opens) w);
+  below = stack (BELOW * (2 * m)) (s .depth) w;
+  ups = labelsOf ls (stack (TREES * (2 * m)) (s .depth) w);
+  opens = stack (BEGUN * (2 * m)) (s .opens) w;
+  seconds = labelsOf ls (stack (OPENS * (2 * m)) (s .opens) w);
   label = s .label;
   bits = drop (c .bits) bs;
   labels = drop (c .labels) ls;
@@ -64,7 +66,7 @@ linked q v xs out = link v xs (set out q (head xs))
 -- as many edges have their numbers as labels are read
 unfoldable pub outcome : ℕ → List ℕ → State → Cursor → List Letter → List ℕ
 outcome m w s c v =
-    linked (s .place) v (wordDarts (c .labels) (stack (12 * m) (s .depth) w) (stack (16 * m) (s .opens) w) v) (region 0 (2 * m) w)
+    linked (s .place) v (wordDarts (c .labels) (stack (TREES * (2 * m)) (s .depth) w) (stack (OPENS * (2 * m)) (s .opens) w) v) (region 0 (2 * m) w)
 
 abbrev pub before : Cursor → Cursor
 before c = record { bits = c .bits - 1; labels = c .labels }
@@ -74,8 +76,8 @@ pub record Standing (m : ℕ) (w : List ℕ) (s : State) : Type 0 where
   pub room : 32 * m ≤ length w
   pub few-open : s .depth + s .opens ≤ m
   pub place-in : s .place < 2 * m
-  pub trees-in : allBelow m (stack (12 * m) (s .depth) w) ≡ true
-  pub seconds-in : allBelow m (stack (16 * m) (s .opens) w) ≡ true
+  pub trees-in : allBelow m (stack (TREES * (2 * m)) (s .depth) w) ≡ true
+  pub seconds-in : allBelow m (stack (OPENS * (2 * m)) (s .opens) w) ≡ true
 
 -- each bit that is read is a letter or an open edge, and each label an edge
 pub record Fits (m : ℕ) (w : List ℕ) (s : State) (c : Cursor) : Type 0 where
@@ -104,7 +106,7 @@ pub record Ready (m : ℕ) (bs w : List ℕ) (s : State) (c : Cursor) : Type 0 w
 
 -- the edge that ends
 abbrev pub lastOpen : ℕ → List ℕ → State → ℕ
-lastOpen m w s = getD w (16 * m + (s .opens - 1)) 0
+lastOpen m w s = getD w (OPENS * (2 * m) + (s .opens - 1)) 0
 
 abbrev pub closedState : ℕ → List ℕ → State → State
 closedState m w s = record {
@@ -112,7 +114,7 @@ closedState m w s = record {
   here = s .here;
   depth = s .depth;
   opens = s .opens - 1;
-  label = getD w (18 * m + lastOpen m w s) 0;
+  label = getD w (LABELS * (2 * m) + lastOpen m w s) 0;
   place = 2 * lastOpen m w s + 1;
 }
 
@@ -121,15 +123,15 @@ closedArea m w s = set w (s .place) (2 * lastOpen m w s + 1)
 
 -- the edge that is gone up
 abbrev pub lastTree : ℕ → List ℕ → State → ℕ
-lastTree m w s = getD w (12 * m + (s .depth - 1)) 0
+lastTree m w s = getD w (TREES * (2 * m) + (s .depth - 1)) 0
 
 abbrev pub risenState : ℕ → List ℕ → State → State
 risenState m w s = record {
   n = s .n;
-  here = getD w (10 * m + (s .depth - 1)) 0;
+  here = getD w (BELOW * (2 * m) + (s .depth - 1)) 0;
   depth = s .depth - 1;
   opens = s .opens;
-  label = getD w (18 * m + lastTree m w s) 0;
+  label = getD w (LABELS * (2 * m) + lastTree m w s) 0;
   place = 2 * lastTree m w s;
 }
 
@@ -161,7 +163,7 @@ backedState s e = record {
 }
 
 abbrev pub backedArea : ℕ → List ℕ → State → ℕ → List ℕ
-backedArea m w s e = set (set (set w (s .place) (2 * e)) (14 * m + s .opens) (s .here)) (16 * m + s .opens) e
+backedArea m w s e = set (set (set w (s .place) (2 * e)) (BEGUN * (2 * m) + s .opens) (s .here)) (OPENS * (2 * m) + s .opens) e
 
 abbrev pub enteredState : State → ℕ → State
 enteredState s e = record {
@@ -174,7 +176,7 @@ enteredState s e = record {
 }
 
 abbrev pub enteredArea : ℕ → List ℕ → State → ℕ → List ℕ
-enteredArea m w s e = set (set (set w (s .place) (2 * e)) (10 * m + s .depth) (s .here)) (12 * m + s .depth) e
+enteredArea m w s e = set (set (set w (s .place) (2 * e)) (BELOW * (2 * m) + s .depth) (s .here)) (TREES * (2 * m) + s .depth) e
 
 -- ---- turns
 
@@ -184,7 +186,7 @@ pub record Moved (m : ℕ) (bs ls w : List ℕ) (s : State) (c : Cursor) (t : St
   pub built : (v : List Letter) → outcome m w′ t d v ≡ outcome m w s c (letters ++ v)
   pub fits : Fits m w′ t d
   pub kept : length w′ ≡ length w
-  pub labels-stay : region (18 * m) m w′ ≡ region (18 * m) m w
+  pub labels-stay : labelsAt m w′ ≡ labelsAt m w
 
 unfoldable pub Turned : ℕ → List ℕ → List ℕ → List ℕ → State → Cursor → Outcome → List ℕ → Type 0
 Turned m bs ls w s c (Goes t d) w′ = Moved m bs ls w s c t d w′
@@ -192,4 +194,4 @@ Turned m bs ls w s c Done w′ = (turn (machineOf m bs ls w s c) ≡ done) × (w
 Turned m bs ls w s c Stuck w′ = (turn (machineOf m bs ls w s c) ≡ stuck) × (w′ ≡ w)
 
 abbrev pub Closed : ℕ → List ℕ → State → Cursor → Outcome → List ℕ → Type 0
-Closed m w s c r w′ = (bs : List ℕ) → Turned m bs (region (18 * m) m w) w s c r w′
+Closed m w s c r w′ = (bs : List ℕ) → Turned m bs (labelsAt m w) w s c r w′

@@ -1,6 +1,5 @@
-// A payload decoded into the standard plan, in the lent work area, by a machine that reads tree bits and labels in step and enters each dart of
-// the traversal where the dart before it waits for its successor. With m edges: the rotation at 0; stacks: vertices that the present one hangs from at
-// 10m, open tree edges at 12m, vertices where other open edges began at 14m, those edges at 16m; the labels by number at 18m.
+// A payload decoded into the standard plan, in the lent work area, by a machine that reads tree bits and labels in step and enters each dart of the
+// traversal where the dart before it waits for its successor. The machine's stacks are the reading parts of the map in `work`.
 ghost use mathlib.Core.Path.{_≡_};
 ghost use mathlib.Core.Logic.{_≢_};
 ghost use Prim.Native.Nat.{_*_, _≤_, _<_};
@@ -9,7 +8,7 @@ ghost use Rattle.words.specs.Word.{decodeWord};
 ghost use Rattle.packing.specs.Unlay.{payloadBits};
 ghost use Rattle.work.specs.Area.{region};
 ghost use Rattle.coding.specs.Decode.{decodePayload};
-ghost use Rattle.unpacker.specs.Unpacked.{Sized};
+ghost use Rattle.unpacker.specs.Unpacked.{Sized, labelsAt};
 ghost use Rattle.decoder.specs.Decoded.{Answered};
 ghost use Rattle.decoder.specs.States.{nextBit, nextLabel, before, Standing, Fits, Room, Ready, Turned, Closed};
 ghost use Rattle.decoder.specs.States.{risenState, leafedState, backedState, enteredState, risenArea, leafedArea, backedArea, enteredArea};
@@ -44,20 +43,6 @@ pub enum Outcome {
     Stuck,
 }
 
-// The label of the edge to a bare leaf.
-const STAR: u16 = 2;
-
-// Where the stacks and the labels begin, in units of m.
-const BELOW: usize = 10;
-
-const TREES: usize = 12;
-
-const OPENS: usize = 14;
-
-const SECONDS: usize = 16;
-
-const LABELS: usize = 18;
-
 // ---- the cursor
 
 impl Cursor {
@@ -84,12 +69,12 @@ impl Cursor {
     // The label here.
     fn label(self, w: &[u16], m: usize) -> Next
         requires { ⌜ (m ≤ 4096) × (32 * m ≤ length (now w)) ⌝ }
-        ensures { λ r. ⌜ r ≡ nextLabel (region (18 * m) m (now (w .entry))) self ⌝ }
+        ensures { λ r. ⌜ r ≡ nextLabel (labelsAt m (now (w .entry))) self ⌝ }
     {
         let bits = self.bits;
         let labels = self.labels;
         if labels < m {
-            let l = w[LABELS * m + labels];
+            let l = w[work::LABELS * (2 * m) + labels];
             return Next::Value(
                 l,
                 Cursor {
@@ -114,12 +99,12 @@ fn close_last(w: &mut [u16], m: usize, s: State, c: Cursor) -> Outcome
     let depth = s.depth;
     let q = s.place;
     let top = s.opens - 1;
-    let v = w[OPENS * m + top];
+    let v = w[work::BEGUN * (2 * m) + top];
     if v <= here {
         return Outcome::Stuck;
     }
-    let e = w[SECONDS * m + top] as usize;
-    let label = w[LABELS * m + e];
+    let e = w[work::OPENS * (2 * m) + top] as usize;
+    let label = w[work::LABELS * (2 * m) + e];
     let place = 2 * e + 1;
     w[q] = place as u16;
     Outcome::Goes(
@@ -157,9 +142,9 @@ fn rise(w: &mut [u16], m: usize, s: State) -> State
     let opens = s.opens;
     let q = s.place;
     let top = depth - 1;
-    let here = w[BELOW * m + top];
-    let e = w[TREES * m + top] as usize;
-    let label = w[LABELS * m + e];
+    let here = w[work::BELOW * (2 * m) + top];
+    let e = w[work::TREES * (2 * m) + top] as usize;
+    let label = w[work::LABELS * (2 * m) + e];
     let place = 2 * e;
     w[q] = (place + 1) as u16;
     State {
@@ -208,8 +193,8 @@ fn back(w: &mut [u16], m: usize, s: State, e: usize) -> State
     let q = s.place;
     let place = 2 * e;
     w[q] = place as u16;
-    w[OPENS * m + opens] = here;
-    w[SECONDS * m + opens] = e as u16;
+    w[work::BEGUN * (2 * m) + opens] = here;
+    w[work::OPENS * (2 * m) + opens] = e as u16;
     State {
         n,
         here,
@@ -232,8 +217,8 @@ fn enter(w: &mut [u16], m: usize, s: State, e: usize) -> State
     let q = s.place;
     let x = 2 * e;
     w[q] = x as u16;
-    w[BELOW * m + depth] = here;
-    w[TREES * m + depth] = e as u16;
+    w[work::BELOW * (2 * m) + depth] = here;
+    w[work::TREES * (2 * m) + depth] = e as u16;
     State {
         n: n + 1,
         here: n,
@@ -248,7 +233,7 @@ fn enter(w: &mut [u16], m: usize, s: State, e: usize) -> State
 fn descend(payload: &[u8], m: usize, w: &mut [u16], s: State, c: Cursor) -> Outcome
     requires { ⌜ 2 * m ≤ 8 * length (now payload) ⌝ }
     requires { ⌜ Ready m (payloadBits m (now payload)) (now w) s c × (s .label ≢ 1) ⌝ }
-    ensures { λ r. ⌜ Turned m (payloadBits m (now (payload .entry))) (region (18 * m) m (now (w .entry))) (now (w .entry)) s (before c) r (now (w .exit)) ⌝ }
+    ensures { λ r. ⌜ Turned m (payloadBits m (now (payload .entry))) (labelsAt m (now (w .entry))) (now (w .entry)) s (before c) r (now (w .exit)) ⌝ }
 {
     let at = c.bits;
     let edge = c.labels;
@@ -262,7 +247,7 @@ fn descend(payload: &[u8], m: usize, w: &mut [u16], s: State, c: Cursor) -> Outc
                     return Outcome::Stuck;
                 }
                 Next::Value(l, e) => {
-                    if l == STAR {
+                    if l == work::STAR {
                         let t = leaf(w, m, s, edge, b);
                         return Outcome::Goes(t, e);
                     }
@@ -283,7 +268,7 @@ fn descend(payload: &[u8], m: usize, w: &mut [u16], s: State, c: Cursor) -> Outc
 fn turn(payload: &[u8], m: usize, w: &mut [u16], s: State, c: Cursor) -> Outcome
     requires { ⌜ 2 * m ≤ 8 * length (now payload) ⌝ }
     requires { ⌜ Fits m (now w) s c ⌝ }
-    ensures { λ r. ⌜ Turned m (payloadBits m (now (payload .entry))) (region (18 * m) m (now (w .entry))) (now (w .entry)) s c r (now (w .exit)) ⌝ }
+    ensures { λ r. ⌜ Turned m (payloadBits m (now (payload .entry))) (labelsAt m (now (w .entry))) (now (w .entry)) s c r (now (w .exit)) ⌝ }
 {
     let label = s.label;
     let depth = s.depth;
@@ -319,7 +304,7 @@ fn turn(payload: &[u8], m: usize, w: &mut [u16], s: State, c: Cursor) -> Outcome
 fn run(payload: &[u8], m: usize, w: &mut [u16]) -> bool
     requires { ⌜ (1 ≤ m) × (m ≤ 4096) × (2 * m ≤ 8 * length (now payload)) ⌝ }
     requires { ⌜ (32 * m ≤ length (now w)) × (region 0 (2 * m) (now w) ≡ replicate (2 * m) 0) ⌝ }
-    ensures { λ r. ⌜ Answered (decodeWord (payloadBits m (now (payload .entry))) (region (18 * m) m (now (w .entry)))) (2 * m) r (now (w .exit)) ⌝ }
+    ensures { λ r. ⌜ Answered (decodeWord (payloadBits m (now (payload .entry))) (labelsAt m (now (w .entry)))) (2 * m) r (now (w .exit)) ⌝ }
 {
     let mut s = State {
         n: 1,

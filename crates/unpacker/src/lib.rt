@@ -6,11 +6,7 @@ ghost use lib.ListN.{length, take, drop};
 ghost use Rattle.model.specs.Numbers.{allBelow};
 ghost use Rattle.packing.specs.Unpack.{bits, groups};
 ghost use Rattle.packing.specs.Unlay.{payloadLabels, payloadClean};
-ghost use Rattle.work.specs.Area.{region};
-ghost use Rattle.unpacker.specs.Unpacked.{Sized, grouped};
-
-// Where the labels begin, in units of m.
-const LABELS: usize = 18;
+ghost use Rattle.unpacker.specs.Unpacked.{Sized, labelsAt, grouped};
 
 // ---- padding bits, fill labels and groups
 
@@ -88,12 +84,12 @@ pub fn clean(payload: &[u8], kind: u16, m: usize) -> bool
 fn spread_bits(payload: &[u8], m: usize, w: &mut [u16])
     requires { ⌜ Sized (now payload) 1 m ⌝ }
     requires { ⌜ 32 * m ≤ length (now w) ⌝ }
-    ensures { λ _. ⌜ region (18 * m) m (now (w .exit)) ≡ payloadLabels 1 m (now (payload .entry)) ⌝ }
+    ensures { λ _. ⌜ labelsAt m (now (w .exit)) ≡ payloadLabels 1 m (now (payload .entry)) ⌝ }
 {
     let mut i = 0;
     while i < m {
         let l = bits::bit_at(payload, 2 * m + i);
-        w[LABELS * m + i] = l as u16;
+        w[work::LABELS * (2 * m) + i] = l as u16;
         i += 1;
     }
 }
@@ -115,14 +111,14 @@ fn put_group(w: &mut [u16], at: usize, group: u8)
 fn spread_groups(payload: &[u8], m: usize, w: &mut [u16])
     requires { ⌜ Sized (now payload) 2 m ⌝ }
     requires { ⌜ 32 * m ≤ length (now w) ⌝ }
-    ensures { λ _. ⌜ region (18 * m) m (now (w .exit)) ≡ payloadLabels 2 m (now (payload .entry)) ⌝ }
+    ensures { λ _. ⌜ labelsAt m (now (w .exit)) ≡ payloadLabels 2 m (now (payload .entry)) ⌝ }
 {
     let from = (2 * m + 7) / 8;
     let count = payload.len() - from;
     let mut i = 0;
     while i < count {
         let group = payload[from + i];
-        put_group(w, LABELS * m + 5 * i, group);
+        put_group(w, work::LABELS * (2 * m) + 5 * i, group);
         i += 1;
     }
 }
@@ -131,7 +127,7 @@ fn spread_groups(payload: &[u8], m: usize, w: &mut [u16])
 pub fn spread(payload: &[u8], kind: u16, m: usize, w: &mut [u16])
     requires { ⌜ Sized (now payload) kind m ⌝ }
     requires { ⌜ 32 * m ≤ length (now w) ⌝ }
-    ensures { λ _. ⌜ region (18 * m) m (now (w .exit)) ≡ payloadLabels kind m (now (payload .entry)) ⌝ }
+    ensures { λ _. ⌜ labelsAt m (now (w .exit)) ≡ payloadLabels kind m (now (payload .entry)) ⌝ }
 {
     if kind == 1 {
         spread_bits(payload, m, w);

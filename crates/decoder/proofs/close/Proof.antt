@@ -1,4 +1,3 @@
--- `close`: another edge ends too, if one is open. Assumes nothing.
 use mathlib.Core.Path.{refl}
 use Rattle.decoder.specs.States.{Turned}
 use Rattle.decoder.proofs.Moves.{empty}

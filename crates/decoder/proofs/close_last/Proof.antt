@@ -1,4 +1,3 @@
--- `close_last`: the last open edge outside the tree ends, or the machine is stuck. Assumes nothing.
 use Prim.Native.Nat.{_<_}
 use native.Mathlib.Omega.{arith}
 use mathlib.Core.Path.{refl}
@@ -22,8 +21,8 @@ cast-e c = let k = small (c .before .before .before .before) in omega arith
 add-label : tie.Need-add-label
 add-label c = let k = small (c .before .before .before .before) in omega arith
 
-mul-label-2 : tie.Need-mul-label-2
-mul-label-2 c = let k = small (c .before .before .before .before) in omega arith
+mul-label-3 : tie.Need-mul-label-3
+mul-label-3 c = let k = small (c .before .before .before .before) in omega arith
 
 slice-read-label : tie.Need-slice-read-label
 slice-read-label c = let k = small (c .before .before .before .before .before) in omega arith
@@ -52,15 +51,18 @@ close-last-spec =
     (λ c. search needs)
     (λ c. search needs)
     (λ c. search needs)
+    (λ c. search needs)
     returns
+    (λ c. search needs)
     (λ c. search needs)
     (λ c. search needs)
     (λ c. search needs)
     (λ c. search needs)
     cast-e
     (λ c. search needs)
+    (λ c. search needs)
     add-label
-    mul-label-2
+    mul-label-3
     slice-read-label
     mul-place
     add-place

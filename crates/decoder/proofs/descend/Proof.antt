@@ -1,4 +1,3 @@
--- `descend`: a leaf, an edge outside the tree or a tree edge, by the bit and the label that follow. Assumes nothing.
 use Prim.Native.Nat.{_*_}
 use native.Mathlib.Omega.{arith}
 use mathlib.Core.Path.{_≡_, refl}
@@ -6,6 +5,7 @@ use lib.ListN.{length}
 use Rattle.packing.specs.Unlay.{payloadBits}
 use Rattle.work.specs.Area.{region}
 use Rattle.work.proofs.Regions.{length-region}
+use Rattle.unpacker.specs.Unpacked.{labelsAt}
 use Rattle.decoder.specs.States.{Room, Turned}
 use Rattle.decoder.proofs.Cursors.{bit-end, Read, both-read, label-missing}
 use Rattle.decoder.proofs.Moves.{no-bit, no-label, room-left}
@@ -18,14 +18,14 @@ use Rattle.decoder.proofs.descend.Tie as tie
 bits-are : (c : tie.Start) → length (payloadBits (c .args .m) (c .args .payload .now)) ≡ 2 * c .args .m
 bits-are c = bit-count _ _ (c .pre .0)
 
-label-count : (c : tie.Start) → length (region (18 * c .args .m) (c .args .m) (c .args .w .now)) ≡ c .args .m
+label-count : (c : tie.Start) → length (labelsAt (c .args .m) (c .args .w .now)) ≡ c .args .m
 label-count c = length-region _ _ _ (let r = c .pre .1 .0 .fits .stands .room in omega arith)
 
 reading : (c : tie.After-known-told2) →
     let a = c .before .before .before .before .before .before .before .before .before .before .before .args in
     let b = c .before .before .before .before .before .before .b .given .0 in
     let l = c .before .l .given .0 in
-    Read (payloadBits (a .m) (a .payload .now)) (region (18 * a .m) (a .m) (a .w .now)) (a .c) (b .0) (l .0) (l .1 .0)
+    Read (payloadBits (a .m) (a .payload .now)) (labelsAt (a .m) (a .w .now)) (a .c) (b .0) (l .0) (l .1 .0)
 reading c =
     let b = c .before .before .before .before .before .before .before .before .bit in
     let l = c .before .before .before .label in
@@ -39,7 +39,7 @@ room c =
     let st = c .before .before .before .before .before .before .before .before .before .before .before in
     let r = reading c in
     let p = st .pre .1 in
-    let ls = region (18 * st .args .m) (st .args .m) (st .args .w .now) in
+    let ls = labelsAt (st .args .m) (st .args .w .now) in
     room-left _ _ ls _ _ _ (p .1) (p .0) (bits-are st) (r .bit-left) (label-count st) (r .label-left)
 
 returns : tie.Need-returns

@@ -1,4 +1,3 @@
--- `leaf`: a leaf. Assumes nothing.
 use native.Mathlib.Omega.{arith}
 use lib.ListN.{length-set}
 use borrow.Author.Needs.{needs}

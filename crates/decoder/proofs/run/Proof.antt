@@ -6,6 +6,7 @@ use lib.ListN.{length, set, length-set}
 use Rattle.packing.specs.Unlay.{payloadBits}
 use Rattle.work.specs.Area.{region}
 use Rattle.unpacker.proofs.Payload.{bit-count}
+use Rattle.unpacker.specs.Unpacked.{labelsAt}
 use Rattle.decoder.specs.States.{Moved}
 use Rattle.decoder.proofs.Runs.{Running, running-start, running-on, running-less, turned-goes, turned-done, turned-stuck}
 use Rattle.decoder.proofs.Runs.{answer-stuck, answer-done}
@@ -14,7 +15,7 @@ use Rattle.decoder.proofs.run.Statement.{statement}
 use Rattle.decoder.proofs.run.Tie as tie
 
 abbrev Inv-loop : tie.InvT-loop
-Inv-loop payload m w₀ s₀ c₀ w s c = Running m (payloadBits m payload) (region (18 * m) m w₀) w₀ w s c
+Inv-loop payload m w₀ s₀ c₀ w s c = Running m (payloadBits m payload) (labelsAt m w₀) w₀ w s c
 
 abbrev μ-loop : tie.MeasureT-loop
 μ-loop payload m w₀ s₀ c₀ w s c = length (payloadBits m payload) - c .bits + s .opens
@@ -24,7 +25,7 @@ moved : (c : tie.After-known-told Inv-loop μ-loop) →
     let at = c .before .before .before .before .before .before .before .loop in
     let t = c .before .t .given .0 in
     let w = c .before .before .before .before .before .turn .last .1 .1 .0 in
-    Moved (a .m) (payloadBits (a .m) (a .payload .now)) (region (18 * a .m) (a .m) (a .w .now)) (at .w) (at .s) (at .c) (t .0) (t .1 .0) w
+    Moved (a .m) (payloadBits (a .m) (a .payload .now)) (labelsAt (a .m) (a .w .now)) (at .w) (at .s) (at .c) (t .0) (t .1 .0) w
 moved c =
     let v = c .before .before .before .before .before .turn in
     let i = c .before .before .before .before .before .before .before .loop .inv in

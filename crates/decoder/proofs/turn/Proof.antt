@@ -1,4 +1,3 @@
--- `turn`: one turn of the machine. Assumes nothing.
 use Prim.Native.Nat.{_*_, _≤_}
 use mathlib.Core.Path.{_≡_, refl, sym, _∙_, subst}
 use native.Mathlib.Omega.{arith}
@@ -6,6 +5,7 @@ use lib.ListN.{length}
 use Rattle.packing.specs.Unlay.{payloadBits}
 use Rattle.work.specs.Area.{region}
 use Rattle.work.proofs.Regions.{length-region}
+use Rattle.unpacker.specs.Unpacked.{labelsAt}
 use Rattle.decoder.specs.declared.Cursor.{Cursor}
 use Rattle.decoder.specs.States.{Turned}
 use Rattle.decoder.proofs.Cursors.{BitRead, bit-read, bit-end}
@@ -19,7 +19,7 @@ use Rattle.decoder.proofs.turn.Tie as tie
 bits-are : (c : tie.Start) → length (payloadBits (c .args .m) (c .args .payload .now)) ≡ 2 * c .args .m
 bits-are c = bit-count _ _ (c .pre .0)
 
-label-count : (c : tie.Start) → length (region (18 * c .args .m) (c .args .m) (c .args .w .now)) ≡ c .args .m
+label-count : (c : tie.Start) → length (labelsAt (c .args .m) (c .args .w .now)) ≡ c .args .m
 label-count c = length-region _ _ _ (let r = c .pre .1 .stands .room in omega arith)
 
 one-read : (c : tie.After-known-told) →
@@ -66,7 +66,7 @@ returns-5 : tie.Need-returns-5
 returns-5 c =
     let a = c .before .before .before .before .before .before .before .before .before .before .before .before .args in
     let d = c .before .before .descend in
-    let ls = region (18 * a .m) (a .m) (a .w .now) in
+    let ls = labelsAt (a .m) (a .w .now) in
     subst (λ (x : Cursor). Turned (a .m) (payloadBits (a .m) (a .payload .now)) ls (a .w .now) (a .s) x (d .result) (d .last .1 .1 .0))
     (before-moved _ _ (one-read (c .before .before .before .before .before) .2)) (d .ensures)
 

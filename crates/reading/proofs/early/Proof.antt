@@ -1,4 +1,3 @@
--- `early`: the checks before the payload, in order.
 use mathlib.Core.Path.{_≡_, sym, _∙_}
 use native.Mathlib.Omega.{arith}
 use Rattle.model.specs.Shelf.{headRefusal}

@@ -1,4 +1,3 @@
--- `read`: the call, and the work area cleared.
 use mathlib.Core.Path.{_∙_, ap}
 use Prim.Native.Nat.{ℕ}
 use lib.ListN.{replicate}

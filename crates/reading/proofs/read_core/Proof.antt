@@ -1,4 +1,3 @@
--- `read_core`: the checks, and the plan that the decoder leaves.
 use Prim.Native.Nat.{_*_}
 use mathlib.Core.Path.{_≡_, sym, _∙_}
 use mathlib.Core.Bool.{true}

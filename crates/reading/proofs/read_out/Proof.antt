@@ -1,4 +1,3 @@
--- `read_out`: the checks with an output, the core, and the plan to the output.
 use mathlib.Core.Path.{_≡_, sym, _∙_}
 use native.Mathlib.Omega.{arith}
 use lib.ListN.{length}

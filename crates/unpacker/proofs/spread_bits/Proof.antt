@@ -3,6 +3,7 @@ use mathlib.Core.Path.{_≡_, refl, _∙_}
 use native.Mathlib.Omega.{arith}
 use lib.ListN.{length, take, length-set}
 use Rattle.packing.specs.Unlay.{payloadLabels}
+use Rattle.work.specs.Map.{LABELS}
 use Rattle.work.specs.Area.{region}
 use Rattle.unpacker.proofs.Payload.{KindOne, one, label-one}
 use Rattle.unpacker.proofs.Labels.{labels-start, label-on, labels-end}
@@ -11,7 +12,7 @@ use Rattle.unpacker.proofs.spread_bits.Statement.{statement}
 use Rattle.unpacker.proofs.spread_bits.Tie as tie
 
 abbrev Inv-loop : tie.InvT-loop
-Inv-loop payload m w₀ i₀ w i = (i ≤ m) × (length w ≡ length w₀) × (region (18 * m) i w ≡ take i (payloadLabels 1 m payload))
+Inv-loop payload m w₀ i₀ w i = (i ≤ m) × (length w ≡ length w₀) × (region (LABELS * (2 * m)) i w ≡ take i (payloadLabels 1 m payload))
 
 abbrev μ-loop : tie.MeasureT-loop
 μ-loop payload m w₀ i₀ w i = m - i
@@ -22,7 +23,7 @@ facts c = one _ _ (c .pre .0)
 loop-holds : tie.Need-loop-holds Inv-loop μ-loop
 loop-holds c =
     let a = c .before .before .args in
-    (omega arith, refl, labels-start (18 * a .m) (payloadLabels 1 (a .m) (a .payload .now)) (a .w .now))
+    (omega arith, refl, labels-start (LABELS * (2 * a .m)) (payloadLabels 1 (a .m) (a .payload .now)) (a .w .now))
 
 bit-at-requires : tie.Need-bit-at-requires Inv-loop μ-loop
 bit-at-requires c κs = let z = facts (c .before .before .before .before) in omega arith
@@ -53,6 +54,7 @@ spread-bits-spec =
     (λ c. search needs)
     (λ c. search needs)
     bit-at-requires
+    (λ c. search needs)
     (λ c. search needs)
     (λ c. search needs)
     (λ c. search needs)

@@ -2,6 +2,7 @@ use Prim.Native.Nat.{_+_, _-_, _*_, _/_, _≤_}
 use mathlib.Core.Path.{_≡_, refl, ap, _∙_}
 use native.Mathlib.Omega.{arith}
 use lib.ListN.{length, take, drop}
+use Rattle.work.specs.Map.{LABELS}
 use Rattle.work.specs.Area.{region}
 use Rattle.packing.specs.Unpack.{groups}
 use Rattle.unpacker.proofs.Payload.{KindTwo, two, labels-two}
@@ -12,7 +13,7 @@ use Rattle.unpacker.proofs.spread_groups.Tie as tie
 
 abbrev Inv-loop : tie.InvT-loop
 Inv-loop payload m w₀ from count i₀ w i =
-    (i ≤ (m + 4) / 5) × (length w ≡ length w₀) × (region (18 * m) (5 * i) w ≡ groups (take i (drop ((2 * m + 7) / 8) payload)))
+    (i ≤ (m + 4) / 5) × (length w ≡ length w₀) × (region (LABELS * (2 * m)) (5 * i) w ≡ groups (take i (drop ((2 * m + 7) / 8) payload)))
 
 abbrev μ-loop : tie.MeasureT-loop
 μ-loop payload m w₀ from count i₀ w i = (m + 4) / 5 - i
@@ -26,7 +27,7 @@ sub-count c = let z = facts (c .before .before) in omega arith
 loop-holds : tie.Need-loop-holds Inv-loop μ-loop
 loop-holds c =
     let a = c .before .before .args in
-    (omega arith, refl, groups-start (18 * a .m) ((2 * a .m + 7) / 8) (a .payload .now) (a .w .now))
+    (omega arith, refl, groups-start (LABELS * (2 * a .m)) ((2 * a .m + 7) / 8) (a .payload .now) (a .w .now))
 
 add-group : tie.Need-add-group Inv-loop μ-loop
 add-group c = let z = facts (c .before .before .before .before) in omega arith
@@ -56,15 +57,15 @@ loop-again c =
     let p = c .before .before .put-group in (
       omega arith,
       p .kept .0 ∙ k,
-      ap (region (18 * st .args .m) (5 * (at .i + 1))) (p .ensures)
-          ∙ group-on (18 * st .args .m) ((2 * st .args .m + 7) / 8) (st .args .payload .now) (at .w) (at .i) (omega arith) (omega arith) (at .inv .2),
+      ap (region (LABELS * (2 * st .args .m)) (5 * (at .i + 1))) (p .ensures)
+          ∙ group-on (LABELS * (2 * st .args .m)) ((2 * st .args .m + 7) / 8) (st .args .payload .now) (at .w) (at .i) (omega arith) (omega arith) (at .inv .2),
     )
 
 returns : tie.Need-returns Inv-loop μ-loop
 returns c =
     let st = c .before .before .before .before in
     let y = facts st in let at = c .before .loop in
-    groups-end (18 * st .args .m) ((2 * st .args .m + 7) / 8) (st .args .payload .now) (at .w) (at .i) (st .args .m) (omega arith) (omega arith) (at .inv .2)
+    groups-end (LABELS * (2 * st .args .m)) ((2 * st .args .m + 7) / 8) (st .args .payload .now) (at .w) (at .i) (st .args .m) (omega arith) (omega arith) (at .inv .2)
     ∙ labels-two _ _
 
 pub spread-groups-spec : {M : Type 1} → statement M
@@ -79,6 +80,7 @@ spread-groups-spec =
     loop-holds
     add-group
     shared-slice-read-group
+    (λ c. search needs)
     (λ c. search needs)
     (λ c. search needs)
     add-put-group

@@ -1,16 +1,16 @@
--- `Cursor::label`: the label at the cursor, or the end. Assumes nothing.
 use Prim.Native.Nat.{_*_}
 use mathlib.Core.Path.{_≡_, sym}
 use native.Mathlib.Omega.{arith}
 use lib.ListN.{length}
 use Rattle.work.specs.Area.{region}
 use Rattle.work.proofs.Regions.{length-region, getD-region}
+use Rattle.unpacker.specs.Unpacked.{labelsAt}
 use Rattle.decoder.proofs.Cursors.{label-next, label-none}
 use borrow.Author.Needs.{needs}
 use Rattle.decoder.proofs.Cursor.label.Statement.{statement}
 use Rattle.decoder.proofs.Cursor.label.Tie as tie
 
-label-count : (c : tie.Start) → length (region (18 * c .args .m) (c .args .m) (c .args .w .now)) ≡ c .args .m
+label-count : (c : tie.Start) → length (labelsAt (c .args .m) (c .args .w .now)) ≡ c .args .m
 label-count c = length-region _ _ _ (let r = c .pre .1 in omega arith)
 
 returns : tie.Need-returns
@@ -23,6 +23,7 @@ pub label-spec : {M : Type 1} → statement M
 label-spec =
     tie.close
     (tie.spec
+    (λ c. search needs)
     (λ c. search needs)
     (λ c. search needs)
     (λ c. search needs)
