@@ -1,6 +1,5 @@
 mod Suffixes
 mod Letters
-mod Stacks
-mod Labelling
-mod Bitting
+mod Held
+mod Places
 mod Scanning

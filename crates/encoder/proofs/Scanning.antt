@@ -1,29 +1,41 @@
--- The pass, letter by letter: labels and tree bits are put side by side.
+-- The pass, letter by letter.
 --
+--   stays-start, stays-then   nothing is stored; one change after the other
 --   scan-start, scan-next, scan-end   before the last letter; before another; after the first
---   bitted-beside, labelled-beside   a store among labels leaves the tree bits, and one among tree bits the labels
 --   down-letter, up-letter, first-letter, second-letter   what each letter does
-use Prim.Native.Nat.{ℕ, suc, _+_, _-_, _*_, _/_, _≤_, _<_}
+use Prim.Native.Nat.{ℕ, _+_, _-_, _*_, _/_, _≤_, _<_}
+use native.Mathlib.Nat.{sub-self}
 use native.Mathlib.Omega.{arith}
-use mathlib.Core.Path.{_≡_, refl, sym, ap, _∙_, subst}
-use mathlib.Core.Logic.{_≢_}
-use mathlib.Core.Bool.{true, cond}
-use mathlib.Core.List.{List}
+use mathlib.Core.Path.{_≡_, refl, ap, _∙_, subst}
+use mathlib.Core.Bool.{Bool, true, cond}
+use mathlib.Core.List.{List, [], _∷_, _++_}
 use lib.ListN.{length, getD, set, drop, length-set}
-use lib.Seq.{getD-set-other}
-use Rattle.model.specs.Traversal.{Letter, down, up, first, second, code}
+use Rattle.model.specs.Traversal.{Letter, down, up, first, second}
 use Rattle.model.specs.LabelledTree.{star}
-use Rattle.words.specs.Word.{valid, Ends, ends, startsUp, startsSecond}
-use Rattle.work.proofs.Regions.{region-set-other}
-use Rattle.work.proofs.Stacks.{stack-set}
-use Rattle.work.specs.Map.{LETTERS, FACES, UPS, SECONDS, BITS, LABELS}
+use Rattle.words.specs.Word.{valid, endsOne, ends, startsUp, startsSecond, wordBits}
+use Rattle.work.specs.Map.{FACES, UPS, SECONDS, BITS, LABELS}
+use Rattle.work.specs.Area.{region, stack}
 use Rattle.work.specs.Letters.{lettersIn}
+use Rattle.work.proofs.Regions.{region-front}
 use Rattle.work.proofs.Letters.{letters-set-behind}
 use Rattle.encoder.specs.declared.Scan.{Scan}
 use Rattle.encoder.specs.Encoded.{Encoded}
-use Rattle.encoder.specs.Passes.{held, Labelled, LabelStepped, downBefore, bitsFrom, Bitted, BitStepped, Scanned, Stepped}
-use Rattle.encoder.proofs.Labelling.{labels-start, labels-end, down-step, up-step, first-step, second-step}
-use Rattle.encoder.proofs.Bitting.{bits-start, bits-end, down-bit, up-bit, first-bits, second-bits}
+use Rattle.encoder.specs.Passes.{held, heldBits, downBefore, bitsFrom, Sized, Scanned, Stays, Stepped}
+use Rattle.encoder.proofs.Letters.{Stands, letter-is, letters-end, small-word}
+use Rattle.encoder.proofs.Held.{afterDown, afterUp, afterFirst, afterSecond, held-beside, bits-beside}
+use Rattle.encoder.proofs.Held.{held-down, held-up, held-first, held-second}
+use Rattle.encoder.proofs.Places.{bitsOne, bits-more, bits-fit, down-room, first-room, labels-end, bits-end}
+
+-- ---- what stays
+
+pub stays-start : (n : ℕ) (w : List ℕ) → Stays n w w
+stays-start n w = record { letters = refl; kept = refl }
+
+pub stays-then : (n : ℕ) (w w₁ w₂ : List ℕ) → Stays n w w₁ → Stays n w₁ w₂ → Stays n w w₂
+stays-then n w w₁ w₂ a b = record { letters = b .letters ∙ a .letters; kept = b .kept ∙ a .kept }
+
+stored : (n p x : ℕ) (w : List ℕ) → FACES * n ≤ p → Stays n w (set w p x)
+stored n p x w h = record { letters = letters-set-behind n w p x h; kept = length-set w p x }
 
 -- ---- start and end
 
@@ -31,126 +43,130 @@ abbrev first-scan : ℕ → Scan
 first-scan n = record { labels = n / 2; ups = 0; seconds = 0; bits = n }
 
 pub scan-start : (n : ℕ) (w : List ℕ) → valid 2 (lettersIn n w) ≡ true → 16 * n ≤ length w → Scanned n w n (first-scan n)
-scan-start n w v room = record { labelled = labels-start n w v room; bitted = bits-start n w v room }
+unfolding held heldBits stack region ends bitsFrom wordBits
+scan-start n w v room = record {
+  word = v;
+  room = room;
+  small = small-word n w room v;
+  sized = record { place = omega arith; labels-left = omega arith; bits-left = omega arith; ups-fit = omega arith; seconds-fit = omega arith };
+  labelled = rw (letters-end n w room n refl, sub-self);
+  bitted = rw (letters-end n w room n refl, sub-self);
+}
 
 -- a letter is left
 pub scan-next : (n i : ℕ) (w : List ℕ) (s : Scan) → 0 < i → Scanned n w i s → (i - 1 < n) × Scanned n w (i - 1 + 1) s
 scan-next n i w s h at =
-    let p = at .bitted .place in
+    let p = at .sized .place in
     let z : i ≡ i - 1 + 1 = omega arith in
     (omega arith, subst (λ (k : ℕ). Scanned n w k s) z at)
 
-pub scan-end : (n i : ℕ) (w₀ w : List ℕ) (s : Scan) → i ≡ 0 → Scanned n w i s → lettersIn n w ≡ lettersIn n w₀ → length w ≡ length w₀ → Encoded n w₀ w
-scan-end n i w₀ w s done scanned l k =
+pub scan-end : (n i : ℕ) (w₀ w : List ℕ) (s : Scan) → i ≡ 0 → Scanned n w i s → Stays n w₀ w → Encoded n w₀ w
+scan-end n i w₀ w s done scanned same =
     let at = subst (λ (j : ℕ). Scanned n w j s) done scanned in
-    record { labels = labels-end n _ _ _ w₀ w (at .labelled) l; bits = bits-end n _ w₀ w (at .bitted) l; kept = k }
-
--- ---- a store beside
-
-module _ (n i p x : ℕ) (w : List ℕ) where
-  pub bitted-beside : (t : ℕ) → FACES * n ≤ p → (BITS * n ≤ p → LABELS * n ≤ p) → Bitted n w i t → Bitted n (set w p x) i t
-  bitted-beside t h out at =
-      let same = letters-set-behind n w p x h in
-      let size = length-set w p x in
-      let r = at .room in let b = at .bits-left in
-      record {
-        word = ap (valid 2) same ∙ at .word;
-        room = omega arith;
-        small = at .small;
-        place = at .place;
-        bits-left = b;
-        put = region-set-other (BITS * n + t) (n - t) w p x (λ l. let o = out (omega arith) in omega arith) ∙ at .put ∙ ap (bitsFrom i) (sym same);
-      }
-
-  pub labelled-beside : (e u s : ℕ) → BITS * n ≤ p → p < LABELS * n → Labelled n w i e u s → Labelled n (set w p x) i e u s
-  unfolding held
-  labelled-beside e u s h l at =
-      let same = letters-set-behind n w p x (omega arith) in
-      let size = length-set w p x in
-      let r = at .room in let b = at .ups-fit in let c = at .seconds-fit in
-      record {
-        word = ap (valid 2) same ∙ at .word;
-        room = omega arith;
-        small = at .small;
-        place = at .place;
-        labels-left = at .labels-left;
-        ups-fit = b;
-        seconds-fit = c;
-        ended = rw (
-          region-set-other (LABELS * n + e) (n / 2 - e) w p x (λ k. absurd (omega arith)),
-          stack-set (UPS * n) u w p x (λ k. omega arith),
-          stack-set (SECONDS * n) s w p x (λ k. omega arith),
-          same,
-        )
-            (at .ended);
-      }
+    record { labels = rw (same .letters) at (labels-end n w s at); bits = rw (same .letters) at (bits-end n w s at); kept = same .kept }
 
 -- ---- one letter
 
--- first the labels, then the tree bits
-both : (n i e u s t : ℕ) (w w₁ w₂ : List ℕ) → LabelStepped n w w₁ i e u s → BitStepped n w₁ w₂ i t → Labelled n w₂ i e u s
-    → Stepped n w w₂ i (record { labels = e; ups = u; seconds = s; bits = t })
-both n i e u s t w w₁ w₂ a b c = record {
-  scanned = record { labelled = c; bitted = b .bitted };
-  letters = b .letters ∙ a .letters;
-  kept = b .kept ∙ a .kept;
-}
-
 module _ (n i : ℕ) (w : List ℕ) (s : Scan) (h : i < n) (at : Scanned n w (i + 1) s) where
-  -- the letter itself stays
-  stays : (p x : ℕ) → FACES * n ≤ p → getD (set w p x) (LETTERS * n + i) 0 ≡ getD w (LETTERS * n + i) 0
-  stays p x l = getD-set-other w p (LETTERS * n + i) x 0 (omega arith)
+  abbrev rest : List Letter
+  rest = drop (i + 1) (lettersIn n w)
 
-  pub down-letter : (x : ℕ) → 0 < s .labels → 0 < s .ups → 0 < s .bits → getD w (LETTERS * n + i) 0 ≡ code down
-      → x ≡ cond (startsUp (drop (i + 1) (lettersIn n w))) star (getD w (UPS * n + (s .ups - 1)) 0)
-      → Stepped n w (set (set w (LABELS * n + (s .labels - 1)) x) (BITS * n + (s .bits - 1)) 1) i
-      (record { labels = s .labels - 1; ups = s .ups - 1; seconds = s .seconds; bits = s .bits - 1 })
-  down-letter x a b c one d =
-      let e = s .labels - 1 in let t = s .bits - 1 in
-      let few = at .bitted .bits-left in
-      let w₁ = set w (LABELS * n + e) x in
-      let first = down-step n i e (s .ups - 1) (s .seconds) x w h _ _ (omega arith) (omega arith) (at .labelled) one d in
-      let then = down-bit n i t w₁ h _ (omega arith) (bitted-beside n (i + 1) (LABELS * n + e) x w (s .bits) (omega arith) (λ l. omega arith) (at .bitted))
-      (stays (LABELS * n + e) x (omega arith) ∙ one) in
-      both n i _ _ _ t w w₁ _ first then (labelled-beside n i (BITS * n + t) 1 w₁ _ _ _ (omega arith) (omega arith) (first .labelled))
+  abbrev before : Bool
+  before = downBefore i (lettersIn n w)
 
-  pub up-letter : (x y : ℕ) → 0 < s .bits → getD w (LETTERS * n + i) 0 ≡ code up → x ≡ startsSecond (drop (i + 1) (lettersIn n w))
-      → y ≡ cond (downBefore i (lettersIn n w)) x 0
-      → Stepped n w (set (set w (UPS * n + s .ups) x) (BITS * n + (s .bits - 1)) y) i
-      (record { labels = s .labels; ups = s .ups + 1; seconds = s .seconds; bits = s .bits - 1 })
-  up-letter x y c two d f =
-      let t = s .bits - 1 in
-      let few = at .bitted .bits-left in let fit = at .labelled .ups-fit in
-      let w₁ = set w (UPS * n + s .ups) x in
-      let first = up-step n i (s .labels) (s .ups) (s .seconds) x w h (at .labelled) two d in
-      let bit : y ≡ cond (downBefore i (lettersIn n w₁)) (startsSecond (drop (i + 1) (lettersIn n w₁))) 0 = rw (first .letters, ← d) f in
-      let then = up-bit n i t w₁ h _ y (omega arith) (bitted-beside n (i + 1) (UPS * n + s .ups) x w (s .bits) (omega arith) (λ l. absurd (omega arith)) (at .bitted))
-      (stays (UPS * n + s .ups) x (omega arith) ∙ two) bit in
-      both n i _ _ _ t w w₁ _ first then (labelled-beside n i (BITS * n + t) y w₁ _ _ _ (omega arith) (omega arith) (first .labelled))
+  fits : (s′ : Scan) → s′ .labels ≤ s .labels → s′ .bits ≤ s .bits → s′ .ups ≤ s .ups + 1 → s′ .seconds ≤ s .seconds + 1 → Sized n i s′
+  fits s′ a b c d = record {
+    place = omega arith;
+    labels-left = omega (arith, at);
+    bits-left = omega (arith, at);
+    ups-fit = omega (arith, at);
+    seconds-fit = omega (arith, at);
+  }
 
-  pub first-letter : (x : ℕ) → 0 < s .labels → 0 < s .seconds → 1 < s .bits → getD w (LETTERS * n + i) 0 ≡ code first → x ≡ getD w (SECONDS * n + (s .seconds - 1)) 0
-      → Stepped n w (set (set (set w (LABELS * n + (s .labels - 1)) x) (BITS * n + (s .bits - 2) + 1) 0) (BITS * n + (s .bits - 2)) 1) i
-      (record { labels = s .labels - 1; ups = s .ups; seconds = s .seconds - 1; bits = s .bits - 2 })
-  first-letter x a b c three d =
-      let e = s .labels - 1 in let t = s .bits - 2 in
-      let few = at .bitted .bits-left in
-      let w₁ = set w (LABELS * n + e) x in
-      let first = first-step n i e (s .ups) (s .seconds - 1) x w h _ _ (omega arith) (omega arith) (at .labelled) three d in
-      let then = first-bits n i t w₁ h _ (omega arith) (bitted-beside n (i + 1) (LABELS * n + e) x w (s .bits) (omega arith) (λ l. omega arith) (at .bitted))
-      (stays (LABELS * n + e) x (omega arith) ∙ three) in
-      both n i _ _ _ t w w₁ _ first then
-      (labelled-beside n i (BITS * n + t) 1 (set w₁ (BITS * n + t + 1) 0) _ _ _ (omega arith) (omega arith)
-      (labelled-beside n i (BITS * n + t + 1) 0 w₁ _ _ _ (omega arith) (omega arith) (first .labelled)))
+  advance : (l : Letter) (w′ : List ℕ) (s′ : Scan) → Stands n w i l → Stays n w w′ → Sized n i s′
+      → held n w′ s′ ≡ endsOne l rest (held n w s) → heldBits n w′ s′ ≡ bitsOne before l rest ++ heldBits n w s → Stepped n w w′ i s′
+  unfolding ends
+  advance l w′ s′ here same sized labels bits =
+      let room = at .room in
+      let size = same .kept in
+      record {
+        scanned = record {
+          word = ap (valid 2) (same .letters) ∙ at .word;
+          room = omega arith;
+          small = at .small;
+          sized = sized;
+          labelled = rw (same .letters, letter-is n w room i h l here, ← at .labelled) labels;
+          bitted = rw (same .letters, bits-more n i w s h at l here) bits;
+        };
+        stays = same;
+      }
 
-  pub second-letter : (x : ℕ) → getD w (LETTERS * n + i) 0 ≢ code down → getD w (LETTERS * n + i) 0 ≢ code up → getD w (LETTERS * n + i) 0 ≢ code first
-      → x ≡ startsSecond (drop (i + 1) (lettersIn n w))
-      → Stepped n w (set w (SECONDS * n + s .seconds) x) i (record { labels = s .labels; ups = s .ups; seconds = s .seconds + 1; bits = s .bits })
-  second-letter x a b c d =
-      let fit = at .labelled .seconds-fit in
-      let w₁ = set w (SECONDS * n + s .seconds) x in
-      let same = stays (SECONDS * n + s .seconds) x (omega arith) in
-      let first = second-step n i (s .labels) (s .ups) (s .seconds) x w h (at .labelled) a b c d in
-      let then = second-bits n i (s .bits) w₁ h
-      (bitted-beside n (i + 1) (SECONDS * n + s .seconds) x w (s .bits) (omega arith) (λ l. absurd (omega arith)) (at .bitted))
-      (λ z. a (sym same ∙ z)) (λ z. b (sym same ∙ z)) (λ z. c (sym same ∙ z)) in
-      both n i _ _ _ (s .bits) w w₁ w₁ first then (first .labelled)
+  -- a store among labels or stacks, and one bit
+  one-bit : (l : Letter) (p x b : ℕ) (s′ : Scan) → Stands n w i l → FACES * n ≤ p → (BITS * n ≤ p → LABELS * n ≤ p) → Sized n i s′
+      → s′ .bits ≡ s .bits - 1 → bitsOne before l rest ≡ b ∷ [] → held n (set w p x) s′ ≡ endsOne l rest (held n w s)
+      → Stepped n w (set (set w p x) (BITS * n + (s .bits - 1)) b) i s′
+  unfolding heldBits
+  one-bit l p x b s′ here behind beside sized t bit labels =
+      let w₁ = set w p x in
+      let q = BITS * n + (s .bits - 1) in
+      let size = length-set w p x in
+      let place = rw bit at (bits-fit n i w s h at l here) in
+      advance l _ s′ here (stays-then n w w₁ _ (stored n p x w behind) (stored n q b w₁ (omega arith))) sized
+      (held-beside n i w₁ s′ sized q b (omega arith) (omega (arith, at)) ∙ labels)
+      (rw (t, bit, ← bits-beside n (i + 1) w s (at .sized) p x beside)
+      (region-front (BITS * n) n (s .bits) b w₁ place (at .sized .bits-left) (omega (arith, at))))
+
+  pub down-letter : (x : ℕ) → Stands n w i down → x ≡ cond (startsUp rest) star (getD w (UPS * n + (s .ups - 1)) 0)
+      → Stepped n w (set (set w (LABELS * n + (s .labels - 1)) x) (BITS * n + (s .bits - 1)) 1) i (afterDown s)
+  down-letter x here d =
+      let waits = down-room n i w s h at here in
+      one-bit down (LABELS * n + (s .labels - 1)) x 1 (afterDown s) here (omega arith) (λ k. omega arith)
+      (fits (afterDown s) (omega arith) (omega arith) (omega arith) (omega arith)) refl refl
+      (held-down n (i + 1) w s at x rest (waits .0) (waits .1) d)
+
+  pub up-letter : (x y : ℕ) → Stands n w i up → x ≡ startsSecond rest → y ≡ cond before x 0
+      → Stepped n w (set (set w (UPS * n + s .ups) x) (BITS * n + (s .bits - 1)) y) i (afterUp s)
+  up-letter x y here d e =
+      one-bit up (UPS * n + s .ups) x y (afterUp s) here (omega arith) (λ k. omega (arith, at))
+      (fits (afterUp s) (omega arith) (omega arith) (omega arith) (omega arith)) refl (rw (e, d))
+      (held-up n (i + 1) w s at x rest (omega (arith, at)) d)
+
+  pub first-letter : (x : ℕ) → Stands n w i first → x ≡ getD w (SECONDS * n + (s .seconds - 1)) 0
+      → Stepped n w (set (set (set w (LABELS * n + (s .labels - 1)) x) (BITS * n + (s .bits - 2) + 1) 0) (BITS * n + (s .bits - 2)) 1) i (afterFirst s)
+  unfolding heldBits
+  first-letter x here d =
+      let waits = first-room n i w s h at here in
+      let places = bits-fit n i w s h at first here in
+      let p = LABELS * n + (s .labels - 1) in
+      let q = BITS * n + (s .bits - 1) in
+      let r = BITS * n + (s .bits - 2) in
+      let next : r + 1 ≡ q = omega arith in
+      let last : s .bits - 2 ≡ s .bits - 1 - 1 = omega arith in
+      let w₁ = set w p x in
+      let w₂ = set w₁ q 0 in
+      let size = length-set w p x in
+      let size₂ = length-set w₁ q 0 in
+      let after = fits (afterFirst s) (omega arith) (omega arith) (omega arith) (omega arith) in
+      rw next (advance first _ (afterFirst s) here
+      (stays-then n w w₁ _ (stored n p x w (omega arith)) (stays-then n w₁ w₂ _ (stored n q 0 w₁ (omega arith)) (stored n r 1 w₂ (omega arith))))
+      after
+      (rw (
+        held-beside n i w₂ (afterFirst s) after r 1 (omega arith) (omega (arith, at)),
+        held-beside n i w₁ (afterFirst s) after q 0 (omega arith) (omega (arith, at)),
+      )
+      (held-first n (i + 1) w s at x rest (waits .0) (waits .1) d))
+      (rw (
+        last,
+        ← bits-beside n (i + 1) w s (at .sized) p x (λ k. omega arith),
+        ← region-front (BITS * n) n (s .bits) 0 w₁ (omega arith) (at .sized .bits-left) (omega (arith, at)),
+      )
+      (region-front (BITS * n) n (s .bits - 1) 1 w₂ (omega arith) (omega (arith, at)) (omega (arith, at)))))
+
+  pub second-letter : (x : ℕ) → Stands n w i second → x ≡ startsSecond rest → Stepped n w (set w (SECONDS * n + s .seconds) x) i (afterSecond s)
+  unfolding heldBits
+  second-letter x here d =
+      let p = SECONDS * n + s .seconds in
+      advance second _ (afterSecond s) here (stored n p x w (omega arith))
+      (fits (afterSecond s) (omega arith) (omega arith) (omega arith) (omega arith))
+      (held-second n (i + 1) w s at x rest (omega (arith, at)) d)
+      (bits-beside n (i + 1) w s (at .sized) p x (λ k. absurd (omega (arith, at))))

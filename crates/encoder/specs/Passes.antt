@@ -1,11 +1,13 @@
 -- What the pass over the word keeps true. It goes from right to left: the letters from position i on are done.
 --
---   held n w e u s         the labels from index e on, and the stacks with u labels of tree edges and s of other edges
---   Labelled, LabelStepped what it keeps true of the labels, and what one letter changes
---   downBefore i w         the letter before position i is down
---   bitsFrom i w           the tree bits of the letters from position i on
---   Bitted, BitStepped     what it keeps true of the tree bits, and what one letter changes
---   Scanned, Stepped       both
+--   held n w s             the labels that are put, and those that wait on the stacks
+--   heldBits n w s         the tree bits that are put
+--   downBefore i v         the letter before position i of the word v is down
+--   bitsFrom i v           the tree bits of the letters from position i on
+--   Sized n i s            the numbers of the pass are in range
+--   Scanned n w i s        the letters from position i on are done
+--   Stays n w w′           the word stays, and the area's length
+--   Stepped n w w′ i s     the letter at position i is done
 use Prim.Native.Nat.{ℕ, zero, suc, _+_, _-_, _*_, _/_, _≤_}
 use mathlib.Core.Path.{_≡_}
 use mathlib.Core.Bool.{Bool, true, false}
@@ -19,55 +21,42 @@ use Rattle.work.specs.Area.{region, stack}
 use Rattle.work.specs.Letters.{lettersIn}
 use Rattle.encoder.specs.declared.Scan.{Scan}
 
--- ---- labels
+unfoldable pub held : ℕ → List ℕ → Scan → Ends
+held n w s = record {
+  labels = region (LABELS * n + s .labels) (n / 2 - s .labels) w;
+  ups = stack (UPS * n) (s .ups) w;
+  seconds = stack (SECONDS * n) (s .seconds) w;
+}
 
-unfoldable pub held : ℕ → List ℕ → ℕ → ℕ → ℕ → Ends
-held n w e u s = record { labels = region (LABELS * n + e) (n / 2 - e) w; ups = stack (UPS * n) u w; seconds = stack (SECONDS * n) s w }
-
-pub record Labelled (n : ℕ) (w : List ℕ) (i e u s : ℕ) : Type 0 where
-  pub word : valid 2 (lettersIn n w) ≡ true
-  pub room : 16 * n ≤ length w
-  pub small : n ≤ 8192
-  pub place : i ≤ n
-  pub labels-left : e ≤ n / 2
-  pub ups-fit : u + i ≤ n
-  pub seconds-fit : s + i ≤ n
-  pub ended : held n w e u s ≡ ends (drop i (lettersIn n w))
-
-pub record LabelStepped (n : ℕ) (w w′ : List ℕ) (i e u s : ℕ) : Type 0 where
-  pub labelled : Labelled n w′ i e u s
-  pub letters : lettersIn n w′ ≡ lettersIn n w
-  pub kept : length w′ ≡ length w
-
--- ---- tree bits
+unfoldable pub heldBits : ℕ → List ℕ → Scan → List ℕ
+heldBits n w s = region (BITS * n + s .bits) (n - s .bits) w
 
 unfoldable pub downBefore : ℕ → List Letter → Bool
-downBefore zero w = false
-downBefore (suc i) w = isDown (getD w i up)
+downBefore zero v = false
+downBefore (suc i) v = isDown (getD v i up)
 
 unfoldable pub bitsFrom : ℕ → List Letter → List ℕ
-bitsFrom i w = wordBits (downBefore i w) (drop i w)
+bitsFrom i v = wordBits (downBefore i v) (drop i v)
 
-pub record Bitted (n : ℕ) (w : List ℕ) (i t : ℕ) : Type 0 where
+pub record Sized (n i : ℕ) (s : Scan) : Type 0 where
+  pub place : i ≤ n
+  pub labels-left : s .labels ≤ n / 2
+  pub bits-left : s .bits ≤ n
+  pub ups-fit : s .ups + i ≤ n
+  pub seconds-fit : s .seconds + i ≤ n
+
+pub record Scanned (n : ℕ) (w : List ℕ) (i : ℕ) (s : Scan) : Type 0 where
   pub word : valid 2 (lettersIn n w) ≡ true
   pub room : 16 * n ≤ length w
   pub small : n ≤ 8192
-  pub place : i ≤ n
-  pub bits-left : t ≤ n
-  pub put : region (BITS * n + t) (n - t) w ≡ bitsFrom i (lettersIn n w)
+  pub sized : Sized n i s
+  pub labelled : held n w s ≡ ends (drop i (lettersIn n w))
+  pub bitted : heldBits n w s ≡ bitsFrom i (lettersIn n w)
 
-pub record BitStepped (n : ℕ) (w w′ : List ℕ) (i t : ℕ) : Type 0 where
-  pub bitted : Bitted n w′ i t
+pub record Stays (n : ℕ) (w w′ : List ℕ) : Type 0 where
   pub letters : lettersIn n w′ ≡ lettersIn n w
   pub kept : length w′ ≡ length w
-
--- ---- both
-
-pub record Scanned (n : ℕ) (w : List ℕ) (i : ℕ) (s : Scan) : Type 0 where
-  pub labelled : Labelled n w i (s .labels) (s .ups) (s .seconds)
-  pub bitted : Bitted n w i (s .bits)
 
 pub record Stepped (n : ℕ) (w w′ : List ℕ) (i : ℕ) (s : Scan) : Type 0 where
   pub scanned : Scanned n w′ i s
-  pub letters : lettersIn n w′ ≡ lettersIn n w
-  pub kept : length w′ ≡ length w
+  pub stays : Stays n w w′

@@ -10,7 +10,8 @@
 use mathlib.Core.Path.{_≡_, refl, ap, _∙_}
 use mathlib.Core.List.{List, [], _∷_, map}
 use mathlib.Core.Logic.{_≢_}
-use Prim.Native.Nat.{ℕ, suc, _+_, _*_, _≤_, _<_}
+use Prim.Native.Nat.{ℕ, _+_, _*_, _≤_, _<_}
+use native.Mathlib.Numerals.{add-one}
 use native.Mathlib.Omega.{arith}
 use lib.ListN.{length, getD, set, drop, List·getD-map, length-map}
 use lib.Seq.{drop-cons}
@@ -62,10 +63,9 @@ module _ (n : ℕ) (w : List ℕ) where
   unfolding lettersIn
   letter-at i h = List·getD-map toLetter (region (LETTERS * n) n w) i 0 ∙ ap toLetter (getD-region (LETTERS * n) n w i h)
 
-  pub letters-from : (i : ℕ) → FACES * n ≤ length w → i < n → drop i (lettersIn n w) ≡ toLetter (getD w (LETTERS * n + i) 0) ∷ drop (suc i) (lettersIn n w)
-  letters-from i h l =
-      let e = length-letters h in
-      drop-cons (lettersIn n w) i (toLetter 0) (omega arith) ∙ ap (λ (x : Letter). x ∷ drop (suc i) (lettersIn n w)) (letter-at i l)
+  pub letters-from : (i : ℕ) → FACES * n ≤ length w → i < n
+      → drop i (lettersIn n w) ≡ toLetter (getD w (LETTERS * n + i) 0) ∷ drop (i + 1) (lettersIn n w)
+  letters-from i h l = let e = length-letters h in rw (add-one, ← letter-at i l) (drop-cons (lettersIn n w) i (toLetter 0) (omega arith))
 
   pub letters-set-behind : (i x : ℕ) → FACES * n ≤ i → lettersIn n (set w i x) ≡ lettersIn n w
   unfolding lettersIn

@@ -3,7 +3,7 @@
 --   length-region, getD-region          a region's length and entries
 --   region-region, region-split         a region of a region; a region in two adjacent ones
 --   region-set, region-set-other        a store inside the region, and outside it
---   region-front                        a store right before the entries from place t to c of a part that begins at a
+--   region-front                        a store right before the entries from place t on of a part that has c of them and begins at a
 --   length-placed                       placing what fits keeps the length
 --   getD-placed                         an entry of what was placed
 --   region-placed, region-placed-other  the region where it was placed, and one beside it
@@ -70,19 +70,15 @@ region-set-other a n w i v out = le-or a i behind (λ h. ap (take n) (drop-set-l
     behind h =
         take-drop a n (set w i v) ∙ ap (drop a) (take-set-le (a + n) w i v (out h)) ∙ sym (take-drop a n w)
 
-region-first : (a k x : ℕ) (w : List ℕ) → a < length w → region a (suc k) (set w a x) ≡ x ∷ region (suc a) k w
+pub region-front : (a c t x : ℕ) (w : List ℕ) → 0 < t → t ≤ c → a + c ≤ length w
+    → region (a + (t - 1)) (c - (t - 1)) (set w (a + (t - 1)) x) ≡ x ∷ region (a + t) (c - t) w
 unfolding region
-region-first a k x w h =
-    ap (take (suc k)) (drop-cons (set w a x) a 0 (lt-length-set w a x h))
-    ∙ ap (λ (y : ℕ). y ∷ take k (drop (suc a) (set w a x))) (getD-set-same w a x 0 h)
-    ∙ ap (λ (r : List ℕ). x ∷ take k r) (drop-set-lt (suc a) w a x (omega arith))
-
-pub region-front : (a c t x : ℕ) (w : List ℕ) → t < c → a + t < length w
-    → region (a + t) (c - t) (set w (a + t) x) ≡ x ∷ region (a + suc t) (c - suc t) w
-region-front a c t x w l h =
-    let z : c - t ≡ suc (c - suc t) = omega arith in
-    ap (λ (k : ℕ). region (a + t) k (set w (a + t) x)) z ∙ region-first (a + t) (c - suc t) x w h
-    ∙ ap (λ (p : ℕ). x ∷ region p (c - suc t) w) (sym (add-suc a t))
+region-front a c t x w o l h =
+    let p = a + (t - 1) in
+    let more : c - (t - 1) ≡ suc (c - t) = omega arith in
+    let next : a + t ≡ suc p = omega arith in
+    let fits : p < length w = omega arith in
+    rw (more, next, drop-cons (set w p x) p 0 (lt-length-set w p x fits), getD-set-same w p x 0 fits, drop-set-lt (suc p) w p x (omega arith))
 
 -- ---- what is placed
 

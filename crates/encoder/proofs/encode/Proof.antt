@@ -1,21 +1,18 @@
 use native.Mathlib.Omega.{arith}
-use mathlib.Core.Path.{_≡_, refl, _∙_}
-use lib.ListN.{length}
-use Rattle.work.specs.Letters.{lettersIn}
-use Rattle.encoder.specs.Passes.{Scanned}
-use Rattle.encoder.proofs.Scanning.{scan-start, scan-next, scan-end}
+use Rattle.encoder.specs.Passes.{Scanned, Stays}
+use Rattle.encoder.proofs.Scanning.{stays-start, stays-then, scan-start, scan-next, scan-end}
 use borrow.Author.Needs.{needs}
 use Rattle.encoder.proofs.encode.Statement.{statement}
 use Rattle.encoder.proofs.encode.Tie as tie
 
 abbrev Inv-loop : tie.InvT-loop
-Inv-loop w₀ n s₀ i₀ w s i = Scanned n w i s × (lettersIn n w ≡ lettersIn n w₀) × (length w ≡ length w₀)
+Inv-loop w₀ n s₀ i₀ w s i = Scanned n w i s × Stays n w₀ w
 
 abbrev μ-loop : tie.MeasureT-loop
 μ-loop w₀ n s₀ i₀ w s i = i
 
 loop-holds : tie.Need-loop-holds Inv-loop μ-loop
-loop-holds c = (scan-start _ _ (c .before .pre .0) (c .before .pre .1), refl, refl)
+loop-holds c = (scan-start _ _ (c .before .pre .0) (c .before .pre .1), stays-start _ _)
 
 step-requires : tie.Need-step-requires Inv-loop μ-loop
 step-requires c κs = let at = c .before .before .loop in scan-next _ (at .i) _ _ (c .before .loop-test .taken) (at .inv .0)
@@ -24,15 +21,15 @@ loop-again : tie.Need-loop-again Inv-loop μ-loop
 loop-again c =
     let step = c .before .before .step .ensures in
     let inv = c .before .before .before .before .before .loop .inv in
-    (step .scanned, step .letters ∙ inv .1, step .kept ∙ inv .2)
+    (step .scanned, stays-then _ _ _ _ (inv .1) (step .stays))
 
 same-length : tie.Need-same-length Inv-loop μ-loop
-same-length c = c .before .loop .inv .2
+same-length c = c .before .loop .inv .1 .kept
 
 returns : tie.Need-returns Inv-loop μ-loop
 returns c =
     let at = c .before .loop in
-    scan-end _ (at .i) _ _ _ (omega (arith, c .loop-test .left)) (at .inv .0) (at .inv .1) (at .inv .2)
+    scan-end _ (at .i) _ _ _ (omega (arith, c .loop-test .left)) (at .inv .0) (at .inv .1)
 
 pub encode-spec : {M : Type 1} → statement M
 encode-spec =

@@ -2,18 +2,19 @@ use Prim.Native.Nat.{_<_}
 use native.Mathlib.Omega.{arith}
 use mathlib.Core.Path.{refl}
 use lib.ListN.{length-set}
-use Rattle.encoder.proofs.Labelling.{first-room}
-use Rattle.encoder.proofs.Bitting.{first-place}
+use Rattle.model.specs.Traversal.{first}
+use Rattle.work.proofs.Letters.{is-first}
+use Rattle.encoder.proofs.Places.{bits-fit, first-room}
 use Rattle.encoder.proofs.Scanning.{first-letter}
 use borrow.Author.Needs.{needs}
 use Rattle.encoder.proofs.step_first.Statement.{statement}
 use Rattle.encoder.proofs.step_first.Tie as tie
 
 rooms : (c : tie.Start) → (0 < c .args .s .labels) × (0 < c .args .s .seconds)
-rooms c = first-room _ _ _ _ _ _ (c .pre .0) (c .pre .1 .labelled) (c .pre .2)
+rooms c = first-room _ _ _ _ (c .pre .0) (c .pre .1) (is-first _ (c .pre .2))
 
 place : (c : tie.Start) → 1 < c .args .s .bits
-place c = first-place _ _ _ _ (c .pre .0) (c .pre .1 .bitted) (c .pre .2)
+place c = bits-fit _ _ _ _ (c .pre .0) (c .pre .1) first (is-first _ (c .pre .2))
 
 sub-e : tie.Need-sub-e
 sub-e c = rooms (c .before) .0
@@ -25,22 +26,15 @@ sub-t : tie.Need-sub-t
 sub-t c = place (c .before .before .before)
 
 slice-write-w-2 : tie.Need-slice-write-w-2
-slice-write-w-2 c =
-    let b = c .before .before .before .before .pre .1 .bitted in
-    let r = b .room in let t = b .bits-left in
-    simp length-set (omega arith)
+slice-write-w-2 c = simp length-set (omega (arith, c .before .before .before .before .pre))
 
 slice-write-w-3 : tie.Need-slice-write-w-3
-slice-write-w-3 c =
-    let b = c .before .before .before .before .pre .1 .bitted in
-    let r = b .room in let t = b .bits-left in
-    simp length-set (omega arith)
+slice-write-w-3 c = simp length-set (omega (arith, c .before .before .before .before .pre))
 
 returns : tie.Need-returns
 returns c =
     let st = c .before .before .before .before in
-    let r = rooms st in
-    first-letter _ _ _ _ (st .pre .0) (st .pre .1) _ (r .0) (r .1) (place st) (st .pre .2) refl
+    first-letter _ _ _ _ (st .pre .0) (st .pre .1) _ (is-first _ (st .pre .2)) refl
 
 pub step-first-spec : {M : Type 1} → statement M
 step-first-spec =

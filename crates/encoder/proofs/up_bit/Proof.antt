@@ -1,5 +1,5 @@
 use native.Mathlib.Omega.{arith}
-use Rattle.encoder.proofs.Bitting.{before-first, before-down, before-other}
+use Rattle.encoder.proofs.Letters.{before-first, before-down, before-other}
 use borrow.Author.Needs.{needs}
 use Rattle.encoder.proofs.up_bit.Statement.{statement}
 use Rattle.encoder.proofs.up_bit.Tie as tie
