@@ -6,6 +6,7 @@ pub mod Fitness
 pub mod Characteristic
 pub mod Standard
 pub mod Refusals
+pub mod Heads
 pub mod Answers
 pub mod Line
 mod Opened

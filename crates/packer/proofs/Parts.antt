@@ -25,7 +25,7 @@ use Rattle.work.specs.Map.{BITS, LABELS}
 use Rattle.work.specs.Area.{region, placed}
 use Rattle.work.proofs.Regions.{region-split, placed-none, placed-cons, placed-next, front-placed}
 use Rattle.packing.proofs.Packed.{pack-length}
-use Rattle.packing.proofs.Head.{recordLength-range}
+use Rattle.model.proofs.Heads.{recordLength-range}
 use Rattle.packing.proofs.Payload.{payload-length}
 use Rattle.work.specs.Letters.{workBits, workLabels}
 use Rattle.packer.specs.Packed.{Packed}

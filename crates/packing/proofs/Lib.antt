@@ -2,7 +2,6 @@ pub mod Below
 pub mod Digits
 pub mod Packed
 pub mod Place
-pub mod Head
 pub mod Payload
 pub mod Headed
 pub mod Examples

@@ -23,7 +23,7 @@ use Rattle.model.proofs.Below.{below-append, below-take, below-drop, below-mono
 use Rattle.packing.specs.Unpack.{unpack, bits, groups}
 use Rattle.packing.specs.Unlay.{blankFrom, payloadBits, payloadLabels, payloadClean}
 use Rattle.packing.proofs.Packed.{pack-length, pack-below, unpack-append, length-unpack, unpack-below, unpack-pack, pack-take}
-use Rattle.packing.proofs.Head.{kind-cases}
+use Rattle.model.proofs.Heads.{kind-cases}
 
 -- `pack` and `unpack` where the number of numbers is the list's length
 module _ (b w : ℕ) (h : 0 < b) where

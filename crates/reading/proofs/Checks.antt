@@ -2,7 +2,6 @@
 --
 --   early-head, early-work, early-output, early-none   the first refusal, check by check
 --   Early, early-facts, facts-early   no refusal: the head passes, the work area and the output have room
---   head-long            a head that passes is whole
 --   core-none            no refusal with an output: none without
 --   core-room            an output of 8,192 entries is as good as none
 use Prim.Native.Nat.{ℕ, _*_, _≤_, _<_}
@@ -12,23 +11,18 @@ use mathlib.Core.Logic.{_≢_}
 use mathlib.Core.Bool.{Bool, true, false, not, cond}
 use mathlib.Core.List.{List}
 use lib.Dec.{eqb, ltb}
-use lib.ListN.{length}
-use borrow.Author.Tests.{lt-ltb, le-ltb, eq-eqb, ne-eqb, eqb-true, eqb-false, ltb-false}
+use borrow.Author.Tests.{lt-ltb, le-ltb, ne-eqb, eqb-true, eqb-false, ltb-false}
 use Rattle.model.specs.Numbers.{firstRefusal}
 use Rattle.model.specs.Shelf.{edgesOf, headRefusal, passes}
 use Rattle.model.specs.Calls.{readRefusal}
 use Rattle.model.proofs.Unreadable.{room-clear}
-use Rattle.packing.proofs.Head.{passes-facts}
+use Rattle.model.proofs.Heads.{passes-facts}
 use Rattle.reading.specs.Core.{coreRefusal}
 
 pub record Early (r : List ℕ) (w o : ℕ) : Type 0 where
   pub passed : passes r ≡ true
   pub work-room : 32 * edgesOf r ≤ w
   pub out-room : 2 * edgesOf r ≤ o
-
-pub head-long : (r : List ℕ) → headRefusal r ≡ 0 → 6 ≤ length r
-unfolding passes
-head-long r e = passes-facts r (eq-eqb _ 0 e) .whole-head
 
 module _ (r : List ℕ) (w o : ℕ) where
   pub early-head : (h : ℕ) → h ≡ headRefusal r → h ≢ 0 → h ≡ readRefusal r w o

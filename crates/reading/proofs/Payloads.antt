@@ -10,7 +10,7 @@ use mathlib.Core.List.{List}
 use lib.ListN.{length, take, drop, length-drop}
 use lib.Seq.{take-all}
 use Rattle.model.specs.Shelf.{kindOf, edgesOf, passes}
-use Rattle.packing.proofs.Head.{passes-facts}
+use Rattle.model.proofs.Heads.{passes-facts}
 use Rattle.coding.specs.Decode.{decodePayload, decodeRecord}
 use Rattle.decoder.specs.Decoded.{Sized, Answered}
 

@@ -19,7 +19,7 @@ use borrow.Author.Tests.{ne-eqb, eq-eqb}
 use Rattle.model.specs.Shelf.{word16, headRefusal, passes}
 use Rattle.model.specs.ShelfWalk.{firstRecord, recordAt}
 use Rattle.model.proofs.Booleans.{not-intro}
-use Rattle.heads.proofs.Head.{passes-long, passes-length}
+use Rattle.model.proofs.Heads.{passes-long, passes-length}
 use Rattle.model.specs.Parts.{cutPlace}
 
 field-take : (bs : List ℕ) (l : ℕ) → 2 ≤ l → word16 (take l bs) 0 ≡ word16 bs 0

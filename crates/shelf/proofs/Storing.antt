@@ -1,6 +1,5 @@
 -- Shelving at plain values: r is the record, s the shelf, u its used length.
 --
---   headed                a record that is not refused has a head
 --   spot-refused, spot-over, spot-broken, spot-there, spot-full, spot-new    the spot of a record, way by way
 --   stored-refused, stored-there, stored-new    what shelving promises, by the spot
 --   new-fits              a new record has room
@@ -23,10 +22,9 @@ use Rattle.model.specs.declared.Shelved.the-variants as shelved
 use Rattle.shelf.specs.declared.Spot.{Spot}
 use Rattle.shelf.specs.declared.Spot.the-variants.{There, New, Refused}
 use Rattle.model.specs.Numbers.{firstRefusal}
-use Rattle.model.specs.Shelf.{headRefusal, passes, recordsIn, endToEnd, firstEqual, shelfRefused}
+use Rattle.model.specs.Shelf.{headRefusal, recordsIn, endToEnd, firstEqual, shelfRefused}
 use Rattle.model.specs.Calls.{front, shelveRefusal, shelveAnswer, shelvedBytes, Stored}
 use Rattle.model.proofs.Refusals.{not-met}
-use Rattle.heads.proofs.Head.{passes-long}
 use Rattle.shelf.specs.Spot.{spotOf}
 use Rattle.shelf.proofs.Refusals.{used-part}
 use Rattle.shelf.proofs.Walking.{used-fine}
@@ -39,11 +37,6 @@ cond-zero false k n f e = e
 and-false : (a b : Bool) → a ≡ true → (a && b) ≡ false → b ≡ false
 and-false true b t e = e
 and-false false b t e = absurd (false≢true t)
-
--- a record that is not refused has a head
-pub headed : (r : List ℕ) → headRefusal r ≡ 0 → 6 ≤ length r
-unfolding passes
-headed r e = passes-long r (eq-eqb (headRefusal r) 0 e)
 
 module _ (r s : List ℕ) (u : ℕ) where
   pub spot-refused : (x : ℕ) → x ≡ headRefusal r → (x ≡ 0 → ⊥) → Refused x ≡ spotOf r s u

@@ -16,7 +16,7 @@ use lib.Seq.{take-append-seam, drop-append-seam}
 use Rattle.model.specs.Shelf.{word16, passes, recordsIn, allPass, endToEnd}
 use Rattle.model.specs.ShelfWalk.{firstRecord}
 use Rattle.model.proofs.Booleans.{and-left, and-right}
-use Rattle.heads.proofs.Head.{passes-long, passes-length}
+use Rattle.model.proofs.Heads.{passes-long, passes-length}
 use Rattle.records.proofs.Stands.{head-whole}
 use Rattle.records.proofs.Cut.{rest, cut-verdict, cut-records, end-nil, end-head, end-rest, end-records}
 

@@ -22,7 +22,7 @@ use Rattle.model.specs.Shelf.{passes, recordsIn, allPass, endToEnd, shelfRefuse
 use Rattle.model.specs.Calls.{fetchRefusal, fetched}
 use Rattle.model.specs.ShelfWalk.{recordAt, nextPlace, placeOfRecord, beginPlace, walked, HandsOut}
 use Rattle.model.proofs.Booleans.{and-left, and-right}
-use Rattle.heads.proofs.Head.{passes-long}
+use Rattle.model.proofs.Heads.{passes-long}
 use Rattle.records.proofs.Stands.{record-short}
 use Rattle.shelf.proofs.Walking.{place-record, none-left, used-fine, fine-parts}
 use Rattle.shelf_laws.proofs.Laid.{laid, laid-back}

@@ -19,7 +19,7 @@ use lib.Seq.{length-take-le, getD-take, getD-drop}
 use Rattle.model.specs.Record.{recordLength}
 use Rattle.packing.specs.Unpack.{bits, groups}
 use Rattle.packing.specs.Unlay.{payloadBits, payloadLabels}
-use Rattle.packing.proofs.Head.{kind-cases}
+use Rattle.model.proofs.Heads.{kind-cases}
 use Rattle.packing.proofs.Packed.{length-unpack}
 use Rattle.packing.proofs.Payload.{unpayload-parts}
 use Rattle.unpacker.specs.Unpacked.{Sized}

@@ -1,4 +1,4 @@
-use Rattle.heads.proofs.Head.{kind-one, kind-other}
+use Rattle.model.proofs.Heads.{kind-one, kind-other}
 use borrow.Author.Needs.{needs}
 use Rattle.heads.proofs.record_length.Statement.{statement}
 use Rattle.heads.proofs.record_length.Tie as tie

@@ -1,7 +1,6 @@
 use native.Mathlib.Omega.{arith}
 use lib.Dec.{lit≤}
-use Rattle.packing.proofs.Head.{recordLength-range}
-use Rattle.heads.proofs.Head.{kind-one, kind-other}
+use Rattle.model.proofs.Heads.{kind-one, kind-other, recordLength-range}
 use Rattle.packer.proofs.Parts.{kind-two, plain-bound, starred-bound, whole-record}
 use borrow.Author.Needs.{needs}
 use Rattle.packer.proofs.pack.Statement.{statement}

@@ -9,7 +9,7 @@ use Rattle.model.specs.Calls.{readRefusal}
 use Rattle.coding.specs.Decode.{decodeRecord}
 use Rattle.decoder.specs.Decoded.{Answered}
 use Rattle.packing.proofs.Below.{at-below}
-use Rattle.packing.proofs.Head.{passes-facts}
+use Rattle.model.proofs.Heads.{passes-facts}
 use Rattle.reading.proofs.Checks.{Early, early-facts}
 use Rattle.reading.proofs.Payloads.{payload-sized, record-decoded}
 use Rattle.reading.proofs.Outcomes.{core-refused, core-unreadable, core-read}

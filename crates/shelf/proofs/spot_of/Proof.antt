@@ -3,7 +3,8 @@ use mathlib.Core.Path.{_≡_, sym, _∙_}
 use Prim.Native.Nat.{_≤_}
 use lib.ListN.{length}
 use Rattle.model.specs.Shelf.{headRefusal}
-use Rattle.shelf.proofs.Storing.{headed, spot-refused, spot-over, spot-broken, spot-there, spot-full, spot-new}
+use Rattle.model.proofs.Heads.{headed}
+use Rattle.shelf.proofs.Storing.{spot-refused, spot-over, spot-broken, spot-there, spot-full, spot-new}
 use borrow.Author.Needs.{needs}
 use Rattle.shelf.proofs.spot_of.Statement.{statement}
 use Rattle.shelf.proofs.spot_of.Tie as tie

@@ -1,25 +1,31 @@
--- The head of a record: its three fields, and what passing 1, 2, 3 and 5 says. Assumes nothing.
+-- Heads of records: their fields, the length of a record, and what passing 1, 2, 3 and 5 says. Assumes nothing.
 --
 --   le16-word16          two bytes are the field of their number
 --   le16-bytes           two bytes
 --   kind-cases           what holds of 1 and 2 holds of every kind
+--   kind-one, kind-other the length of a record of kind 1, and of another
 --   recordLength-range   a record has from 7 to 1850 bytes
 --   Passes               what passing says
 --   passes-facts, facts-passes    from the test, and to headRefusal r ≡ 0
+--   headed               bytes that 1, 2, 3 and 5 don't concern have a head
+--   passes-length        a record that passes has its length field's length
+--   passes-long          a record that passes has 6 bytes or more
+--   passes-head          passing is decided by the length and the first six bytes
 use Prim.Native.Nat.{ℕ, _+_, _*_, _/_, _%_, _≤_, _<_}
 use native.Mathlib.Omega.{arith}
 use mathlib.Core.Path.{_≡_, refl, sym, subst}
-use mathlib.Core.Bool.{Bool, true, false, not, _||_, cond, false≢true}
+use mathlib.Core.Bool.{Bool, true, false, cond}
 use mathlib.Core.List.{List, [], _∷_}
 use lib.Dec.{eqb, ltb}
-use lib.ListN.{length}
+use lib.ListN.{length, getD}
 use borrow.Author.Tests.{le-ltb, eq-eqb, ne-eqb, ltb-false, eqb-true, eqb-false, not-false}
-use Rattle.model.specs.Numbers.{allBelow, firstRefusal, refuse}
+use Rattle.model.specs.Numbers.{allBelow, firstRefusal}
 use Rattle.model.specs.Map.{isKind}
 use Rattle.model.specs.Record.{le16, recordLength}
 use Rattle.model.specs.Shelf.{word16, kindOf, edgesOf, headRefusal, passes}
 use Rattle.model.proofs.Booleans.{or-split, or-none}
 use Rattle.model.proofs.Below.{below-cons}
+use Rattle.model.proofs.Refusals.{none-holds}
 
 pub le16-word16 : (a b : ℕ) → a < 256 → b < 256 → le16 (a + 256 * b) ≡ a ∷ b ∷ []
 unfolding le16
@@ -40,6 +46,14 @@ unfolding isKind
 kind-cases P p q k e =
     or-split (eqb k 1) (eqb k 2) e (λ t. subst P (sym (eqb-true k 1 t)) p) (λ t. subst P (sym (eqb-true k 2 t)) q)
 
+pub kind-one : (k m : ℕ) → k ≡ 1 → 6 + (3 * m + 7) / 8 ≡ recordLength k m
+unfolding recordLength
+kind-one k m e = rw (eq-eqb _ _ e)
+
+pub kind-other : (k m : ℕ) → (k ≡ 1 → ⊥) → 6 + (2 * m + 7) / 8 + (m + 4) / 5 ≡ recordLength k m
+unfolding recordLength
+kind-other k m d = rw (ne-eqb _ _ d)
+
 pub recordLength-range : (k m : ℕ) → 1 ≤ m → m ≤ 4096 → (7 ≤ recordLength k m) × (recordLength k m ≤ 1850)
 unfolding recordLength
 recordLength-range k m h l = go (eqb k 1)
@@ -58,34 +72,25 @@ pub record Passes (r : List ℕ) : Type 0 where
   pub few-edges : edgesOf r ≤ 4096
   pub right-length : length r ≡ recordLength (kindOf r) (edgesOf r)
 
--- four conditions, none of which holds
-abbrev four : Bool → Bool → Bool → Bool → ℕ
-four a b c d = firstRefusal (refuse 1 a ∷ refuse 2 b ∷ refuse 3 c ∷ refuse 5 d ∷ [])
-
-four-none : (a b c d : Bool) → eqb (four a b c d) 0 ≡ true → (a ≡ false) × (b ≡ false) × (c ≡ false) × (d ≡ false)
-unfolding firstRefusal
-four-none true b c d e = absurd (false≢true e)
-four-none false true c d e = absurd (false≢true e)
-four-none false false true d e = absurd (false≢true e)
-four-none false false false true e = absurd (false≢true e)
-four-none false false false false e = (refl, refl, refl, refl)
+zero-facts : (r : List ℕ) → headRefusal r ≡ 0 → Passes r
+unfolding headRefusal
+zero-facts r e =
+    let no = none-holds _ refl e in
+    let (long, field) = or-none (ltb (length r) 6) _ (no 1) in
+    let (some, few) = or-none (eqb (edgesOf r) 0) _ (no 3) in
+    let z = eqb-false (edgesOf r) 0 some in
+    record {
+      whole-head = ltb-false _ _ long;
+      length-field = eqb-true _ _ (not-false _ field);
+      kind = not-false _ (no 2);
+      some-edge = omega arith;
+      few-edges = ltb-false _ _ few;
+      right-length = eqb-true _ _ (not-false _ (no 5));
+    }
 
 pub passes-facts : (r : List ℕ) → passes r ≡ true → Passes r
-unfolding passes headRefusal
-passes-facts r e =
-    let f = four-none (ltb (length r) 6 || not (eqb (word16 r 0) (length r))) (not (isKind (kindOf r)))
-    (eqb (edgesOf r) 0 || ltb 4096 (edgesOf r)) (not (eqb (length r) (recordLength (kindOf r) (edgesOf r)))) e in
-    let g = or-none (ltb (length r) 6) (not (eqb (word16 r 0) (length r))) (f .0) in
-    let h = or-none (eqb (edgesOf r) 0) (ltb 4096 (edgesOf r)) (f .2) in
-    let z = eqb-false (edgesOf r) 0 (h .0) in
-    record {
-      whole-head = ltb-false (length r) 6 (g .0);
-      length-field = eqb-true (word16 r 0) (length r) (not-false _ (g .1));
-      kind = not-false _ (f .1);
-      some-edge = omega arith;
-      few-edges = ltb-false 4096 (edgesOf r) (h .1);
-      right-length = eqb-true (length r) _ (not-false _ (f .3));
-    }
+unfolding passes
+passes-facts r p = zero-facts r (eqb-true _ 0 p)
 
 pub facts-passes : (r : List ℕ) → Passes r → headRefusal r ≡ 0
 unfolding headRefusal firstRefusal
@@ -99,3 +104,16 @@ facts-passes r p =
       le-ltb 4096 (edgesOf r) (p .few-edges),
       eq-eqb (length r) _ (p .right-length),
     )
+
+pub headed : (r : List ℕ) → headRefusal r ≡ 0 → 6 ≤ length r
+headed r e = zero-facts r e .whole-head
+
+pub passes-long : (r : List ℕ) → passes r ≡ true → 6 ≤ length r
+passes-long r p = passes-facts r p .whole-head
+
+pub passes-length : (r : List ℕ) → passes r ≡ true → word16 r 0 ≡ length r
+passes-length r p = passes-facts r p .length-field
+
+pub passes-head : (r s : List ℕ) → length r ≡ length s → ((i : ℕ) → i < 6 → getD r i 0 ≡ getD s i 0) → passes r ≡ passes s
+unfolding passes headRefusal firstRefusal word16
+passes-head r s l e = rw (l, e 0 (omega arith), e 1 (omega arith), e 2 (omega arith), e 3 (omega arith), e 4 (omega arith), e 5 (omega arith))
