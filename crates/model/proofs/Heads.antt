@@ -7,7 +7,7 @@
 --   recordLength-range   a record has from 7 to 1850 bytes
 --   Passes               what passing says
 --   passes-facts, facts-passes    from the test, and to headRefusal r ≡ 0
---   headed               bytes that 1, 2, 3 and 5 don't concern have a head
+--   head-long            bytes that 1, 2, 3 and 5 don't concern have a head
 --   passes-length        a record that passes has its length field's length
 --   passes-long          a record that passes has 6 bytes or more
 --   passes-head          passing is decided by the length and the first six bytes
@@ -105,8 +105,8 @@ facts-passes r p =
       eq-eqb (length r) _ (p .right-length),
     )
 
-pub headed : (r : List ℕ) → headRefusal r ≡ 0 → 6 ≤ length r
-headed r e = zero-facts r e .whole-head
+pub head-long : (r : List ℕ) → headRefusal r ≡ 0 → 6 ≤ length r
+head-long r e = zero-facts r e .whole-head
 
 pub passes-long : (r : List ℕ) → passes r ≡ true → 6 ≤ length r
 passes-long r p = passes-facts r p .whole-head

@@ -1,7 +1,7 @@
 use mathlib.Core.Path.{_≡_, sym, _∙_}
 use native.Mathlib.Omega.{arith}
 use Rattle.model.specs.Shelf.{headRefusal}
-use Rattle.model.proofs.Heads.{headed}
+use Rattle.model.proofs.Heads.{head-long}
 use Rattle.reading.proofs.Checks.{early-head, early-work, early-output, early-none}
 use borrow.Author.Needs.{needs}
 use Rattle.reading.proofs.early.Statement.{statement}
@@ -14,7 +14,7 @@ returns : tie.Need-returns
 returns c = early-head _ _ _ _ (c .before .head-refusal .ensures) (c .if1 .taken)
 
 field-requires : tie.Need-field-requires
-field-requires c κs = let l = headed _ (passed c) in omega arith
+field-requires c κs = let l = head-long _ (passed c) in omega arith
 
 returns-2 : tie.Need-returns-2
 returns-2 c = early-work _ _ _ _ (passed (c .before .before)) (c .before .field .ensures) (omega arith)

@@ -3,7 +3,7 @@ use mathlib.Core.Path.{_≡_, sym, _∙_}
 use Prim.Native.Nat.{_≤_}
 use lib.ListN.{length}
 use Rattle.model.specs.Shelf.{headRefusal}
-use Rattle.model.proofs.Heads.{headed}
+use Rattle.model.proofs.Heads.{head-long}
 use Rattle.shelf.proofs.Storing.{spot-refused, spot-over, spot-broken, spot-there, spot-full, spot-new}
 use borrow.Author.Needs.{needs}
 use Rattle.shelf.proofs.spot_of.Statement.{statement}
@@ -26,7 +26,7 @@ returns-2 : tie.Need-returns-2
 returns-2 c = spot-over _ _ _ (fine (c .before)) (omega arith)
 
 search-requires : tie.Need-search-requires
-search-requires c κs = headed _ (fine (c .before .before))
+search-requires c κs = head-long _ (fine (c .before .before))
 
 returns-3 : tie.Need-returns-3
 returns-3 c = let k = c .before .before .before .before in
