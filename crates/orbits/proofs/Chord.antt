@@ -1,7 +1,7 @@
 -- Chords and faces: with k chords there are at most k + 1 faces, and there are that many exactly where the chords are nested. The faces' least
 -- positions are among the k + 1 marked positions: 0, and those just after an opener. Assumes nothing.
 --
---   next-cases         one position on, by whether the circle's end is met
+--   next-cases, next-bound   one position on, by whether the circle's end is met; it is a position
 --   φ-cases, φ-before  one step of a face, and the step that leads to suc a
 --   μ-inj              an involution is injective
 --   crossed-perm       a permutation after an involution is one
@@ -56,6 +56,9 @@ next-cases N m h =
     lt-or-le (suc m) N
     (λ l. inl (l, ap (λ (b : Bool). cond b (suc m) zero) (lt-ltb (suc m) N l)))
     (λ l. inr (omega arith, ap (λ (b : Bool). cond b (suc m) zero) (le-ltb (suc m) N l)))
+
+pub next-bound : (N m : ℕ) → m < N → next N m < N
+next-bound N m h = ⊎-elim (λ c. omega arith) (λ c. omega arith) (next-cases N m h)
 
 module _ (N : ℕ) (μ : ℕ → ℕ) (inv : Involution N μ) where
   pub φ-cases : (i : ℕ) → i < N → ((suc (μ i) < N) × (φ μ N i ≡ suc (μ i))) ⊎ ((suc (μ i) ≡ N) × (φ μ N i ≡ zero))

@@ -5,11 +5,12 @@
 --   close-top       at a closing bracket its fellow is on top of the stack, and below it what was there then
 --   stack-turn      the stack after i is the one at i's fellow
 --   stack-below, stack-kind the position on top of the stack lies before, and is an opening one
+--   matched-is      a nested involution with these brackets is the one that joins them
 use Prim.Native.Nat.{ℕ, suc, _≤_, _<_}
 use native.Mathlib.Omega.{arith}
 use mathlib.Core.Path.{_≡_, refl, sym, ap, _∙_}
 use mathlib.Core.List.{List, _∷_}
-use Rattle.orbits.specs.Chord.{Involution}
+use Rattle.orbits.specs.Chord.{Involution, Nested}
 use Rattle.orbits.specs.Stack.{Kind, flat, open′, close, kindOf, kind, push, stack, matched, Balanced}
 use Rattle.orbits.proofs.Order.{tri}
 use Rattle.orbits.proofs.Stack.{kind-open, kind-close, kind-flat, close-lt, flat-eq, stack-top, stack-after, stack-head}
@@ -76,3 +77,20 @@ module _ (K : ℕ → Kind) (N : ℕ) (b : Balanced K N) where
   pub stack-kind : (i : ℕ) → i ≤ N → (a : ℕ) (s : List ℕ) → stack K i ≡ a ∷ s → K a ≡ open′
   stack-kind i h a s e =
       let (l, u) = stack-head N m inv (decoded-nested K N b) K same i h a s e in same a (omega arith) ∙ kind-open a (m a) (omega arith)
+
+  pub matched-is : (μ : ℕ → ℕ) → Involution N μ → Nested μ N → ((i : ℕ) → i < N → K i ≡ kind μ i) → (i : ℕ) → i < N → m i ≡ μ i
+  matched-is μ other nested kinds i h = go (K i) refl
+    where
+      closed : (j : ℕ) → j < N → K j ≡ close → m j ≡ μ j
+      closed j g e =
+          let s = close-top j g e in
+          let t = stack-top N μ other nested K kinds j g (close-lt j (μ j) (sym (kinds j g) ∙ e)) in
+          cc
+
+      go : (k : Kind) → K i ≡ k → m i ≡ μ i
+      go flat e = match-flat i h e ∙ sym (flat-eq i (μ i) (sym (kinds i h) ∙ e))
+      go open′ e =
+          let there = inv .bound i h in
+          let same : i ≡ μ (m i) = sym (inv .back i h) ∙ closed (m i) there (mate-close i h e) in
+          sym (ap μ same ∙ other .back (m i) there)
+      go close e = closed i h e

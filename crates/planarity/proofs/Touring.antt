@@ -4,10 +4,8 @@
 --   step-on           it goes one position on, and from the last to the first
 --   turn-flat, turn-tree   where the next dart about a dart's vertex comes
 --   tour              the tour
-use Prim.Native.Nat.{ℕ, suc, _<_}
-use native.Mathlib.Omega.{arith}
+use Prim.Native.Nat.{ℕ, _<_}
 use mathlib.Core.Path.{_≡_, sym, ap, _∙_}
-use mathlib.Core.Logic.{⊎-elim}
 use mathlib.Core.Bool.{Bool, true, false, cond}
 use Rattle.model.specs.Numbers.{isPermutation}
 use Rattle.model.specs.Map.{Plan, darts, opposite, next, dartCountFits}
@@ -16,11 +14,11 @@ use Rattle.model.proofs.Fitness.{count-even}
 use Rattle.model.proofs.Opposite.{opposite-opposite}
 use Rattle.orbits.specs.Chord as chord
 use Rattle.orbits.specs.Tour.{Tour}
-use Rattle.orbits.proofs.Chord.{next-cases}
+use Rattle.orbits.proofs.Chord.{next-bound}
 use Rattle.orbits.proofs.Maps.{opposite-inv, next-perm}
 use Rattle.words.specs.Toured.{dartAt, letterOf, posOf, mateOf, Toured, isTree}
 use Rattle.words.proofs.Letters.{onward-tree, onward-flat, onward-is}
-use Rattle.words.proofs.Positions.{mate-bound, mate-dart, pos-mate, mate-tree}
+use Rattle.words.proofs.Positions.{dart-next, mate-bound, mate-dart, pos-mate, mate-tree}
 
 abbrev pub treeDart : Plan → ℕ → Bool
 treeDart p d = isTree (letterOf p (posOf p d))
@@ -28,10 +26,7 @@ treeDart p d = isTree (letterOf p (posOf p d))
 module _ (p : Plan) (t : Toured p) (fits : dartCountFits (darts p) ≡ true) where
   -- one position on, round the traversal
   pub step-on : (i : ℕ) → i < darts p → posOf p (onward (p .rotation) (letterOf p i) (dartAt p i)) ≡ chord.next (darts p) i
-  step-on i h = ⊎-elim
-      (λ c. ap (posOf p) (sym (t .step i (c .0))) ∙ t .pos-dart (suc i) (c .0) ∙ sym (c .1))
-      (λ c. ap (posOf p) (t .closes i (c .0) ∙ sym (t .starts)) ∙ t .pos-dart 0 (omega arith) ∙ sym (c .1))
-      (next-cases (darts p) i h)
+  step-on i h = ap (posOf p) (sym (dart-next p t i h)) ∙ t .pos-dart (chord.next (darts p) i) (next-bound (darts p) i h)
 
   -- the next dart about the vertex comes one position after the dart, or, if the edge is of the tree, after its mate
   pub turn-flat : (i : ℕ) → i < darts p → isTree (letterOf p i) ≡ false → posOf p (next (p .rotation) (dartAt p i)) ≡ chord.next (darts p) i

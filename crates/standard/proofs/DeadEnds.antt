@@ -17,10 +17,8 @@ use Rattle.words.specs.Word.{bareLeaf}
 use Rattle.words.specs.Toured.{dartAt, letterOf, posOf, mateOf, fellow, isTree, matching, Toured, Bracketed}
 use Rattle.words.proofs.Letters.{tree-fellow}
 use Rattle.words.proofs.Positions.{word-length, opposite-at}
-use Rattle.words.proofs.OpenEdges.{part-split, matching-inv}
+use Rattle.words.proofs.OpenEdges.{part-split, matching-inv, onward-matching}
 use Rattle.words.proofs.Leaves.{leaf-mate, leaf-own}
-use Rattle.standard.proofs.Ranks.{opening}
-use Rattle.standard.proofs.Turns.{turn-onward}
 use Rattle.standard.proofs.BareLeaf.{BareAt, bare-at, at-bare}
 
 up-only : (l : Letter) → isTree l ≡ true → opens l ≡ false → l ≡ up
@@ -42,11 +40,11 @@ module _ (p : Plan) (t : Toured p) (b : Bracketed p) (fits : dartCountFits (dart
   leaf : (i : ℕ) → i < darts p → isTree (letterOf p i) ≡ true → suc (mateOf p i) ≡ i → bareLeaf (word p) ≡ true
   unfolding letterOf
   leaf i h u s =
-      let e : letterOf p i ≡ up = up-only (letterOf p i) u (closed (opening p i) refl) in
+      let e : letterOf p i ≡ up = up-only (letterOf p i) u (closed (opens (letterOf p i)) refl) in
       let d : letterOf p (mateOf p i) ≡ down = t .fellows i h ∙ ap fellow e in
       at-bare (word p) (mateOf p i) (omega (arith, word-length p t), d, ap (letterOf p) s ∙ e)
     where
-      closed : (c : Bool) → opening p i ≡ c → opening p i ≡ false
+      closed : (c : Bool) → opens (letterOf p i) ≡ c → opens (letterOf p i) ≡ false
       closed true o = absurd (omega (arith, t .opens-first i h o))
       closed false o = o
 
@@ -66,7 +64,7 @@ module _ (p : Plan) (t : Toured p) (b : Bracketed p) (fits : dartCountFits (dart
 
     onto-d : onward (p .rotation) (letterOf p before) (dartAt p before) ≡ d
     onto-d =
-        turn-onward p t fits before before-bound
+        onward-matching p t fits before before-bound
         ∙ ap (next (p .rotation)) (ap (dartAt p) (matching-inv isTree tree-fellow p t fits .back at at-bound) ∙ t .dart-pos d h) ∙ own
 
     right-before : suc before ≡ at

@@ -1,8 +1,5 @@
-pub mod Ranks
 pub mod Numbering
 pub mod Entries
-pub mod Turns
-pub mod WordDarts
 pub mod Linking
 pub mod Nesting
 pub mod BareLeaf

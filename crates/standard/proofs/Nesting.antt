@@ -1,6 +1,5 @@
 -- The word of a bracketed plan is nested: a second stands at a vertex that was entered before that of its first.
 --
---   word-balance          its brackets match
 --   number-rises, number-grows   vertices that are entered later have higher numbers
 --   word-nested           the word is nested, if no edge is a loop
 --   word-nested-loops     it is where loops are taken
@@ -16,20 +15,16 @@ use Rattle.model.specs.Traversal.{Letter, second, opens, word}
 use Rattle.orbits.specs.Stack.{top}
 use Rattle.orbits.proofs.Tally.{count-grows, count-below}
 use Rattle.words.specs.Word.{closes, nested}
-use Rattle.words.specs.Toured.{letterOf, mateOf, isTree, isChord, Toured, Bracketed}
+use Rattle.words.specs.Toured.{letterOf, mateOf, isChord, Toured, Bracketed}
 use Rattle.words.specs.Brackets.{letter, treeStack}
 use Rattle.words.specs.Entered.{isDown, enteredAt}
 use Rattle.words.specs.Position.{entered, vertexTop, vertexNo, Balance, Ends}
-use Rattle.words.proofs.Letters.{tree-fellow}
 use Rattle.words.proofs.Positions.{word-length}
-use Rattle.words.proofs.OpenEdges.{chord-whole, part-top, part-balanced}
+use Rattle.words.proofs.OpenEdges.{chord-whole, part-top, tour-balance}
 use Rattle.words.proofs.Mates.{stack-down}
 use Rattle.words.proofs.Nesting.{nests}
 
 module _ (p : Plan) (t : Toured p) (b : Bracketed p) (fits : dartCountFits (darts p) ≡ true) where
-  pub word-balance : Balance (letterOf p) (darts p)
-  word-balance = record { trees = part-balanced isTree tree-fellow p t fits (b .trees); chords = part-balanced isChord chord-whole p t fits (b .chords) }
-
   -- ---- the numbers of the vertices
 
   abbrev ℓ : ℕ → Letter
@@ -44,7 +39,7 @@ module _ (p : Plan) (t : Toured p) (b : Bracketed p) (fits : dartCountFits (dart
         go s [] e l = absurd (omega arith)
         go [] (c ∷ u) e l = omega arith
         go (a ∷ s) (c ∷ u) e l =
-            omega (arith, count-below (λ k. isDown (ℓ k)) a c (omega arith) (ap isDown (stack-down ℓ (darts p) word-balance i hi a s e .1)))
+            omega (arith, count-below (λ k. isDown (ℓ k)) a c (omega arith) (ap isDown (stack-down ℓ (darts p) (tour-balance p t fits b) i hi a s e .1)))
 
     number-grows : enteredAt p i ≤ enteredAt p j → vertexNo ℓ i ≤ vertexNo ℓ j
     unfolding enteredAt vertexNo entered
@@ -67,7 +62,7 @@ module _ (p : Plan) (t : Toured p) (b : Bracketed p) (fits : dartCountFits (dart
     word-nests : nested loops 1 0 [] [] (word p) ≡ true
     unfolding letterOf
     word-nests = nests loops (word p)
-        (subst (Balance (letter (word p))) (sym (word-length p t)) word-balance) (subst (Ends loops (letter (word p))) (sym (word-length p t)) word-ends)
+        (subst (Balance (letter (word p))) (sym (word-length p t)) (tour-balance p t fits b)) (subst (Ends loops (letter (word p))) (sym (word-length p t)) word-ends)
 
   pub word-nested : ((j : ℕ) → j < darts p → letterOf p j ≡ second → enteredAt p j < enteredAt p (mateOf p j)) → nested false 1 0 [] [] (word p) ≡ true
   word-nested descends = word-nests false (λ i h e. lt-ltb _ _ (number-rises i (mateOf p i) (le-of-lt h) (descends i h e)))

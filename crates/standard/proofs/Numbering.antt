@@ -1,9 +1,9 @@
 -- The standard numbering of a toured plan: a permutation that sends opposite darts to opposite darts and the root to 0. The numbers of an edge are
 -- twice the number of edges opened before it, and one more.
 --
---   rank-opens, rank-stays      the rank rises by one at each opening
---   numbers-length         there is a number for each dart
---   opened-number, other-number, ended-number    the numbers of the two darts of an edge, by the position at which it is opened or ended
+--   opening p i            the letter at i opens an edge
+--   rank p i               how many edges are opened before i
+--   opened-number, ended-number    the number of the dart at a position, by whether it opens its edge or ends it
 --   numbers-opposite       opposite darts have opposite numbers
 --   numbers-root           the root has number 0
 --   numbers-below, numbers-inj, numbers-permutation    the numbers are those below the dart count, each once
@@ -11,8 +11,8 @@
 use Prim.Native.Nat.{ℕ, zero, suc, _+_, _*_, _/_, _≤_, _<_}
 use native.Mathlib.Omega.{arith}
 use mathlib.Core.Path.{_≡_, refl, sym, ap, subst, _∙_}
-use mathlib.Core.Logic.{_⊎_, inl, inr, ⊎-elim}
-use mathlib.Core.Bool.{Bool, true, false, not, cond}
+use mathlib.Core.Logic.{⊎-elim}
+use mathlib.Core.Bool.{Bool, true, false, not, cond, true≢false}
 use mathlib.Core.List.{List, [], _∷_}
 use lib.ListN.{length, getD, set, drop, replicate, length-set, length-replicate, length-drop}
 use lib.Seq.{drop-cons, getD-drop, getD-set-same, getD-set-other}
@@ -20,14 +20,15 @@ use Rattle.model.specs.Numbers.{tick, count, isPermutation}
 use Rattle.model.specs.Map.{Plan, darts, opposite, dartCountFits}
 use Rattle.model.specs.Traversal.{Visit, opens, visits, number, standardNumbers}
 use Rattle.model.proofs.Fitness.{count-positive}
-use Rattle.model.proofs.Opposite.{opposite-opposite, opposite-even, opposite-odd, opposite-edge}
+use Rattle.model.proofs.Opposite.{opposite-opposite, opposite-edge}
 use Rattle.model.proofs.Permutations.{permutation-of}
 use Rattle.model.proofs.Standard.{standard-size}
+use Rattle.orbits.specs.Permutation.{Perm}
 use Rattle.orbits.proofs.Maps.{onto}
-use Rattle.words.specs.Toured.{dartAt, mateOf, Toured}
+use Rattle.words.specs.Toured.{dartAt, letterOf, posOf, mateOf, Toured}
 use Rattle.words.specs.Position.{opened}
-use Rattle.words.proofs.Positions.{no-visit, visit-dart, visit-letter, mate-dart, mate-bound, mate-opens, opposite-at}
-use Rattle.standard.proofs.Ranks.{opening, rank, rank-inj, rank-room, one-edge, opening-of, starts-open}
+use Rattle.words.proofs.Positions.{no-visit, visit-dart, visit-letter, mate-dart, mate-bound, mate-opens, mate-inv, opposite-at, edge-inj}
+use Rattle.words.proofs.Numbered.{Numbered, numbered-mate, numbered-perm, numbered-zero}
 
 -- ---- the numbering as a fold over visits
 
@@ -80,11 +81,17 @@ entered-second d e ns h =
 
 -- ---- along the positions
 
-pub rank-opens : (p : Plan) (i : ℕ) → opening p i ≡ true → rank p (suc i) ≡ suc (rank p i)
+abbrev pub opening : Plan → ℕ → Bool
+opening p i = opens (letterOf p i)
+
+abbrev pub rank : Plan → ℕ → ℕ
+rank p i = opened (letterOf p) i
+
+rank-opens : (p : Plan) (i : ℕ) → opening p i ≡ true → rank p (suc i) ≡ suc (rank p i)
 unfolding opened count
 rank-opens p i e = ap (λ (b : Bool). tick b (count (opening p) i)) e
 
-pub rank-stays : (p : Plan) (i : ℕ) → opening p i ≡ false → rank p (suc i) ≡ rank p i
+rank-stays : (p : Plan) (i : ℕ) → opening p i ≡ false → rank p (suc i) ≡ rank p i
 unfolding opened count
 rank-stays p i e = ap (λ (b : Bool). tick b (count (opening p) i)) e
 
@@ -95,6 +102,11 @@ Part p i = (ms : List ℕ) × (length ms ≡ darts p) × (standardNumbers p ≡ 
 module _ (p : Plan) (t : Toured p) (fits : dartCountFits (darts p) ≡ true) where
   abbrev at : ℕ → Visit
   at i = getD (visits p) i no-visit
+
+  -- two openings of one edge are one
+  one-edge : (i j : ℕ) → i < darts p → j < darts p → opening p i ≡ true → opening p j ≡ true → dartAt p i / 2 ≡ dartAt p j / 2 → i ≡ j
+  one-edge i j hi hj u v e =
+      ⊎-elim (λ q. q) (λ m. absurd (true≢false (sym u ∙ ap (opening p) m ∙ mate-opens p t j hj ∙ ap not v))) (edge-inj p t fits i j hi hj e)
 
   left : (i : ℕ) → i < darts p → drop i (visits p) ≡ at i ∷ drop (suc i) (visits p)
   left i h = drop-cons (visits p) i no-visit (omega (arith, t .all-met))
@@ -129,7 +141,7 @@ module _ (p : Plan) (t : Toured p) (fits : dartCountFits (darts p) ≡ true) whe
       let hj : j < darts p = omega (arith, length-drop (suc i) (visits p), t .all-met) in
       let v : opening p j ≡ true = ap opens (sym (visit-letter p j) ∙ ap (λ (v : Visit). v .letter) (sym same)) ∙ u in
       let d : getD (drop (suc i) (visits p)) k no-visit .dart ≡ dartAt p j = ap (λ (v : Visit). v .dart) same ∙ visit-dart p j in
-      let q : i ≡ j = one-edge p t fits i j h hj o v (sym e ∙ f ∙ ap (λ (y : ℕ). y / 2) d) in
+      let q : i ≡ j = one-edge i j h hj o v (sym e ∙ f ∙ ap (λ (y : ℕ). y / 2) d) in
       omega arith
 
   -- the numbers of an edge are those that it gets when it is opened
@@ -144,74 +156,61 @@ module _ (p : Plan) (t : Toured p) (fits : dartCountFits (darts p) ≡ true) whe
             ∙ number-past (drop (suc i) (visits p)) (rank p (suc i)) (entered (dartAt p i) (rank p i) ms) x (later i h o x f),
       )
 
-  pub opened-number : (i : ℕ) → i < darts p → opening p i ≡ true → getD (standardNumbers p) (dartAt p i) 0 ≡ 2 * rank p i
+  abbrev number-of : ℕ → ℕ
+  number-of d = getD (standardNumbers p) d 0
+
+  pub opened-number : (i : ℕ) → i < darts p → opening p i ≡ true → number-of (dartAt p i) ≡ 2 * rank p i
   opened-number i h o =
       let (ms, l, e) = given i h o in
       let b = t .dart-bound i h in
       e (dartAt p i) refl ∙ entered-first (dartAt p i) (rank p i) ms (omega arith)
 
-  pub other-number : (i : ℕ) → i < darts p → opening p i ≡ true → getD (standardNumbers p) (opposite (dartAt p i)) 0 ≡ 2 * rank p i + 1
+  other-number : (i : ℕ) → i < darts p → opening p i ≡ true → number-of (opposite (dartAt p i)) ≡ 2 * rank p i + 1
   other-number i h o =
       let (ms, l, e) = given i h o in
       let b = opposite-at p t fits i h in
       e (opposite (dartAt p i)) (opposite-edge (dartAt p i)) ∙ entered-second (dartAt p i) (rank p i) ms (omega arith)
 
-  pub numbers-length : length (standardNumbers p) ≡ darts p
-  numbers-length = standard-size p
+  pub ended-number : (i : ℕ) → i < darts p → opening p i ≡ false → number-of (dartAt p i) ≡ 2 * rank p (mateOf p i) + 1
+  ended-number i h o =
+      ap number-of (sym (opposite-opposite (dartAt p i)) ∙ ap opposite (sym (mate-dart p t fits i h)))
+      ∙ other-number (mateOf p i) (mate-bound p t fits i h) (mate-opens p t i h ∙ ap not o)
 
-  -- a dart's number, by whether it opens its edge
-  abbrev Numbered : ℕ → Type 0
-  Numbered d = (i : ℕ) × (i < darts p) × (opening p i ≡ true)
-      × (((d ≡ dartAt p i) × (getD (standardNumbers p) d 0 ≡ 2 * rank p i))
-      ⊎ ((d ≡ opposite (dartAt p i)) × (getD (standardNumbers p) d 0 ≡ 2 * rank p i + 1)))
+  -- ---- by darts
 
-  numbered : (d : ℕ) → d < darts p → Numbered d
-  numbered d h =
-      let (i, hi, o, w) = opening-of p t fits d h in
-      let sn : ℕ → ℕ = λ x. getD (standardNumbers p) x 0 in
-      (i, hi, o, ⊎-elim (λ e. inl (e, ap sn e ∙ opened-number i hi o)) (λ e. inr (e, ap sn e ∙ other-number i hi o)) w)
+  numbered : Numbered (letterOf p) (darts p) (mateOf p) (λ i. number-of (dartAt p i))
+  numbered = record { inv = mate-inv p t fits; fellows = t .fellows; later = t .opens-first; begins = opened-number; ends = ended-number }
+
+  perm : Perm (darts p) (λ i. number-of (dartAt p i))
+  perm = numbered-perm (letterOf p) (darts p) (mateOf p) (λ i. number-of (dartAt p i)) numbered
 
   pub numbers-opposite : (d : ℕ) → d < darts p → getD (standardNumbers p) (opposite d) 0 ≡ opposite (getD (standardNumbers p) d 0)
   numbers-opposite d h =
-      let (i, hi, o, w) = numbered d h in
-      let sn : ℕ → ℕ = λ x. getD (standardNumbers p) x 0 in
-      ⊎-elim
-      (λ (e, f). ap (λ (x : ℕ). sn (opposite x)) e ∙ other-number i hi o ∙ sym (opposite-even (rank p i)) ∙ ap opposite (sym f))
-      (λ (e, f).
-      ap (λ (x : ℕ). sn (opposite x)) e ∙ ap sn (opposite-opposite (dartAt p i)) ∙ opened-number i hi o
-      ∙ sym (opposite-odd (rank p i)) ∙ ap opposite (sym f))
-      w
+      let i = posOf p d in
+      let hi = t .pos-bound d h in
+      ap number-of (ap opposite (sym (t .dart-pos d h)) ∙ sym (mate-dart p t fits i hi))
+      ∙ numbered-mate (letterOf p) (darts p) (mateOf p) (λ i. number-of (dartAt p i)) numbered i hi
+      ∙ ap (λ (e : ℕ). opposite (number-of e)) (t .dart-pos d h)
 
   pub numbers-below : (d : ℕ) → d < darts p → getD (standardNumbers p) d 0 < darts p
-  numbers-below d h =
-      let (i, hi, o, w) = numbered d h in let r = rank-room p t fits i hi o in ⊎-elim (λ e. omega arith) (λ e. omega arith) w
+  numbers-below d h = subst (λ (e : ℕ). number-of e < darts p) (t .dart-pos d h) (perm .bound (posOf p d) (t .pos-bound d h))
 
   pub numbers-inj : (c d : ℕ) → c < darts p → d < darts p → getD (standardNumbers p) c 0 ≡ getD (standardNumbers p) d 0 → c ≡ d
   numbers-inj c d hc hd same =
-      let (i, hi, o, w) = numbered c hc in
-      let (j, hj, u, z) = numbered d hd in
-      let one : rank p i ≡ rank p j → dartAt p i ≡ dartAt p j = λ e. ap (dartAt p) (rank-inj p t fits i j o u e) in
-      ⊎-elim
-      (λ a. ⊎-elim (λ b. a .0 ∙ one (omega arith) ∙ sym (b .0)) (λ b. absurd (omega arith)) z)
-      (λ a. ⊎-elim (λ b. absurd (omega arith)) (λ b. a .0 ∙ ap opposite (one (omega arith)) ∙ sym (b .0)) z)
-      w
+      sym (t .dart-pos c hc)
+      ∙ ap (dartAt p) (perm .inj (posOf p c) (posOf p d) (t .pos-bound c hc) (t .pos-bound d hd)
+      (ap number-of (t .dart-pos c hc) ∙ same ∙ ap number-of (sym (t .dart-pos d hd))))
+      ∙ t .dart-pos d hd
 
   pub numbers-permutation : isPermutation (standardNumbers p) ≡ true
   numbers-permutation = permutation-of (standardNumbers p)
-      (λ k l. let h = numbers-length in subst (λ (n : ℕ). getD (standardNumbers p) k 0 < n) (sym numbers-length) (numbers-below k (omega arith)))
-      (λ i j hi hj e. let h = numbers-length in numbers-inj i j (omega arith) (omega arith) e)
+      (λ k l. let h = standard-size p in subst (λ (n : ℕ). number-of k < n) (sym h) (numbers-below k (omega arith)))
+      (λ i j hi hj e. let h = standard-size p in numbers-inj i j (omega arith) (omega arith) e)
 
   pub numbers-onto : (y : ℕ) → y < darts p → (d : ℕ) × (d < darts p) × (getD (standardNumbers p) d 0 ≡ y)
-  numbers-onto = onto (darts p) (λ d. getD (standardNumbers p) d 0) (record { bound = numbers-below; inj = numbers-inj })
+  numbers-onto = onto (darts p) number-of (record { bound = numbers-below; inj = numbers-inj })
 
   pub numbers-root : getD (standardNumbers p) (p .root) 0 ≡ 0
-  unfolding opened count
   numbers-root =
-      ap (λ (x : ℕ). getD (standardNumbers p) x 0) (sym (t .starts))
-      ∙ opened-number 0 (count-positive (darts p) fits) (starts-open p t fits)
-
-  pub ended-number : (i : ℕ) → i < darts p → opening p i ≡ false → getD (standardNumbers p) (dartAt p i) 0 ≡ 2 * rank p (mateOf p i) + 1
-  ended-number i h o =
-      ap (λ (x : ℕ). getD (standardNumbers p) x 0)
-      (sym (opposite-opposite (dartAt p i)) ∙ ap opposite (sym (mate-dart p t fits i h)))
-      ∙ other-number (mateOf p i) (mate-bound p t fits i h) (mate-opens p t i h ∙ ap not o)
+      ap number-of (sym (t .starts))
+      ∙ numbered-zero (letterOf p) (darts p) (mateOf p) (λ i. number-of (dartAt p i)) numbered (count-positive (darts p) fits)

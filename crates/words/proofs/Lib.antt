@@ -1,10 +1,12 @@
 pub mod Letters
 pub mod Positions
 pub mod Plans
+pub mod Bracketing
 pub mod OpenEdges
 pub mod Nesting
 pub mod WordDarts
 pub mod Mates
+pub mod Numbered
 pub mod Darts
 pub mod Lists
 pub mod Rotation
@@ -12,4 +14,3 @@ pub mod Leaves
 pub mod Validity
 pub mod Counts
 pub mod Found
-pub mod Bracketing

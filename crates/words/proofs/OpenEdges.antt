@@ -10,20 +10,25 @@
 --   part-balanced         the brackets of the part are balanced
 --   part-head             what is on top opens an edge that ends at i or later
 --   part-holds            an edge that ends at i or later is no higher than the top
+--   part-matched          the stack machine finds the matching
+--   tour-balance          where both parts match like brackets, the word is balanced
+--   onward-matching       the traversal goes on at the entry of the dart that the tree's matching tells
 use Prim.Native.Nat.{ℕ, suc, _≤_, _<_}
 use native.Mathlib.Omega.{arith}
 use mathlib.Core.Path.{_≡_, refl, sym, ap, subst, _∙_}
 use mathlib.Core.Bool.{Bool, true, false, not, cond}
 use mathlib.Core.List.{List, _∷_}
-use Rattle.model.specs.Map.{Plan, darts, dartCountFits}
-use Rattle.model.specs.Traversal.{Letter, opens}
+use Rattle.model.specs.Map.{Plan, darts, next, dartCountFits}
+use Rattle.model.specs.Traversal.{Letter, opens, onward}
 use Rattle.orbits.specs.Chord.{Involution, Nested}
-use Rattle.orbits.specs.Stack.{Kind, flat, open′, close, kind, kindOf, top, stack, Balanced}
+use Rattle.orbits.specs.Stack.{Kind, flat, open′, close, kind, kindOf, top, stack, matched, Balanced}
 use Rattle.orbits.proofs.Stack.{kind-open, kind-close, kind-flat, stack-top, stack-after, stack-balanced, stack-head, stack-holds}
-use Rattle.words.specs.Toured.{letterOf, mateOf, fellow, isChord, matching, Brackets, Toured}
+use Rattle.orbits.proofs.Match.{matched-is}
+use Rattle.words.specs.Toured.{dartAt, letterOf, mateOf, fellow, isTree, isChord, matching, Brackets, Bracketed, Toured}
 use Rattle.words.specs.Brackets.{bracket}
-use Rattle.words.proofs.Letters.{tree-fellow}
-use Rattle.words.proofs.Positions.{mate-bound, mate-back, mate-before}
+use Rattle.words.specs.Position.{Balance}
+use Rattle.words.proofs.Letters.{tree-fellow, onward-tree, onward-flat}
+use Rattle.words.proofs.Positions.{mate-bound, mate-back, mate-before, mate-dart}
 
 pub chord-whole : (l : Letter) → isChord (fellow l) ≡ isChord l
 chord-whole l = ap not (tree-fellow l)
@@ -118,3 +123,16 @@ module _ (part : Letter → Bool) (whole : (l : Letter) → part (fellow l) ≡ 
     pub part-holds : (i a : ℕ) → i ≤ darts p → a < i → part (letterOf p a) ≡ true → i ≤ mateOf p a → a < top (stack K i)
     part-holds i a h l w u =
         stack-holds (darts p) (matching part p) matching-inv (brackets-nested brackets) K same i h a l (rw (matching-in part p a w) u)
+
+    pub part-matched : (i : ℕ) → i < darts p → matched K (darts p) i ≡ matching part p i
+    part-matched = matched-is K (darts p) part-balanced (matching part p) matching-inv (brackets-nested brackets) same
+
+module _ (p : Plan) (t : Toured p) (fits : dartCountFits (darts p) ≡ true) where
+  pub tour-balance : Bracketed p → Balance (letterOf p) (darts p)
+  tour-balance b = record { trees = part-balanced isTree tree-fellow p t fits (b .trees); chords = part-balanced isChord chord-whole p t fits (b .chords) }
+
+  pub onward-matching : (k : ℕ) → k < darts p → onward (p .rotation) (letterOf p k) (dartAt p k) ≡ next (p .rotation) (dartAt p (matching isTree p k))
+  onward-matching k h =
+      part-split isTree p k
+      (λ u e. onward-tree (p .rotation) (letterOf p k) (dartAt p k) u ∙ ap (next (p .rotation)) (sym (mate-dart p t fits k h) ∙ ap (dartAt p) (sym e)))
+      (λ u e. onward-flat (p .rotation) (letterOf p k) (dartAt p k) u ∙ ap (λ (j : ℕ). next (p .rotation) (dartAt p j)) (sym e))

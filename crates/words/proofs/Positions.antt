@@ -6,6 +6,7 @@
 --   word-length        the word has a letter for each dart
 --   word-left, word-end   what is left of it at a position, and at the end
 --   dart-inj           each dart is met once
+--   dart-next          one position on, round the traversal
 --   pos-mate           the position of the opposite of a dart
 --   mate-letter, mate-opens, mate-tree   the letter of the mate
 -- and with an even number of darts:
@@ -24,10 +25,12 @@ use mathlib.Core.List.{[], _∷_}
 use lib.ListN.{length, getD, drop, length-map, drop-of-length-le, List·getD-map}
 use lib.Seq.{drop-cons}
 use Rattle.model.specs.Map.{Plan, darts, edges, opposite, dartCountFits}
-use Rattle.model.specs.Traversal.{Letter, second, Visit, opens, visits, word}
+use Rattle.model.specs.Traversal.{Letter, second, Visit, opens, onward, visits, word}
 use Rattle.model.proofs.Opposite.{opposite-opposite, opposite-ne, opposite-bound, opposite-edge, same-edge, edge-below}
 use Rattle.model.proofs.Fitness.{count-even}
 use Rattle.orbits.specs.Chord.{Involution}
+use Rattle.orbits.specs.Chord as chord
+use Rattle.orbits.proofs.Chord.{next-cases}
 use Rattle.words.specs.Toured.{dartsMet, dartAt, letterOf, posOf, mateOf, fellow, isTree, Toured}
 use Rattle.words.proofs.Letters.{opens-fellow, tree-fellow, fellow-opens}
 
@@ -67,6 +70,12 @@ module _ (p : Plan) (t : Toured p) where
 
   pub dart-inj : (i j : ℕ) → i < darts p → j < darts p → dartAt p i ≡ dartAt p j → i ≡ j
   dart-inj i j hi hj e = sym (t .pos-dart i hi) ∙ ap (posOf p) e ∙ t .pos-dart j hj
+
+  pub dart-next : (i : ℕ) → i < darts p → dartAt p (chord.next (darts p) i) ≡ onward (p .rotation) (letterOf p i) (dartAt p i)
+  dart-next i h = ⊎-elim
+      (λ c. ap (dartAt p) (c .1) ∙ t .step i (c .0))
+      (λ c. ap (dartAt p) (c .1) ∙ t .starts ∙ sym (t .closes i (c .0)))
+      (next-cases (darts p) i h)
 
   pub pos-mate : (d : ℕ) → d < darts p → posOf p (opposite d) ≡ mateOf p (posOf p d)
   unfolding mateOf
