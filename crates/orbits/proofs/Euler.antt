@@ -7,14 +7,14 @@
 use Prim.Native.Nat.{ℕ, zero, _+_, _≤_, _<_}
 use native.Mathlib.Omega.{arith}
 use mathlib.Core.Path.{_≡_, sym, ap, _∙_}
-use mathlib.Core.Bool.{Bool, true, _||_}
+use mathlib.Core.Bool.{Bool, true, _||_, or-true}
 use lib.Dec.{ltb, ltb→lt, lt→ltb}
 use borrow.Author.Tests.{lt-ltb}
 use Rattle.model.specs.Numbers.{count, cycles}
 use Rattle.orbits.specs.Permutation.{Perm}
 use Rattle.orbits.specs.Chord.{Involution, opener, chords, Nested}
 use Rattle.orbits.specs.Tour.{face, Tour, diagram, rest}
-use Rattle.orbits.proofs.Order.{or-true, tri}
+use Rattle.orbits.proofs.Order.{tri}
 use Rattle.orbits.proofs.Tally.{count-ext, count-either, count-inj}
 use Rattle.orbits.proofs.Chord.{μ-inj}
 use Rattle.orbits.proofs.Tour.{ε, ε-inv, euler-le, euler-nested, nested-euler}

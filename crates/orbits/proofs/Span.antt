@@ -10,14 +10,14 @@ use native.Mathlib.Decide.{ℕ-discrete}
 use native.Mathlib.Omega.{arith}
 use mathlib.Core.Path.{_≡_, refl, sym, ap, ap₂, _∙_}
 use mathlib.Core.Logic.{⊎-elim}
-use mathlib.Core.Bool.{Bool, true, false, cond, _||_}
+use mathlib.Core.Bool.{Bool, true, false, cond, _||_, or-true}
 use lib.Dec.{eqb, eqb→eq}
 use borrow.Author.Tests.{eq-eqb, ne-eqb}
 use Rattle.model.specs.Numbers.{count, least, isLeast, cycles}
 use Rattle.orbits.specs.Permutation.{Perm, swap}
 use Rattle.orbits.specs.Chord.{Involution}
 use Rattle.orbits.specs.Tour.{onward, Tour}
-use Rattle.orbits.proofs.Order.{or-true, eq-split, eq→eqb, find-below}
+use Rattle.orbits.proofs.Order.{eq-split, eq→eqb, find-below}
 use Rattle.orbits.proofs.Tally.{count-inj, count-except}
 use Rattle.orbits.proofs.Cycle.{least-step, least-bound, least-idem, least-ext, perm-ext}
 use Rattle.orbits.proofs.Transversal.{cycles-ext}

@@ -12,14 +12,13 @@ use Prim.Native.Nat.{ℕ, zero, suc, _+_, _≤_, _<_}
 use native.Mathlib.Nat.{le-of-eq}
 use native.Mathlib.Omega.{arith}
 use mathlib.Core.Path.{_≡_, refl, sym, ap, subst, _∙_}
-use mathlib.Core.Bool.{Bool, true, false, not, cond, _||_}
+use mathlib.Core.Bool.{Bool, true, false, not, cond, _||_, or-false}
 use lib.Dec.{T, ltb}
 use borrow.Author.Tests.{le-ltb}
 use Rattle.model.specs.Numbers.{cycles}
 use Rattle.orbits.specs.Permutation.{Perm}
 use Rattle.orbits.specs.Chord.{Involution, opener, chords, next, φ, faces, Nested}
 use Rattle.orbits.specs.Tour.{face, onward, chord, Tour, diagram, rest}
-use Rattle.orbits.proofs.Order.{or-false}
 use Rattle.orbits.proofs.Chord.{φ-perm, crossed-perm, faces-le, nested-of-faces, faces-of-nested}
 use Rattle.orbits.proofs.Tally.{count-ext, count-either}
 use Rattle.orbits.proofs.Transversal.{cycles-conj, cycles-ext}

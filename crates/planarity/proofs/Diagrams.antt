@@ -6,8 +6,8 @@
 --   nested-trees, nested-chords   a nested diagram gives brackets
 --   chords-nested      and brackets give a nested diagram of the others
 use Prim.Native.Nat.{ℕ, _<_}
-use mathlib.Core.Path.{_≡_, refl, sym, ap, _∙_}
-use mathlib.Core.Bool.{Bool, true, false, not, cond}
+use mathlib.Core.Path.{_≡_, sym, ap, _∙_}
+use mathlib.Core.Bool.{Bool, true, false, not, cond, Bool·not-not}
 use Rattle.model.specs.Map.{Plan, darts, opposite, dartCountFits}
 use Rattle.model.specs.Traversal.{Letter}
 use Rattle.orbits.specs.Chord.{Nested}
@@ -40,12 +40,8 @@ module _ (p : Plan) (t : Toured p) where
 
   pub chord-mates : (i : ℕ) → i < darts p → chordMates p i ≡ matching isChord p i
   chord-mates i h =
-      ap (λ (b : Bool). posOf p (cond b (dartAt p i) (opposite (dartAt p i)))) (sym (not-not (treeDart p (dartAt p i))))
+      ap (λ (b : Bool). posOf p (cond b (dartAt p i) (opposite (dartAt p i)))) (sym (Bool·not-not (treeDart p (dartAt p i))))
       ∙ mates isChord i h (not (treeDart p (dartAt p i))) (ap not (sym (tree-at i h)))
-    where
-      not-not : (b : Bool) → not (not b) ≡ b
-      not-not true = refl
-      not-not false = refl
 
   module _ (fits : dartCountFits (darts p) ≡ true) where
     pub nested-trees : Nested (treeMates p) (darts p) → Brackets isTree p
