@@ -6,21 +6,23 @@
 --   endsFrom p i       what is read off the word from position i on
 --   ends-at            it follows from the letter there and what is read off after it
 --   waits-head         right after an opener of sort b its flag comes first
-use Prim.Native.Nat.{ℕ, suc, _<_}
-use mathlib.Core.Path.{_≡_, refl, ap, _∙_}
+use Prim.Native.Nat.{ℕ, suc, _≤_, _<_}
+use mathlib.Core.Path.{_≡_, refl, sym, ap, ap₂, _∙_}
 use mathlib.Core.Logic.{_⊎_, inl, inr, ⊎-elim}
-use mathlib.Core.Bool.{Bool, true, false, true≢false, false≢true}
-use mathlib.Core.List.{List, _∷_}
+use mathlib.Core.Bool.{Bool, true, false, cond, true≢false, false≢true}
+use mathlib.Core.List.{List, [], _∷_, map}
 use lib.ListN.{drop}
 use Rattle.model.specs.Map.{Plan, darts, dartCountFits}
 use Rattle.model.specs.Traversal.{Letter, down, up, first, second, opens, word}
+use Rattle.orbits.specs.Stack.{Kind, flat, open′, close, push, stack}
+use Rattle.orbits.proofs.Order.{from-end}
 use Rattle.words.specs.Word.{Ends, ends, endsOne, startsSecond, head, tail}
 use Rattle.words.specs.Toured.{Toured, Brackets, Bracketed, letterOf, mateOf, fellow, isTree, isChord}
-use Rattle.words.proofs.Positions.{mate-bound, mate-back, mate-before, word-left}
+use Rattle.words.specs.Brackets.{bracket}
+use Rattle.words.proofs.Positions.{mate-back, word-left, word-end}
 use Rattle.words.proofs.Letters.{tree-fellow}
-use Rattle.words.proofs.OpenEdges.{chord-whole}
+use Rattle.words.proofs.OpenEdges.{chord-whole, part-top, part-balanced}
 use Rattle.labelling.proofs.Lit.{startsAt}
-use Rattle.labelling.proofs.Waiting.{Waiting, waits-mate}
 
 abbrev pub ofSort : Bool → Letter → Bool
 ofSort true l = isTree l
@@ -77,22 +79,48 @@ module _ (p : Plan) (toured : Toured p) where
     sort-nested true = bracketed .trees
     sort-nested false = bracketed .chords
 
-    -- the letter of an opener or of an ender says on which side its mate is
-    side : (i : ℕ) (A B : Type 0) → i < darts p → ((opens (letterOf p i) ≡ true) × A) ⊎ ((opens (letterOf p i) ≡ false) × B)
-        → ((i < mateOf p i) × A) ⊎ ((mateOf p i < i) × B)
-    side i A B h = ⊎-elim (λ z. inl (toured .opens-first i h (z .0), z .1)) (λ z. inr (mate-before p toured fits i h (z .0), z .1))
+    abbrev flag : ℕ → ℕ
+    flag a = startsAt p (suc (mateOf p a))
 
-    waiting : (b : Bool) → Waiting (darts p) (mateOf p) (λ i. ofSort b (letterOf p i)) (λ j. startsAt p (suc j)) (λ i. waits b (endsFrom p i))
-    unfolding startsAt
-    waiting b = record {
-      bound = mate-bound p toured fits;
-      back = mate-back p toured fits;
-      whole = λ i h t. ap (ofSort b) (toured .fellows i h) ∙ fellow-sort b (letterOf p i) ∙ t;
-      nested = sort-nested b;
-      skips = λ i h t. ap (waits b) (ends-at i h) ∙ waits-skip b (letterOf p i) _ _ t;
-      acts = λ i h t. side i _ _ h (rw (ends-at i h) (waits-act b (letterOf p i) (drop (suc i) (word p)) (endsFrom p (suc i)) t));
-    }
+    abbrev K : Bool → ℕ → Kind
+    K b i = bracket (ofSort b) (letterOf p i)
+
+    -- what waits at a position are the flags of the edges that are open there
+    Waits : Bool → ℕ → Type 0
+    Waits b i = waits b (endsFrom p i) ≡ map flag (stack (K b) i)
+
+    waits-step : (b : Bool) (i : ℕ) → i < darts p → Waits b (suc i) → Waits b i
+    unfolding Waits stack startsAt
+    waits-step b i h ih = ap (waits b) (ends-at i h) ∙ go (ofSort b (letterOf p i)) refl
+      where
+        rest : List Letter
+        rest = drop (suc i) (word p)
+
+        bracket-is : (c o : Bool) → ofSort b (letterOf p i) ≡ c → opens (letterOf p i) ≡ o
+            → stack (K b) (suc i) ≡ push (cond c (cond o open′ close) flat) i (stack (K b) i)
+        bracket-is c o e f = ap₂ (λ (c o : Bool). push (cond c (cond o open′ close) flat) i (stack (K b) i)) e f
+
+        go : (c : Bool) → ofSort b (letterOf p i) ≡ c → waits b (endsOne (letterOf p i) rest (endsFrom p (suc i))) ≡ map flag (stack (K b) i)
+        go false e = waits-skip b (letterOf p i) rest (endsFrom p (suc i)) e ∙ ih ∙ ap (map flag) (bracket-is false (opens (letterOf p i)) e refl)
+        go true e = ⊎-elim
+            (λ z. z .1 ∙ ap tail (ih ∙ ap (map flag) (bracket-is true true e (z .0))))
+            (λ z. z .1 ∙ ap₂ (λ (x : ℕ) (xs : List ℕ). x ∷ xs) (ap (λ (k : ℕ). startsAt p (suc k)) (sym (mate-back p toured fits i h))) ih
+            ∙ sym (ap (map flag) (part-top (ofSort b) (fellow-sort b) p toured fits (sort-nested b) i h e (z .0))))
+            (waits-act b (letterOf p i) rest (endsFrom p (suc i)) e)
+
+    waits-open : (b : Bool) (i : ℕ) → i ≤ darts p → Waits b i
+    unfolding Waits ends
+    waits-open b = from-end (Waits b) (darts p)
+        (ap (λ (w : List Letter). waits b (ends w)) (word-end p toured) ∙ none b
+        ∙ sym (ap (map flag) (part-balanced (ofSort b) (fellow-sort b) p toured fits (sort-nested b) .ended))) (waits-step b)
+      where
+        none : (b : Bool) → waits b (ends []) ≡ []
+        none true = refl
+        none false = refl
 
     pub waits-head : (b : Bool) (i : ℕ) → i < darts p → ofSort b (letterOf p i) ≡ true → opens (letterOf p i) ≡ true
         → head (waits b (endsFrom p (suc i))) ≡ startsAt p (suc (mateOf p i))
-    waits-head b i h t o = ap head (waits-mate (darts p) (mateOf p) _ _ _ (waiting b) i h t (toured .opens-first i h o))
+    unfolding Waits stack
+    waits-head b i h t o =
+        ap head (waits-open b (suc i) h)
+        ∙ ap₂ (λ (c o : Bool). head (map flag (push (cond c (cond o open′ close) flat) i (stack (K b) i)))) t o

@@ -2,7 +2,6 @@ pub mod Codes
 pub mod Lit
 pub mod Leaves
 pub mod Taking
-pub mod Waiting
 pub mod Flags
 pub mod Bare
 pub mod Seconds
