@@ -14,17 +14,14 @@ use Rattle.model.specs.Numbers.{elem, isPermutation}
 use Rattle.model.specs.Map.{Plan, darts, opposite, next, connected, dartCountFits}
 use Rattle.model.specs.Traversal.{visits}
 use Rattle.model.proofs.Booleans.{T-true, true-T}
-use Rattle.model.proofs.Opposite.{opposite-opposite}
 use Rattle.model.proofs.Permutations.{elem-at, at-elem}
 use Rattle.model.proofs.Fitness.{count-even}
-use Rattle.orbits.proofs.Tally.{count-inj, count-tight}
-use Rattle.orbits.proofs.Tally.{count-all}
+use Rattle.orbits.proofs.Tally.{count-inj, count-tight, count-all}
 use Rattle.words.specs.Toured.{dartsMet, dartAt}
 use Rattle.words.proofs.Positions.{length-darts}
 use Rattle.traversal.specs.Walked.{Among, Walked}
-use Rattle.traversal.proofs.Bits.{bit, bit-same, bit-in}
-use Rattle.traversal.proofs.Reach.{connected-kept, kept-connected}
-use Rattle.traversal.proofs.Walk.{walked, walk-least}
+use Rattle.traversal.proofs.Reach.{connected-from, kept-connected}
+use Rattle.traversal.proofs.Walk.{walked, walk-closed, walk-least}
 
 -- ---- the darts met, as a test
 
@@ -47,26 +44,11 @@ module _ (p : Plan) (fits : dartCountFits (darts p) ≡ true) (hr : p .root < da
   w : Walked p
   w = walked p fits hr good
 
-  root-met : T (isMet p (p .root))
-  root-met = among-met p (p .root) (0, w .some-met, w .starts)
-
   -- ---- connected: all are met
 
   pub connected-met : connected (p .rotation) ≡ true → (x : ℕ) → x < N → Among p x
-  connected-met e x h =
-      let one : bit (isMet p x) ≡ bit (isMet p (p .root)) =
-      connected-kept (p .rotation) (count-even N fits) good e (λ x. bit (isMet p x)) turns crosses x (p .root) h hr in
-      met-among p x (bit-in (isMet p x) (isMet p (p .root)) one root-met)
-    where
-      turns : (x : ℕ) → x < N → bit (isMet p (next (p .rotation) x)) ≡ bit (isMet p x)
-      turns x h = bit-same (isMet p (next (p .rotation) x)) (isMet p x)
-          (λ t. among-met p x (w .turned x h (met-among p (next (p .rotation) x) t)))
-          (λ t. among-met p (next (p .rotation) x) (w .turn x (met-among p x t)))
-
-      crosses : (x : ℕ) → x < N → bit (isMet p (opposite x)) ≡ bit (isMet p x)
-      crosses x h = bit-same (isMet p (opposite x)) (isMet p x)
-          (λ t. among-met p x (subst (Among p) (opposite-opposite x) (w .across (opposite x) (met-among p (opposite x) t))))
-          (λ t. among-met p (opposite x) (w .across x (met-among p x t)))
+  connected-met e =
+      connected-from (p .rotation) (count-even N fits) good e (Among p) (walk-closed p fits hr good) (p .root) hr (0, w .some-met, w .starts)
 
   all-long : ((x : ℕ) → x < N → Among p x) → length (visits p) ≡ N
   all-long all =

@@ -5,20 +5,19 @@
 --   set-here, set-still   a number is marked: then it is, and what was marked still is
 --   set-in                what is marked then was so before, or is that number
 --   isMarked m x          the same as a test, and marked-is, is-marked both ways
---   marks-le, marks-some  the count of marks
-use Prim.Native.Nat.{ℕ, zero, suc, _≤_, _<_}
+--   marks-some            the count of marks
+use Prim.Native.Nat.{ℕ, zero, suc, _<_}
 use native.Mathlib.Omega.{arith}
 use mathlib.Core.Path.{_≡_, refl, sym, subst, _∙_}
 use mathlib.Core.Logic.{_≢_}
-use mathlib.Core.Bool.{Bool, true, not}
+use mathlib.Core.Bool.{Bool, not}
 use mathlib.Core.List.{List}
 use lib.Dec.{T, T-not, not-T, eqb, eqb→eq}
 use lib.ListN.{length, getD, set, replicate}
 use lib.Seq.{getD-set-same, getD-set-other, set-out}
 use Rattle.model.specs.Numbers.{count}
 use Rattle.orbits.proofs.Order.{eq-split, lt-or-le, eq→eqb}
-use Rattle.orbits.proofs.Tally.{count-mono, count-except}
-use Rattle.orbits.proofs.Tally.{count-all}
+use Rattle.orbits.proofs.Tally.{count-except}
 
 abbrev pub Marked : List ℕ → ℕ → Type 0
 Marked m x = getD m x 0 ≢ 0
@@ -54,9 +53,6 @@ module _ (m : List ℕ) where
 
   pub is-marked : (x : ℕ) → T (isMarked m x) → Marked m x
   is-marked x t e = T-not (eqb (getD m x 0) 0) t (eq→eqb (getD m x 0) 0 e)
-
-  pub marks-le : (n : ℕ) → count (isMarked m) n ≤ n
-  marks-le n = omega (arith, count-mono (isMarked m) (λ i. true) n (λ i h t. tt), count-all n)
 
   pub marks-some : (n x : ℕ) → x < n → Marked m x → 0 < count (isMarked m) n
   marks-some n x h s = omega (arith, count-except (isMarked m) x n h (marked-is x s))

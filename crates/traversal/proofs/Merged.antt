@@ -24,12 +24,11 @@ use Rattle.orbits.specs.Chord.{Involution}
 use Rattle.orbits.proofs.Order.{eq-split}
 use Rattle.orbits.proofs.Cycle.{least-in, least-step, least-ext}
 use Rattle.orbits.proofs.Merge.{swap-perm, swap-a, swap-b, swap-split, joined, together}
-use Rattle.orbits.proofs.Maps.{vertex-turn}
 use Rattle.words.specs.Toured.{isTree}
 use Rattle.traversal.specs.Steps.{at, start, dart, letterOf, mark, seenMark, tree}
 use Rattle.traversal.proofs.Marks.{zeros-at}
 use Rattle.traversal.proofs.Steps.{case, down-case, letter-split, dart-bound, across-bound, mark-met}
-use Rattle.traversal.proofs.Steps.{seen-here, seen-across, seen-some, seen-same, seen-other}
+use Rattle.traversal.proofs.Steps.{seen-here, seen-across, seen-some, seen-same, seen-other, seen-turn}
 use Rattle.traversal.proofs.Follow.{tour, whole, perm, Away, away-less, Followed, follows, tree-same, tree-here, unmarked, across-unmarked}
 
 module _ (rot : List ℕ) (r : ℕ) (turn : Perm (length rot) (next rot)) (cross : Involution (length rot) opposite) (hr : r < length rot) where
@@ -66,10 +65,6 @@ module _ (rot : List ℕ) (r : ℕ) (turn : Perm (length rot) (next rot)) (cross
 
   -- ---- the tour leads from seen to seen and from unseen to unseen
 
-  seen-turn : (k z : ℕ) → z < N → S k (next rot z) ≡ S k z
-  unfolding seenMark
-  seen-turn k z h = ap (λ (v : ℕ). getD (at rot r k .seen) v 0) (vertex-turn rot turn z h)
-
   tour-in : (k z : ℕ) → tree rot r k z ≡ true → τ k z ≡ next rot (opposite z)
   tour-in k z e = ap (λ (b : Bool). cond b (next rot (opposite z)) (next rot z)) e
 
@@ -95,11 +90,11 @@ module _ (rot : List ℕ) (r : ℕ) (turn : Perm (length rot) (next rot)) (cross
       go : (b : Bool) → tree rot r k z ≡ b → S k (τ k z) ≢ 0
       go true e q =
           tree-seen k (opposite z) (whole rot r turn cross hr k z h ∙ e)
-          (sym (seen-turn k (opposite z) (cross .bound z h)) ∙ ap (S k) (sym (tour-in k z e)) ∙ q)
-      go false e q = s (sym (seen-turn k z h) ∙ ap (S k) (sym (tour-out k z e)) ∙ q)
+          (sym (seen-turn rot r turn cross hr k (opposite z) (cross .bound z h)) ∙ ap (S k) (sym (tour-in k z e)) ∙ q)
+      go false e q = s (sym (seen-turn rot r turn cross hr k z h) ∙ ap (S k) (sym (tour-out k z e)) ∙ q)
 
   unseen-tour : (k z : ℕ) → Unseen k z → Unseen k (τ k z)
-  unseen-tour k z (h, s) = (τ-perm k .bound z h, ap (S k) (tour-out k z (unseen-out k z s)) ∙ seen-turn k z h ∙ s)
+  unseen-tour k z (h, s) = (τ-perm k .bound z h, ap (S k) (tour-out k z (unseen-out k z s)) ∙ seen-turn rot r turn cross hr k z h ∙ s)
 
   -- so no cycle has darts of both sorts
   separate : (k x y : ℕ) → Seen k x → Unseen k y → L k x ≢ L k y
@@ -113,7 +108,7 @@ module _ (rot : List ℕ) (r : ℕ) (turn : Perm (length rot) (next rot)) (cross
     where
       turned : (z : ℕ) → Unseen k z × (L k z ≡ L k y) → Unseen k (next rot z) × (L k (next rot z) ≡ L k y)
       turned z ((hz, sz), e) = (
-        (turn .bound z hz, seen-turn k z hz ∙ sz),
+        (turn .bound z hz, seen-turn rot r turn cross hr k z hz ∙ sz),
         ap (L k) (sym (tour-out k z (unseen-out k z sz))) ∙ least-step N (τ k) (τ-perm k) z hz ∙ e,
       )
 

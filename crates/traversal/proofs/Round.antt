@@ -5,7 +5,6 @@
 --   different             the darts met are pairwise different
 --   all-seen              every dart of a vertex seen is met
 --   met-across, met-turn  the opposite of a dart met is met, and so is the entry at it
---   met-turned            and the dart at whose entry it stands
 --   pair                  two opposite darts: down and then up, or first and then second
 use Prim.Native.Nat.{ℕ, zero, suc, _<_}
 use native.Mathlib.Nat.{le-of-lt, le-refl, le-step, le-of-suc-le-suc}
@@ -13,7 +12,7 @@ use native.Mathlib.Omega.{arith}
 use mathlib.Core.Path.{_≡_, sym, ap, subst, _∙_}
 use mathlib.Core.Logic.{_≢_, _⊎_, inl, inr, ⊎-elim}
 use mathlib.Core.List.{List}
-use lib.ListN.{length, getD}
+use lib.ListN.{length}
 use Rattle.model.specs.Numbers.{iter}
 use Rattle.model.specs.Map.{opposite, next}
 use Rattle.model.specs.Traversal.{Letter, down, up, first, second, code}
@@ -22,9 +21,8 @@ use Rattle.orbits.specs.Permutation.{Perm}
 use Rattle.orbits.specs.Chord.{Involution}
 use Rattle.orbits.proofs.Order.{eq-split, lt-suc-split}
 use Rattle.orbits.proofs.Cycle.{iter-out, comes-back, same-reach, Back, On, on-self, on-step}
-use Rattle.orbits.proofs.Maps.{vertex-turn}
-use Rattle.traversal.specs.Steps.{at, dart, letterOf, mark, seenMark}
-use Rattle.traversal.proofs.Steps.{Case, new, old, back, noted, case, dart-bound, across-bound, mark-met, seen-here, seen-across}
+use Rattle.traversal.specs.Steps.{dart, letterOf, mark, seenMark}
+use Rattle.traversal.proofs.Steps.{Case, new, old, back, noted, case, dart-bound, across-bound, mark-met, seen-here, seen-across, seen-turn}
 use Rattle.traversal.proofs.Follow.{tour, perm, Away, Followed, follows, dart-iter, apart}
 use Rattle.traversal.proofs.Merged.{merges}
 
@@ -127,18 +125,10 @@ module _ (rot : List ℕ) (r : ℕ) (turn : Perm (length rot) (next rot)) (cross
     pub met-across : (j : ℕ) → j < n → Met (opposite (D j))
     met-across j h = all-seen (opposite (D j)) (across-bound rot r turn cross hr j) (seen-across rot r turn cross hr n j h)
 
-    -- one vertex, one mark
-    seen-turn : (x : ℕ) → x < N → seenMark rot r n (next rot x) ≡ seenMark rot r n x
-    unfolding seenMark
-    seen-turn x h = ap (λ (v : ℕ). getD (at rot r n .seen) v 0) (vertex-turn rot turn x h)
-
     pub met-turn : (j : ℕ) → j < n → Met (next rot (D j))
     met-turn j h =
         let b = dart-bound rot r turn cross hr j in
-        all-seen (next rot (D j)) (turn .bound (D j) b) (λ z. seen-met j h (sym (seen-turn (D j) b) ∙ z))
-
-    pub met-turned : (x : ℕ) → x < N → (j : ℕ) → j < n → next rot x ≡ D j → Met x
-    met-turned x hx j h e = all-seen x hx (λ z. seen-met j h (ap (seenMark rot r n) (sym e) ∙ seen-turn x hx ∙ z))
+        all-seen (next rot (D j)) (turn .bound (D j) b) (λ z. seen-met j h (sym (seen-turn rot r turn cross hr n (D j) b) ∙ z))
 
     -- ---- two opposite darts
 

@@ -19,9 +19,9 @@ use Rattle.model.specs.Map.{opposite, next, spread, spreads, reached}
 use Rattle.orbits.specs.Permutation.{Perm}
 use Rattle.orbits.specs.Chord.{Involution}
 use Rattle.orbits.proofs.Order.{lt-or-le, lt-suc-split}
-use Rattle.orbits.proofs.Tally.{count-tight}
+use Rattle.orbits.proofs.Tally.{count-le, count-tight}
 use Rattle.traversal.specs.Reach.{Closed}
-use Rattle.traversal.proofs.Marks.{Marked, isMarked, marked-is, is-marked, marks-le, marks-some, zeros-at, set-here, set-still, set-in}
+use Rattle.traversal.proofs.Marks.{Marked, isMarked, marked-is, is-marked, marks-some, zeros-at, set-here, set-still, set-in}
 
 -- ---- one round: every marked dart below n marks its opposite and its entry
 
@@ -144,7 +144,7 @@ module _ (rot : List ℕ) where
       pub reached-closed : Closed rot (Marked (reached rot))
       unfolding reached
       reached-closed = ⊎-elim (λ c. c)
-          (λ g. absurd (omega (arith, marks-some from N 0 h from-zero, marks-le (reached rot) N)))
+          (λ g. absurd (omega (arith, marks-some from N 0 h from-zero, count-le (isMarked (reached rot)) N)))
           (settle N from (simp (length-set, length-replicate)))
 
       pub reached-least : (S : ℕ → Type 0) → Closed rot S → S 0 → (x : ℕ) → Marked (reached rot) x → S x

@@ -12,6 +12,7 @@
 --   mark-met                a dart with a code was met
 --   seen-same, seen-other   only down marks a vertex, and only the one across
 --   seen-grows              a vertex that is seen stays so
+--   seen-turn               the darts of a vertex have one mark
 --   seen-here               the vertices of the darts met are seen, and that of the dart to come
 --   seen-across             so are those of their opposites
 --   seen-some               and no others
@@ -206,6 +207,10 @@ module _ (rot : List ℕ) (r : ℕ) where
     seen-vertex : (k x y : ℕ) → vertexOf rot x ≡ vertexOf rot y → S k y ≢ 0 → S k x ≢ 0
     unfolding seenMark
     seen-vertex k x y e n z = n (ap (λ (v : ℕ). getD (at rot r k .seen) v 0) (sym e) ∙ z)
+
+    pub seen-turn : (k x : ℕ) → x < N → S k (next rot x) ≡ S k x
+    unfolding seenMark
+    seen-turn k x h = ap (λ (v : ℕ). getD (at rot r k .seen) v 0) (vertex-turn rot turn x h)
 
     seen-root : S 0 r ≢ 0
     unfolding seenMark at start

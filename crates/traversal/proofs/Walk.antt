@@ -1,6 +1,5 @@
 -- The visits of a plan are the steps of its first round; so all that is known of those holds of the visits, position by position.
 --
---   length-word, length-darts   as many letters and darts as visits: passed on from words
 --   walked                      all that is known of the traversal of a plan
 --   walk-closed, walk-least     the darts met are a closed set, and every closed set that has the root has them
 use Prim.Native.Nat.{ℕ, zero, suc, _+_, _≤_, _<_}
@@ -21,12 +20,11 @@ use Rattle.orbits.specs.Permutation.{Perm}
 use Rattle.orbits.specs.Chord.{Involution}
 use Rattle.orbits.proofs.Maps.{next-perm, opposite-inv}
 use Rattle.words.specs.Toured.{dartsMet, dartAt, letterOf}
-pub use Rattle.words.proofs.Positions.{length-word, length-darts}
 use Rattle.traversal.specs.Reach.{Closed}
 use Rattle.traversal.specs.Steps.{at, start, step, letter, dart, letterOf as letterAfter, seenMark}
 use Rattle.traversal.specs.Walked.{Among, Walked}
 use Rattle.traversal.proofs.Steps.{case, down-case, first-case, dart-step, dart-bound, seen-here, seen-some}
-use Rattle.traversal.proofs.Round.{Round, round, different, met-across, met-turn, met-turned, pair}
+use Rattle.traversal.proofs.Round.{Round, round, different, met-across, met-turn, pair}
 
 -- ---- the visits of steps i to i + m
 
@@ -130,9 +128,6 @@ module _ (p : Plan) (turn : Perm (darts p) (next (p .rotation))) (cross : Involu
       let (j, h, e) = met x a in
       among (next rot x) (subst (λ (y : ℕ). (i : ℕ) × (i < n) × (dart rot r i ≡ next rot y)) e (met-turn rot r turn cross hr o j h))
 
-  turn-back : (x : ℕ) → x < darts p → Among p (next rot x) → Among p x
-  turn-back x hx a = let (j, h, e) = met (next rot x) a in among x (met-turned rot r turn cross hr o x hx j h (sym e))
-
   step-on : (i : ℕ) → i < n → onward rot (letterOf p i) (dartAt p i) ≡ dart rot r (suc i)
   step-on i h = ap₂ (λ (a : Letter) (d : ℕ). onward rot a d) (letter-is i h) (dart-is i h) ∙ sym (dart-step rot r i)
 
@@ -172,7 +167,6 @@ module _ (p : Plan) (turn : Perm (darts p) (next (p .rotation))) (cross : Involu
     closes = λ i e. let last : suc i ≡ n = e ∙ size in step-on i (omega arith) ∙ ap (dart rot r) last ∙ o .returns;
     across = across;
     turn = turn-on;
-    turned = turn-back;
     pair = λ i j h hj e. paired i j h (within j hj) e;
     new = λ i h. new-vertex i (within i h);
     old = λ i h. old-vertex i (within i h);

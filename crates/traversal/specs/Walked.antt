@@ -22,10 +22,9 @@ pub record Walked (p : Plan) : Type 0 where
   pub starts : dartAt p 0 ≡ p .root
   pub step : (i : ℕ) → suc i < length (visits p) → dartAt p (suc i) ≡ onward (p .rotation) (letterOf p i) (dartAt p i)
   pub closes : (i : ℕ) → suc i ≡ length (visits p) → onward (p .rotation) (letterOf p i) (dartAt p i) ≡ p .root
-  -- with a dart its opposite is met, the entry at it, and the dart at whose entry it stands
+  -- with a dart its opposite is met, and the entry at it
   pub across : (x : ℕ) → Among p x → Among p (opposite x)
   pub turn : (x : ℕ) → Among p x → Among p (next (p .rotation) x)
-  pub turned : (x : ℕ) → x < darts p → Among p (next (p .rotation) x) → Among p x
   -- opposite darts have letters that match
   pub pair : (i j : ℕ) → i < j → j < length (visits p) → dartAt p j ≡ opposite (dartAt p i)
       → ((letterOf p i ≡ down) × (letterOf p j ≡ up)) ⊎ ((letterOf p i ≡ first) × (letterOf p j ≡ second))
