@@ -1,6 +1,6 @@
-pub mod Vertices
-pub mod Walk
-pub mod Planar
-pub mod Loops
-pub mod Connected
+mod Vertices
+mod Walk
+mod Planar
+mod Loops
+mod Connected
 pub mod Built

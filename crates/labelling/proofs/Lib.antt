@@ -1,8 +1,8 @@
-pub mod Codes
-pub mod Lit
-pub mod Leaves
-pub mod Taking
-pub mod Flags
-pub mod Bare
-pub mod Seconds
+mod Codes
+mod Lit
+mod Leaves
+mod Taking
+mod Flags
+mod Bare
+mod Seconds
 pub mod Reading

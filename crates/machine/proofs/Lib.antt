@@ -4,7 +4,7 @@ pub mod Lengths
 pub mod Sizes
 pub mod Turns
 pub mod Runs
-pub mod Within
-pub mod Held
+mod Within
+mod Held
 pub mod Encoding
 pub mod Decoding

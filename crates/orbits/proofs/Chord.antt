@@ -8,7 +8,6 @@
 --   φ-perm             the face permutation is one
 --   faces-le           at most k + 1 faces
 --   nested-of-faces, faces-of-nested   that many exactly where the chords are nested
---   nested-noncrossing nested chords do not cross
 --   nested-ext         a diagram that is another one below N is nested if that one is
 use Prim.Native.Nat.{ℕ, zero, suc, _+_, _≤_, _<_, zero-le}
 use native.Mathlib.Nat.{le-trans, le-antisymm, le-of-eq, lt-suc-self}
@@ -180,10 +179,6 @@ module _ (N : ℕ) (μ : ℕ → ℕ) (inv : Involution N μ) where
   -- (B)
   pub nested-of-faces : faces μ N ≡ suc (chords μ N) → Nested μ N
   nested-of-faces e a ha o = nest (all-least e) (μ a) a (omega arith) ha o
-
-  -- so no two chords cross
-  pub nested-noncrossing : Nested μ N → (a b c d : ℕ) → b < N → a < c → c < b → b < d → μ a ≡ b → μ c ≡ d → ⊥
-  nested-noncrossing nest a b c d hb l k m e f = omega (arith, nest a (omega arith) (omega arith) c l (omega arith) .1)
 
   -- ---- nested chords: as many faces as marks
 

@@ -8,7 +8,7 @@ pub mod Decode
 pub mod Match
 pub mod Tour
 pub mod Merge
-pub mod Number
+mod Number
 pub mod Span
 pub mod Euler
 pub mod Maps

@@ -1,7 +1,7 @@
-pub mod Touring
-pub mod Diagrams
+mod Touring
+mod Diagrams
 pub mod Vertices
 pub mod Planar
-pub mod Entered
+mod Entered
 pub mod SameVertex
-pub mod Examples
+mod Examples

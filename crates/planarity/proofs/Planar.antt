@@ -12,11 +12,10 @@ use lib.ListN.{length}
 use Rattle.model.specs.Numbers.{cycles, isPermutation}
 use Rattle.model.specs.Map.{Plan, darts, opposite, next, faceNext, edges, vertices, faces, planar, dartCountFits}
 use Rattle.model.proofs.Fitness.{count-even, count-positive}
-use Rattle.model.proofs.Opposite.{opposite-ne}
 use Rattle.model.proofs.Characteristic.{planar-two, two-planar}
 use Rattle.orbits.specs.Tour.{face}
 use Rattle.orbits.proofs.Euler.{planar-nested, nested-planar}
-use Rattle.orbits.proofs.Maps.{opposite-inv, next-perm}
+use Rattle.orbits.proofs.Maps.{opposite-inv, opposite-free, next-perm}
 use Rattle.words.specs.Toured.{dartAt, posOf, isChord, Toured, Brackets, Bracketed}
 use Rattle.planarity.proofs.Touring.{treeDart, tour}
 use Rattle.planarity.proofs.Diagrams.{nested-chords, chords-nested}
@@ -48,12 +47,12 @@ module _ (p : Plan) (t : Toured p) (fits : dartCountFits (darts p) ≡ true) (pe
 
   pub planar-chords : planar (p .rotation) ≡ true → Brackets isChord p
   planar-chords e = nested-chords p t fits (
-      planar-nested (darts p) (next (p .rotation)) opposite (next-perm (p .rotation) perm) (opposite-inv (darts p) even) (λ d h. opposite-ne d)
+      planar-nested (darts p) (next (p .rotation)) opposite (next-perm (p .rotation) perm) (opposite-inv (darts p) even) (opposite-free (darts p))
       (treeDart p) (posOf p) (dartAt p) (tour p t fits perm) (edges (p .rotation)) (edges-half (p .rotation) even) (planar-euler (p .rotation) e) .0)
 
   pub chords-planar : Brackets isChord p → planar (p .rotation) ≡ true
   chords-planar chords = euler-planar (p .rotation) (
-      nested-planar (darts p) (next (p .rotation)) opposite (next-perm (p .rotation) perm) (opposite-inv (darts p) even) (λ d h. opposite-ne d)
+      nested-planar (darts p) (next (p .rotation)) opposite (next-perm (p .rotation) perm) (opposite-inv (darts p) even) (opposite-free (darts p))
       (treeDart p) (posOf p) (dartAt p) (tour p t fits perm) (edges (p .rotation)) (edges-half (p .rotation) even)
       (count-positive (darts p) fits) (chords-nested p t fits chords) (tree-diagram-nested p t fits perm))
 

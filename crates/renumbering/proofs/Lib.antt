@@ -1,7 +1,7 @@
-pub mod Permutations
-pub mod Isomorphisms
+mod Permutations
+mod Isomorphisms
 pub mod Renumberings
 pub mod Walk
 pub mod Connected
-pub mod Carried
+mod Carried
 pub mod Standard

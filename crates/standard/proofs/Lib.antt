@@ -1,7 +1,7 @@
 pub mod Numbering
 pub mod Entries
 pub mod Linking
-pub mod Nesting
-pub mod BareLeaf
+mod Nesting
+mod BareLeaf
 pub mod DeadEnds
 pub mod Valid

@@ -1,11 +1,11 @@
-pub mod Bits
-pub mod Marks
-pub mod Spread
+mod Bits
+mod Marks
+mod Spread
 pub mod Reach
-pub mod Steps
-pub mod Follow
-pub mod Merged
-pub mod Round
-pub mod Walk
+mod Steps
+mod Follow
+mod Merged
+mod Round
+mod Walk
 pub mod Complete
 pub mod Toured

@@ -1,9 +1,9 @@
 -- Letters as brackets.
 --
 --   is-down, is-up, is-first, is-second   the letter of each bracket
---   flat-chord, flat-tree     a letter is a bracket of one sort only
+--   flat-chord                a letter of another edge is no bracket of a tree edge
 use mathlib.Core.Path.{_≡_, refl, sym}
-use mathlib.Core.Bool.{true, false, true≢false, false≢true}
+use mathlib.Core.Bool.{false, true≢false}
 use Rattle.model.specs.Traversal.{Letter, down, up, first, second}
 use Rattle.orbits.specs.Stack.{flat, open′, close}
 use Rattle.orbits.proofs.Decode.{flat≢open, close≢open, flat≢close}
@@ -39,9 +39,3 @@ flat-chord down e = absurd (true≢false e)
 flat-chord up e = absurd (true≢false e)
 flat-chord first e = refl
 flat-chord second e = refl
-
-pub flat-tree : (l : Letter) → isTree l ≡ true → chordKind l ≡ flat
-flat-tree down e = refl
-flat-tree up e = refl
-flat-tree first e = absurd (false≢true e)
-flat-tree second e = absurd (false≢true e)

@@ -1,10 +1,10 @@
 pub mod Letters
 pub mod Positions
 pub mod Plans
-pub mod Bracketing
+mod Bracketing
 pub mod OpenEdges
 pub mod Nesting
-pub mod WordDarts
+mod WordDarts
 pub mod Mates
 pub mod Numbered
 pub mod Darts
@@ -12,5 +12,5 @@ pub mod Lists
 pub mod Rotation
 pub mod Leaves
 pub mod Validity
-pub mod Counts
+mod Counts
 pub mod Found

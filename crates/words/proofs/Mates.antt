@@ -3,10 +3,10 @@
 --   τ, χ            position i's fellow in the brackets of the tree edges, and in those of the others; elsewhere i itself
 --   mate            position i's fellow
 --   τ-inv, χ-inv, mate-inv   they are involutions
---   τ-nested, χ-nested       what lies between a position and its fellow is matched there
+--   χ-nested        what lies between the two ends of an edge outside the tree is matched there
 --   fellows, whole  the fellow's letter, and that both are of one sort
 --   later, earlier  the fellow of an opening letter comes later, that of a closing one earlier
---   τ-tree, χ-tree, τ-chord, χ-chord   which of τ and χ moves a position
+--   τ-tree, τ-chord, χ-chord   which of τ and χ moves a position
 --   tree-turn, vertex-turn   the traversal stands after i where it stands at τ i
 --   vertex-end      it ends at the root
 --   stack-down      the position on top of the stack of tree edges
@@ -30,7 +30,7 @@ use Rattle.words.specs.Entered.{isDown}
 use Rattle.words.proofs.Letters.{tree-fellow}
 use Rattle.words.specs.Brackets.{treeKind, chordKind, treeWord, chordWord, treeStack}
 use Rattle.words.specs.Position.{entered, vertexTop, vertexNo, Balance, Ends}
-use Rattle.words.proofs.Bracketing.{is-down, is-up, is-first, is-second, flat-chord, flat-tree}
+use Rattle.words.proofs.Bracketing.{is-down, is-up, is-first, is-second, flat-chord}
 
 -- ---- the fellow of a position
 
@@ -50,9 +50,6 @@ module _ (ℓ : ℕ → Letter) (N : ℕ) (b : Balance ℓ N) where
   pub χ-inv : Involution N χ
   χ-inv = decoded-inv (chordWord ℓ) N (b .chords)
 
-  pub τ-nested : Nested τ N
-  τ-nested = decoded-nested (treeWord ℓ) N (b .trees)
-
   pub χ-nested : Nested χ N
   χ-nested = decoded-nested (chordWord ℓ) N (b .chords)
 
@@ -66,9 +63,6 @@ module _ (ℓ : ℕ → Letter) (N : ℕ) (b : Balance ℓ N) where
 
   pub τ-chord : (i : ℕ) → i < N → isTree (ℓ i) ≡ false → τ i ≡ i
   τ-chord i h e = match-flat (treeWord ℓ) N (b .trees) i h (flat-chord (ℓ i) e)
-
-  pub χ-tree : (i : ℕ) → i < N → isTree (ℓ i) ≡ true → χ i ≡ i
-  χ-tree i h e = match-flat (chordWord ℓ) N (b .chords) i h (flat-tree (ℓ i) e)
 
   pub fellows : (i : ℕ) → i < N → ℓ (mate i) ≡ fellow (ℓ i)
   unfolding mate

@@ -12,7 +12,7 @@
 -- and with an even number of darts:
 --   opposite-at        the opposite of the dart at a position is a dart
 --   mate-bound, mate-dart   the mate is a position; the opposite dart stands there
---   mate-back, mate-ne, mate-inv   mates are an involution without fixed points
+--   mate-back, mate-inv   mates are an involution
 --   mate-before        what does not open an edge ends it after its mate
 --   edge-mate, edge-inj   mates have one edge, and positions of one edge are equal or mates
 --   edge-bound         the edge of a position is below the number of edges
@@ -26,7 +26,7 @@ use lib.ListN.{length, getD, drop, length-map, drop-of-length-le, List·getD-map
 use lib.Seq.{drop-cons}
 use Rattle.model.specs.Map.{Plan, darts, edges, opposite, dartCountFits}
 use Rattle.model.specs.Traversal.{Letter, second, Visit, opens, onward, visits, word}
-use Rattle.model.proofs.Opposite.{opposite-opposite, opposite-ne, opposite-bound, opposite-edge, same-edge, edge-below}
+use Rattle.model.proofs.Opposite.{opposite-opposite, opposite-bound, opposite-edge, same-edge, edge-below}
 use Rattle.model.proofs.Fitness.{count-even}
 use Rattle.orbits.specs.Chord.{Involution}
 use Rattle.orbits.specs.Chord as chord
@@ -108,9 +108,6 @@ module _ (p : Plan) (t : Toured p) (fits : dartCountFits (darts p) ≡ true) whe
   unfolding mateOf
   mate-back i h =
       ap (λ (d : ℕ). posOf p (opposite d)) (mate-dart i h) ∙ ap (posOf p) (opposite-opposite (dartAt p i)) ∙ t .pos-dart i h
-
-  pub mate-ne : (i : ℕ) → i < darts p → mateOf p i ≡ i → ⊥
-  mate-ne i h e = opposite-ne (dartAt p i) (sym (mate-dart i h) ∙ ap (dartAt p) e)
 
   pub mate-inv : Involution (darts p) (mateOf p)
   mate-inv = record { bound = mate-bound; back = mate-back }
