@@ -1,7 +1,8 @@
 -- Laws of parts of a list. "Fits" is a + length xs ≤ length w.
 --
 --   length-region, getD-region          a region's length and entries
---   region-region, region-split         a region of a region; a region in two adjacent ones
+--   drop-region, region-region          what is left of a region; a region of a region
+--   region-split                        a region in two adjacent ones
 --   region-set, region-set-other        a store inside the region, and outside it
 --   region-front                        a store right before the entries from place t on of a part that has c of them and begins at a
 --   length-placed                       placing what fits keeps the length
@@ -15,15 +16,15 @@
 --   region-grow                         entries placed just behind a region make it longer
 --   sets-placed                         a run of stores places the entries
 --   front-placed                        placing at 0 is `front`
-use mathlib.Core.Path.{_≡_, sym, ap, _∙_, subst}
+use mathlib.Core.Path.{_≡_, sym, ap, _∙_}
 use mathlib.Core.List.{List, [], _∷_, _++_, append-assoc}
 use Prim.Native.Nat.{ℕ, zero, suc, _+_, _-_, _≤_, _<_}
-use native.Mathlib.Nat.{suc-add, add-suc, zero-add, add-zero, lt-of-not-le}
+use native.Mathlib.Nat.{suc-add, add-suc, zero-add, add-zero, sub-zero, lt-of-not-le}
 use native.Mathlib.Decide.{decLe}
 use native.Mathlib.Omega.{arith}
 use lib.ListN.{length, getD, set, take, drop, length-append, length-drop, length-set, List·getD-append, take-append-drop}
 use lib.Seq.{length-take-le, take-at, drop-at, take-take, take-add, drop-drop, drop-append-seam, getD-take, getD-drop}
-use lib.Seq.{set-append-left, set-append-seam, drop-cons, append-snoc, take-set-lt, take-set-le, drop-set-add, drop-set-lt, take-nil}
+use lib.Seq.{set-append-left, drop-cons, append-snoc, take-set-lt, take-set-le, drop-set-add, drop-set-lt, take-nil}
 use lib.Seq.{sets, sets-eq, take-suc-set, getD-set-same, lt-length-set}
 use Rattle.model.specs.Calls.{front}
 use Rattle.model.proofs.Stores.{set-append-right}
@@ -43,32 +44,37 @@ pub getD-region : (a n : ℕ) (w : List ℕ) (i : ℕ) → i < n → getD (regio
 unfolding region
 getD-region a n w i h = getD-take n (drop a w) i 0 h ∙ getD-drop a w i 0
 
-take-drop : (b n : ℕ) (w : List ℕ) → take n (drop b w) ≡ drop b (take (b + n) w)
-take-drop zero n w = ap (λ (k : ℕ). take k w) (sym (zero-add n))
-take-drop (suc b) n [] = take-nil n ∙ sym (ap (drop (suc b)) (take-nil (suc b + n)))
-take-drop (suc b) n (x ∷ xs) = take-drop b n xs ∙ ap (λ (k : ℕ). drop (suc b) (take k (x ∷ xs))) (sym (suc-add b n))
+drop-take : (b n : ℕ) (w : List ℕ) → drop b (take n w) ≡ take (n - b) (drop b w)
+drop-take zero n w = rw sub-zero
+drop-take (suc b) zero w = let z : 0 - suc b ≡ 0 = omega arith in rw z
+drop-take (suc b) (suc n) [] = sym (take-nil (suc n - suc b))
+drop-take (suc b) (suc n) (x ∷ xs) = let e : suc n - suc b ≡ n - b = omega arith in rw e (drop-take b n xs)
+
+pub drop-region : (a n j : ℕ) (w : List ℕ) → drop j (region a n w) ≡ region (a + j) (n - j) w
+unfolding region
+drop-region a n j w = drop-take j n (drop a w) ∙ ap (take (n - j)) (drop-drop j a w)
 
 pub region-region : (a n b k : ℕ) (w : List ℕ) → b + k ≤ n → region b k (region a n w) ≡ region (a + b) k w
 unfolding region
-region-region a n b k w h =
-    take-drop b k (take n (drop a w)) ∙ ap (drop b) (take-take (b + k) n (drop a w) h) ∙ sym (take-drop b k (drop a w)) ∙ ap (take k) (drop-drop b a w)
+region-region a n b k w h = ap (take k) (drop-region a n b w) ∙ take-take k (n - b) (drop (a + b) w) (omega arith)
+
+region-is : (a n : ℕ) (w : List ℕ) → region a n w ≡ drop a (take (a + n) w)
+unfolding region
+region-is a n w = let e : a + n - a ≡ n = omega arith in rw (drop-take a (a + n) w, e)
 
 pub region-split : (a n k : ℕ) (w : List ℕ) → region a (n + k) w ≡ region a n w ++ region (a + n) k w
 unfolding region
-region-split a n k w = take-add n k (drop a w) ∙ ap (λ (r : List ℕ). take n (drop a w) ++ take k r) (drop-drop n a w)
+region-split a n k w = rw (take-add n k (drop a w), drop-drop n a w)
 
 pub region-set : (a n : ℕ) (w : List ℕ) (i v : ℕ) → i < n → region a n (set w (a + i) v) ≡ set (region a n w) i v
 unfolding region
-region-set a n w i v h = ap (take n) (drop-set-add a w i v) ∙ take-set-lt n (drop a w) i v h
+region-set a n w i v h = rw (drop-set-add a w i v, take-set-lt n (drop a w) i v h)
 
 -- place i is not in the region: if it is not before it, it is behind it
 pub region-set-other : (a n : ℕ) (w : List ℕ) (i v : ℕ) → (a ≤ i → a + n ≤ i) → region a n (set w i v) ≡ region a n w
 unfolding region
-region-set-other a n w i v out = le-or a i behind (λ h. ap (take n) (drop-set-lt a w i v h))
-  where
-    behind : a ≤ i → take n (drop a (set w i v)) ≡ take n (drop a w)
-    behind h =
-        take-drop a n (set w i v) ∙ ap (drop a) (take-set-le (a + n) w i v (out h)) ∙ sym (take-drop a n w)
+region-set-other a n w i v out =
+    le-or a i (λ h. rw (region-is a n (set w i v), region-is a n w, take-set-le (a + n) w i v (out h))) (λ h. rw (drop-set-lt a w i v h))
 
 pub region-front : (a c t x : ℕ) (w : List ℕ) → 0 < t → t ≤ c → a + c ≤ length w
     → region (a + (t - 1)) (c - (t - 1)) (set w (a + (t - 1)) x) ≡ x ∷ region (a + t) (c - t) w
@@ -95,7 +101,7 @@ module _ (a : ℕ) (xs w : List ℕ) (fits : a + length xs ≤ length w) where
   drop-placed = drop-at (take a w) (xs ++ drop (a + length xs) w) a before-it
 
   drop-placed-end : drop (a + length xs) (placed a xs w) ≡ drop (a + length xs) w
-  drop-placed-end = sym (drop-drop (length xs) a (placed a xs w)) ∙ ap (drop (length xs)) drop-placed ∙ drop-append-seam xs (drop (a + length xs) w)
+  drop-placed-end = rw (← drop-drop (length xs) a (placed a xs w), drop-placed) (drop-append-seam xs (drop (a + length xs) w))
 
   pub length-placed : length (placed a xs w) ≡ length w
   unfolding placed
@@ -107,98 +113,70 @@ module _ (a : ℕ) (xs w : List ℕ) (fits : a + length xs ≤ length w) where
       omega arith
 
   pub getD-placed : (i : ℕ) → i < length xs → getD (placed a xs w) (a + i) 0 ≡ getD xs i 0
-  getD-placed i h =
-      sym (getD-drop a (placed a xs w) i 0) ∙ ap (λ (r : List ℕ). getD r i 0) drop-placed ∙ List·getD-append xs (drop (a + length xs) w) 0 i h
+  getD-placed i h = rw (← getD-drop a (placed a xs w) i 0, drop-placed) (List·getD-append xs (drop (a + length xs) w) 0 i h)
 
   pub region-placed : (n : ℕ) → n ≡ length xs → region a n (placed a xs w) ≡ xs
   unfolding region
-  region-placed n e = ap (take n) drop-placed ∙ take-at xs (drop (a + length xs) w) n (sym e)
+  region-placed n e = rw drop-placed (take-at xs (drop (a + length xs) w) n (sym e))
 
   -- the two parts are disjoint: if the region is not before the placed entries, it is behind them
   pub region-placed-other : (b n : ℕ) → (a < b + n → a + length xs ≤ b) → region b n (placed a xs w) ≡ region b n w
   unfolding region
   region-placed-other b n out = le-or (b + n) a before behind
     where
-      before : b + n ≤ a → take n (drop b (placed a xs w)) ≡ take n (drop b w)
-      before h =
-          take-drop b n (placed a xs w)
-          ∙ ap (drop b) (sym (take-take (b + n) a (placed a xs w) h) ∙ ap (take (b + n)) take-placed ∙ take-take (b + n) a w h)
-          ∙ sym (take-drop b n w)
+      before : b + n ≤ a → region b n (placed a xs w) ≡ region b n w
+      before h = rw (region-is b n (placed a xs w), region-is b n w, ← take-take (b + n) a (placed a xs w) h, take-placed, take-take (b + n) a w h)
 
       behind : a < b + n → take n (drop b (placed a xs w)) ≡ take n (drop b w)
       behind h =
           let o = out h in
           let k = b - (a + length xs) in
-          let e : a + length xs + k ≡ b = omega arith in
-          subst (λ (j : ℕ). take n (drop j (placed a xs w)) ≡ take n (drop j w)) e
-          (ap (take n) (sym (drop-drop k (a + length xs) (placed a xs w)) ∙ ap (drop k) drop-placed-end ∙ drop-drop k (a + length xs) w))
+          let e : b ≡ a + length xs + k = omega arith in
+          rw (e, ← drop-drop k (a + length xs) (placed a xs w), ← drop-drop k (a + length xs) w, drop-placed-end)
 
   pub placed-placed : (ys : List ℕ) → length ys ≡ length xs → placed a ys (placed a xs w) ≡ placed a ys w
   unfolding placed
-  placed-placed ys e =
-      ap (λ (r : List ℕ). r ++ (ys ++ drop (a + length ys) (placed a xs w))) take-placed
-      ∙ ap (λ (r : List ℕ). take a w ++ (ys ++ r))
-      (subst (λ (k : ℕ). drop (a + k) (placed a xs w) ≡ drop (a + k) w) (sym e) drop-placed-end)
-
-  -- a store at or behind place a
-  set-behind : (ys : List ℕ) (i v : ℕ) → set (take a w ++ ys) (a + i) v ≡ take a w ++ set ys i v
-  set-behind ys i v = subst (λ (k : ℕ). set (take a w ++ ys) (k + i) v ≡ take a w ++ set ys i v) before-it (set-append-right (take a w) ys i v)
+  placed-placed ys e = rw (e, take-placed, drop-placed-end)
 
   pub set-placed : (i v : ℕ) → i < length xs → set (placed a xs w) (a + i) v ≡ placed a (set xs i v) w
   unfolding placed
   set-placed i v h =
-      set-behind (xs ++ drop (a + length xs) w) i v
-      ∙ ap (λ (r : List ℕ). take a w ++ r) (set-append-left xs (drop (a + length xs) w) i v h)
-      ∙ ap (λ (k : ℕ). take a w ++ (set xs i v ++ drop (a + k) w)) (sym (length-set xs i v))
-
-  pub placed-snoc : (v : ℕ) → a + length xs < length w → set (placed a xs w) (a + length xs) v ≡ placed a (xs ++ (v ∷ [])) w
-  unfolding placed
-  placed-snoc v h =
-      let e = length-append xs (v ∷ []) in
-      let f : suc (a + length xs) ≡ a + length (xs ++ (v ∷ [])) = omega arith in
-      set-behind (xs ++ drop (a + length xs) w) (length xs) v
-      ∙ ap (λ (r : List ℕ). take a w ++ set (xs ++ r) (length xs) v) (drop-cons w (a + length xs) 0 h)
-      ∙ ap (λ (r : List ℕ). take a w ++ r)
-      (set-append-seam xs (getD w (a + length xs) 0) (drop (suc (a + length xs)) w) v ∙ sym (append-snoc xs v (drop (suc (a + length xs)) w)))
-      ∙ ap (λ (k : ℕ). take a w ++ (xs ++ (v ∷ []) ++ drop k w)) f
+      let rest = drop (a + length xs) w in
+      rw (length-set xs i v, ← set-append-left xs rest i v h) (rw before-it at (set-append-right (take a w) (xs ++ rest) i v))
 
 pub placed-region : (a n : ℕ) (w : List ℕ) → a + n ≤ length w → placed a (region a n w) w ≡ w
 unfolding placed region
-placed-region a n w h =
-    ap (λ (k : ℕ). take a w ++ (take n (drop a w) ++ drop (a + k) w)) (length-region a n w h)
-    ∙ ap (λ (r : List ℕ). take a w ++ (take n (drop a w) ++ r)) (sym (drop-drop n a w))
-    ∙ ap (λ (r : List ℕ). take a w ++ r) (take-append-drop n (drop a w))
-    ∙ take-append-drop a w
+placed-region a n w h = rw (length-region a n w h, ← drop-drop n a w, take-append-drop n (drop a w)) (take-append-drop a w)
 
 pub placed-none : (a : ℕ) (w : List ℕ) → placed a [] w ≡ w
 unfolding placed
-placed-none a w = ap (λ (k : ℕ). take a w ++ drop k w) (add-zero a) ∙ take-append-drop a w
+placed-none a w = rw add-zero (take-append-drop a w)
 
 -- ---- entries placed one after the other
 
 pub placed-cons : (a x : ℕ) (xs w : List ℕ) → a < length w → placed a (x ∷ xs) w ≡ placed (suc a) xs (set w a x)
 unfolding placed
 placed-cons a x xs w h =
-    let rest = xs ++ drop (suc a + length xs) w in
-    ap (λ (k : ℕ). take a w ++ (x ∷ (xs ++ drop k w))) (add-suc a (length xs) ∙ sym (suc-add a (length xs)))
-    ∙ sym (append-snoc (take a w) x rest)
-    ∙ ap (λ (r : List ℕ). r ++ rest) (sym (take-suc-set w a x h))
-    ∙ ap (λ (r : List ℕ). take (suc a) (set w a x) ++ (xs ++ r)) (sym (drop-set-lt (suc a + length xs) w a x (omega arith)))
+    rw (take-suc-set w a x h, append-snoc (take a w) x, drop-set-lt (suc a + length xs) w a x (omega arith), add-suc, suc-add)
 
 pub placed-next : (a : ℕ) (xs ys w : List ℕ) → a + length xs ≤ length w → placed (a + length xs) ys (placed a xs w) ≡ placed a (xs ++ ys) w
-placed-next a [] ys w h = ap (λ (r : List ℕ). placed (a + 0) ys r) (placed-none a w) ∙ ap (λ (k : ℕ). placed k ys w) (add-zero a)
+placed-next a [] ys w h = rw (placed-none, add-zero)
 placed-next a (x ∷ xs) ys w h =
     let e = length-set w a x in
-    ap (λ (r : List ℕ). placed (a + suc (length xs)) ys r) (placed-cons a x xs w (omega arith))
-    ∙ ap (λ (k : ℕ). placed k ys (placed (suc a) xs (set w a x))) (add-suc a (length xs) ∙ sym (suc-add a (length xs)))
-    ∙ placed-next (suc a) xs ys (set w a x) (omega arith)
-    ∙ sym (placed-cons a x (xs ++ ys) w (omega arith))
+    rw (placed-cons a x xs w (omega arith), placed-cons a x (xs ++ ys) w (omega arith), add-suc a (length xs), ← suc-add a (length xs))
+    (placed-next (suc a) xs ys (set w a x) (omega arith))
+
+pub placed-snoc : (a : ℕ) (xs w : List ℕ) (v : ℕ) → a + length xs < length w → set (placed a xs w) (a + length xs) v ≡ placed a (xs ++ (v ∷ [])) w
+placed-snoc a xs w v h =
+    let l = length-placed a xs w (omega arith) in
+    rw (← placed-next a xs (v ∷ []) w (omega arith), placed-cons (a + length xs) v [] (placed a xs w) (omega arith), placed-none)
 
 pub region-grow : (a n k : ℕ) (ys w : List ℕ) → length ys ≡ k → a + n + k ≤ length w → region a (n + k) (placed (a + n) ys w) ≡ region a n w ++ ys
-region-grow a n k ys w e h =
-    region-split a n k (placed (a + n) ys w)
-    ∙ ap (λ (r : List ℕ). r ++ region (a + n) k (placed (a + n) ys w)) (region-placed-other (a + n) ys w (omega arith) a n (λ l. absurd (omega arith)))
-    ∙ ap (λ (r : List ℕ). region a n w ++ r) (region-placed (a + n) ys w (omega arith) k (sym e))
+region-grow a n k ys w e h = rw (
+  region-split a n k (placed (a + n) ys w),
+  region-placed-other (a + n) ys w (omega arith) a n (λ l. absurd (omega arith)),
+  region-placed (a + n) ys w (omega arith) k (sym e),
+)
 
 pub sets-placed : (xs w : List ℕ) (a : ℕ) → a + length xs ≤ length w → sets w a xs ≡ placed a xs w
 unfolding placed
@@ -206,4 +184,4 @@ sets-placed xs w a h = sets-eq xs w a h ∙ append-assoc (take a w) xs (drop (a 
 
 pub front-placed : (xs w : List ℕ) → placed 0 xs w ≡ front xs w
 unfolding placed front
-front-placed xs w = ap (λ (k : ℕ). xs ++ drop k w) (zero-add (length xs))
+front-placed xs w = rw zero-add

@@ -1,4 +1,4 @@
-use mathlib.Core.Path.{_≡_, sym, ap, _∙_}
+use mathlib.Core.Path.{_≡_, sym, _∙_}
 use mathlib.Core.List.{List}
 use Prim.Native.Nat.{ℕ, _+_, _-_, _≤_, _<_}
 use native.Mathlib.Omega.{arith}
@@ -16,17 +16,14 @@ more a i x w₀ w h l e =
     let k = i - a in
     let r = length-replicate k x in
     let at : i ≡ a + length (replicate k x) = omega arith in
-    let next : k + 1 ≡ i + 1 - a = omega arith in
-    ap (λ (v : List ℕ). set v i x) e
-    ∙ ap (λ (j : ℕ). set (placed a (replicate k x) w₀) j x) at
-    ∙ placed-snoc a (replicate k x) w₀ (omega arith) x (omega arith)
-    ∙ ap (λ (v : List ℕ). placed a v w₀) (replicate-append-replicate k 1 x ∙ ap (λ (j : ℕ). replicate j x) next)
+    let next : i + 1 - a ≡ k + 1 = omega arith in
+    rw (e, next, ← replicate-append-replicate k 1 x, ← placed-snoc a (replicate k x) w₀ x (omega arith), ← at)
 
 none : (a x : ℕ) (w₀ : List ℕ) → w₀ ≡ placed a (replicate (a - a) x) w₀
 none a x w₀ = let e : a - a ≡ 0 = omega arith in rw e (sym (placed-none a w₀))
 
 all : (a i n x : ℕ) (w₀ w : List ℕ) → i ≡ a + n → w ≡ placed a (replicate (i - a) x) w₀ → w ≡ placed a (replicate n x) w₀
-all a i n x w₀ w h e = let k : i - a ≡ n = omega arith in e ∙ ap (λ (j : ℕ). placed a (replicate j x) w₀) k
+all a i n x w₀ w h e = let k : i - a ≡ n = omega arith in e ∙ rw k
 
 abbrev Inv-loop : tie.InvT-loop
 Inv-loop w₀ a n x e i₀ w i = (a ≤ i) × (i ≤ e) × (e ≡ a + n) × (w ≡ placed a (replicate (i - a) x) w₀) × (length w ≡ length w₀)
