@@ -22,13 +22,13 @@ use Rattle.model.specs.Map.{isKind}
 use Rattle.model.specs.Record.{pack, le16, bytesFor, labelBase, recordLength, payload, headed}
 use Rattle.model.proofs.Below.{below-append}
 use Rattle.work.specs.Map.{BITS, LABELS}
-use Rattle.work.specs.Area.{region, placed}
-use Rattle.work.proofs.Regions.{region-split, placed-none, placed-cons, placed-next, front-placed}
+use Rattle.work.specs.Area.{placed}
+use Rattle.work.proofs.Regions.{region-is, region-split, placed-none, placed-cons, placed-next, front-placed}
 use Rattle.packing.proofs.Packed.{pack-length}
 use Rattle.model.proofs.Heads.{recordLength-range}
 use Rattle.packing.proofs.Payload.{payload-length}
 use Rattle.work.specs.Letters.{workBits, workLabels}
-use Rattle.packer.specs.Packed.{Packed}
+use Rattle.packer.specs.Packed.{between, Packed}
 
 pub two-bytes : (at x : ℕ) (out : List ℕ) → at + 2 ≤ length out → set (set out at (x % 256)) (at + 1) (x / 256 % 256) ≡ placed at (le16 x) out
 unfolding le16
@@ -53,30 +53,30 @@ module _ (m : ℕ) (w : List ℕ) where
   abbrev n : ℕ
   n = 2 * m
 
-  pub bits-run : region (BITS * n) (BITS * n + n - BITS * n) w ≡ workBits n w
-  unfolding workBits
-  bits-run = let e : BITS * n + n - BITS * n ≡ n = omega arith in rw e
+  pub bits-run : between (BITS * n) (BITS * n + n) w ≡ workBits n w
+  unfolding between workBits
+  bits-run = sym (region-is (BITS * n) n w)
 
-  pub labels-run : region (LABELS * n) (LABELS * n + m - LABELS * n) w ≡ workLabels n w
-  unfolding workLabels
-  labels-run = let e : LABELS * n + m - LABELS * n ≡ n / 2 = omega arith in rw e
+  pub labels-run : between (LABELS * n) (LABELS * n + m) w ≡ workLabels n w
+  unfolding between workLabels
+  labels-run = let e : m ≡ n / 2 = omega arith in sym (rw (← e) (region-is (LABELS * n) m w))
 
-  pub one-run : region (BITS * n) (LABELS * n + m - BITS * n) w ≡ workBits n w ++ workLabels n w
-  unfolding workBits workLabels
+  pub one-run : between (BITS * n) (LABELS * n + m) w ≡ workBits n w ++ workLabels n w
+  unfolding between workBits workLabels
   one-run =
-      let e : LABELS * n + m - BITS * n ≡ n + n / 2 = omega arith in
+      let e : LABELS * n + m ≡ BITS * n + (n + n / 2) = omega arith in
       let f : LABELS * n ≡ BITS * n + n = omega arith in
-      rw (e, f) (region-split (BITS * n) n (n / 2) w)
+      rw (e, f, ← region-is (BITS * n) (n + n / 2) w) (region-split (BITS * n) n (n / 2) w)
 
   pub plain-placed : (at count : ℕ) (out out′ : List ℕ) → count ≡ bytesFor (3 * m) 8
-      → out′ ≡ placed at (pack 2 8 count (region (BITS * n) (LABELS * n + m - BITS * n) w)) out
+      → out′ ≡ placed at (pack 2 8 count (between (BITS * n) (LABELS * n + m) w)) out
       → out′ ≡ placed at (payload 1 m (workBits n w) (workLabels n w)) out
   unfolding payload
   plain-placed at count out out′ e p = p ∙ rw (e, one-run)
 
   pub starred-placed : (at bytes count : ℕ) (out mid out′ : List ℕ) → bytes ≡ bytesFor n 8 → count ≡ bytesFor m 5 → at + bytes + count ≤ length out
-      → mid ≡ placed at (pack 2 8 bytes (region (BITS * n) (BITS * n + n - BITS * n) w)) out
-      → out′ ≡ placed (at + bytes) (pack 3 5 count (region (LABELS * n) (LABELS * n + m - LABELS * n) w)) mid
+      → mid ≡ placed at (pack 2 8 bytes (between (BITS * n) (BITS * n + n) w)) out
+      → out′ ≡ placed (at + bytes) (pack 3 5 count (between (LABELS * n) (LABELS * n + m) w)) mid
       → out′ ≡ placed at (payload 2 m (workBits n w) (workLabels n w)) out
   unfolding payload
   starred-placed at bytes count out mid out′ e f h p q =

@@ -2,19 +2,19 @@
 ghost use mathlib.Core.Path.{_≡_};
 ghost use mathlib.Core.Bool.{true};
 ghost use mathlib.Core.List.{_++_};
-ghost use Prim.Native.Nat.{_+_, _-_, _*_, _^_, _≤_, _<_};
+ghost use Prim.Native.Nat.{_+_, _*_, _^_, _≤_, _<_};
 ghost use lib.ListN.{length, getD};
 ghost use Rattle.model.specs.Numbers.{allBelow};
 ghost use Rattle.model.specs.Map.{isKind};
 ghost use Rattle.model.specs.Record.{digits, pack, le16, payload, recordLength, labelBase, bytesFor};
-ghost use Rattle.work.specs.Area.{region, placed};
+ghost use Rattle.work.specs.Area.{placed};
 ghost use Rattle.work.specs.Letters.{workBits, workLabels};
-ghost use Rattle.packer.specs.Packed.{Packed};
+ghost use Rattle.packer.specs.Packed.{between, Packed};
 
 // Digit i of those from a to e, 0 past them.
 fn digit(w: &[u16], a: usize, e: usize, i: usize) -> u16
     requires { ⌜ (e ≤ length (now w)) × (a + i ≤ 2 ^ 20) ⌝ }
-    ensures { λ r. ⌜ r ≡ getD (region a (e - a) (now (w .entry))) i 0 ⌝ }
+    ensures { λ r. ⌜ r ≡ getD (between a e (now (w .entry))) i 0 ⌝ }
 {
     if a + i < e {
         return w[a + i];
@@ -25,8 +25,8 @@ fn digit(w: &[u16], a: usize, e: usize, i: usize) -> u16
 // The number whose digits in this base are the entries from a on, highest first, filled up with 0 from e on.
 fn digits(w: &[u16], a: usize, e: usize, base: u16, width: usize) -> u16
     requires { ⌜ (e ≤ length (now w)) × (a + width ≤ 2 ^ 20) × (1 ≤ base) × (base ^ width ≤ 256)
-        × (allBelow base (region a (e - a) (now w)) ≡ true) ⌝ }
-    ensures { λ r. ⌜ (r ≡ digits base width (region a (e - a) (now (w .entry)))) × (r < 256) ⌝ }
+        × (allBelow base (between a e (now w)) ≡ true) ⌝ }
+    ensures { λ r. ⌜ (r ≡ digits base width (between a e (now (w .entry)))) × (r < 256) ⌝ }
 {
     let mut x: u16 = 0;
     let mut i = 0;
@@ -49,8 +49,8 @@ fn put_groups(
     count: usize,
 )
     requires { ⌜ (e ≤ length (now w)) × (a + count * width ≤ 2 ^ 20) × (1 ≤ base) × (base ^ width ≤ 256)
-        × (allBelow base (region a (e - a) (now w)) ≡ true) × (at + count ≤ length (now out)) × (count ≤ 2 ^ 20) × (at ≤ 2 ^ 20) ⌝ }
-    ensures { λ _. ⌜ now (out .exit) ≡ placed at (pack base width count (region a (e - a) (now (w .entry)))) (now (out .entry)) ⌝ }
+        × (allBelow base (between a e (now w)) ≡ true) × (at + count ≤ length (now out)) × (count ≤ 2 ^ 20) × (at ≤ 2 ^ 20) ⌝ }
+    ensures { λ _. ⌜ now (out .exit) ≡ placed at (pack base width count (between a e (now (w .entry)))) (now (out .entry)) ⌝ }
 {
     let mut i = 0;
     while i < count {
@@ -91,7 +91,8 @@ fn put_head(out: &mut [u8], total: u16, kind: u16, m: u16)
 fn put_plain(w: &[u16], m: usize, out: &mut [u8], at: usize)
     requires { ⌜ (m ≤ 4096) × (32 * m ≤ length (now w)) × (at ≤ 2 ^ 16) × (at + bytesFor (3 * m) 8 ≤ length (now out))
         × (allBelow 2 (workBits (2 * m) (now w)) ≡ true) × (allBelow 2 (workLabels (2 * m) (now w)) ≡ true) ⌝ }
-    ensures { λ _. ⌜ now (out .exit) ≡ placed at (payload 1 m (workBits (2 * m) (now (w .entry))) (workLabels (2 * m) (now (w .entry)))) (now (out .entry)) ⌝ }
+    ensures { λ _. ⌜ now (out .exit) ≡ placed at (payload 1 m (workBits (2 * m) (now (w .entry))) (workLabels (2 * m) (now (w .entry))))
+        (now (out .entry)) ⌝ }
 {
     let n = 2 * m;
     let count = groups(3 * m, 8);
@@ -111,7 +112,8 @@ fn put_plain(w: &[u16], m: usize, out: &mut [u8], at: usize)
 fn put_starred(w: &[u16], m: usize, out: &mut [u8], at: usize)
     requires { ⌜ (m ≤ 4096) × (32 * m ≤ length (now w)) × (at ≤ 2 ^ 16) × (at + bytesFor (2 * m) 8 + bytesFor m 5 ≤ length (now out))
         × (allBelow 2 (workBits (2 * m) (now w)) ≡ true) × (allBelow 3 (workLabels (2 * m) (now w)) ≡ true) ⌝ }
-    ensures { λ _. ⌜ now (out .exit) ≡ placed at (payload 2 m (workBits (2 * m) (now (w .entry))) (workLabels (2 * m) (now (w .entry)))) (now (out .entry)) ⌝ }
+    ensures { λ _. ⌜ now (out .exit) ≡ placed at (payload 2 m (workBits (2 * m) (now (w .entry))) (workLabels (2 * m) (now (w .entry))))
+        (now (out .entry)) ⌝ }
 {
     let n = 2 * m;
     let bytes = groups(n, 8);

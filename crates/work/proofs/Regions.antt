@@ -2,7 +2,7 @@
 --
 --   length-region, getD-region          a region's length and entries
 --   drop-region, region-region          what is left of a region; a region of a region
---   region-split                        a region in two adjacent ones
+--   region-is, region-split             a region by its end; a region in two adjacent ones
 --   region-set, region-set-other        a store inside the region, and outside it
 --   region-front                        a store right before the entries from place t on of a part that has c of them and begins at a
 --   length-placed                       placing what fits keeps the length
@@ -58,7 +58,7 @@ pub region-region : (a n b k : ℕ) (w : List ℕ) → b + k ≤ n → region b 
 unfolding region
 region-region a n b k w h = ap (take k) (drop-region a n b w) ∙ take-take k (n - b) (drop (a + b) w) (omega arith)
 
-region-is : (a n : ℕ) (w : List ℕ) → region a n w ≡ drop a (take (a + n) w)
+pub region-is : (a n : ℕ) (w : List ℕ) → region a n w ≡ drop a (take (a + n) w)
 unfolding region
 region-is a n w = let e : a + n - a ≡ n = omega arith in rw (drop-take a (a + n) w, e)
 

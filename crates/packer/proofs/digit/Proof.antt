@@ -9,7 +9,7 @@ returns : tie.Need-returns
 returns c = sym (entry _ _ _ _ (c .before .if1 .taken))
 
 returns-2 : tie.Need-returns-2
-returns-2 c = sym (entry-past _ _ _ (c .before .pre .0) _ (omega arith))
+returns-2 c = sym (entry-past _ _ _ _ (c .before .pre .0) (omega arith))
 
 pub digit-spec : {M : Type 1} → statement M
 digit-spec =

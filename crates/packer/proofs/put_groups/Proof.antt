@@ -1,25 +1,26 @@
-use Prim.Native.Nat.{_+_, _-_, _*_, _≤_}
+use Prim.Native.Nat.{_-_, _≤_}
 use native.Mathlib.Omega.{arith}
 use mathlib.Core.Path.{_≡_, sym, _∙_}
-use lib.ListN.{length, drop, length-set}
-use Rattle.work.specs.Area.{region, placed}
-use Rattle.packer.proofs.Numerals.{group-fits, all-group, pack-start, pack-again, pack-end}
+use lib.ListN.{length, length-set}
+use Rattle.work.specs.Area.{placed}
+use Rattle.work.proofs.Regions.{placed-none}
+use Rattle.packer.specs.Packed.{between}
+use Rattle.packer.proofs.Numerals.{group-fits, all-group, packed-more}
 use Rattle.model.specs.Record.{pack as packed}
 use borrow.Author.Needs.{needs}
 use Rattle.packer.proofs.put_groups.Statement.{statement}
 use Rattle.packer.proofs.put_groups.Tie as tie
 
 abbrev Inv-loop : tie.InvT-loop
-Inv-loop w a e base width out₀ at count i₀ out i = (i ≤ count) × (length out ≡ length out₀)
-    × (placed (at + i) (packed base width (count - i) (drop (i * width) (region a (e - a) w))) out
-    ≡ placed at (packed base width count (region a (e - a) w)) out₀)
+Inv-loop w a e base width out₀ at count i₀ out i =
+    (i ≤ count) × (length out ≡ length out₀) × (out ≡ placed at (packed base width i (between a e w)) out₀)
 
 abbrev μ-loop : tie.MeasureT-loop
 μ-loop w a e base width out₀ at count i₀ out i = count - i
 
 loop-holds : tie.Need-loop-holds Inv-loop μ-loop
-loop-holds c =
-    (search needs, search needs, pack-start _ _ _ _ _ _)
+unfolding packed
+loop-holds c = (search needs, search needs, sym (placed-none _ _))
 
 mul-digits : tie.Need-mul-digits Inv-loop μ-loop
 mul-digits c =
@@ -33,7 +34,7 @@ digits-requires : tie.Need-digits-requires Inv-loop μ-loop
 digits-requires c κs =
     let g = group-fits (c .before .before .before .before .args .width) _ (c .before .loop .i) (c .loop-test .taken) in
     let pre = c .before .before .before .before .pre in
-    (search needs, omega arith, search needs, search needs, all-group _ _ _ _ _ (pre .0) (pre .4))
+    (search needs, omega arith, search needs, search needs, all-group _ _ _ _ _ (pre .4))
 
 slice-write-out : tie.Need-slice-write-out Inv-loop μ-loop
 slice-write-out c =
@@ -42,12 +43,10 @@ slice-write-out c =
 
 loop-again : tie.Need-loop-again Inv-loop μ-loop
 loop-again c =
-    let at = c .before .before .loop in
-    let st = c .before .before .before .before .before in (
+    let at = c .before .before .loop in (
       search needs,
       simp length-set (at .inv .1),
-      pack-again _ (st .args .width) _ _ (at .i) _ _ _ _ (at .out) (st .pre .0) (omega arith) (omega (arith, at .inv))
-          (c .digits .ensures .0) ∙ at .inv .2,
+      packed-more _ _ _ (at .i) _ _ _ _ _ _ (omega (arith, at .inv)) (c .digits .ensures .0) (at .inv .2),
     )
 
 same-length : tie.Need-same-length Inv-loop μ-loop
@@ -56,8 +55,8 @@ same-length c = c .before .loop .inv .1
 returns : tie.Need-returns Inv-loop μ-loop
 returns c =
     let at = c .before .loop in
-    let st = c .before .before .before .before in
-    sym (pack-end _ (st .args .width) _ _ (at .i) _ (at .out) (omega arith)) ∙ at .inv .2
+    let all : at .i ≡ c .before .before .before .before .args .count = omega arith in
+    rw all at (at .inv .2)
 
 pub put-groups-spec : {M : Type 1} → statement M
 put-groups-spec =
