@@ -33,19 +33,15 @@ use Rattle.packer.specs.Packed.{between, Packed}
 pub two-bytes : (at x : ℕ) (out : List ℕ) → at + 2 ≤ length out → set (set out at (x % 256)) (at + 1) (x / 256 % 256) ≡ placed at (le16 x) out
 unfolding le16
 two-bytes at x out h =
-    let a = x % 256 in
-    let b = x / 256 % 256 in
-    let l = length-set out at a in
-    sym (placed-cons at a (b ∷ []) out (omega arith) ∙ placed-cons (suc at) b [] (set out at a) (omega arith)
-    ∙ placed-none (suc (suc at)) (set (set out at a) (suc at) b) ∙ ap (λ (k : ℕ). set (set out at a) k b) (sym (add-one at)))
+    let l = length-set out at (x % 256) in
+    rw (placed-cons at (x % 256) _ out (omega arith), ← add-one at)
+    (sym (placed-cons (at + 1) (x / 256 % 256) [] (set out at (x % 256)) (omega arith) ∙ placed-none _ _))
 
 pub head-placed : (l k m : ℕ) (out out₁ out₂ out₃ : List ℕ) → 6 ≤ length out
     → out₁ ≡ placed 0 (le16 l) out → out₂ ≡ placed 2 (le16 k) out₁ → out₃ ≡ placed 4 (le16 m) out₂ → out₃ ≡ placed 0 (le16 l ++ (le16 k ++ le16 m)) out
 unfolding le16
 head-placed l k m out out₁ out₂ out₃ h p q r =
-    r ∙ ap (λ (s : List ℕ). placed 4 (le16 m) s) (q ∙ ap (λ (s : List ℕ). placed 2 (le16 k) s) p)
-    ∙ ap (λ (r : List ℕ). placed 4 (le16 m) r) (placed-next 0 (le16 l) (le16 k) out (omega arith))
-    ∙ placed-next 0 (le16 l ++ le16 k) (le16 m) out (omega arith)
+    rw (r, q, p, placed-next 0 (le16 l) (le16 k) out (omega arith)) (placed-next 0 (le16 l ++ le16 k) (le16 m) out (omega arith))
 
 -- ---- payloads
 
@@ -109,9 +105,6 @@ whole-record k j m total w out mid out′ e t o h l p q =
     let s = recordLength-range k m o h in
     record {
       answered = t;
-      filled =
-          q ∙ ap₂ (λ (i : ℕ) (r : List ℕ). placed 6 (payload i m (workBits (2 * m) w) (workLabels (2 * m) w)) r) (sym e) p
-          ∙ ap (λ (x : ℕ). placed 6 tail (placed 0 (le16 x ++ (le16 k ++ le16 m)) out)) (t ∙ sym long)
-          ∙ placed-next 0 (le16 (6 + length tail) ++ (le16 k ++ le16 m)) tail out (omega arith)
+      filled = rw (q, ← e, p, t ∙ sym long) (placed-next 0 (le16 (6 + length tail) ++ (le16 k ++ le16 m)) tail out (omega arith))
           ∙ front-placed (headed k m tail) out;
     }

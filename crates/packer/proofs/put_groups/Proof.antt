@@ -1,4 +1,4 @@
-use Prim.Native.Nat.{_-_, _≤_}
+use Prim.Native.Nat.{_+_, _-_, _*_, _≤_}
 use native.Mathlib.Omega.{arith}
 use mathlib.Core.Path.{_≡_, sym, _∙_}
 use lib.ListN.{length, length-set}
@@ -22,17 +22,19 @@ loop-holds : tie.Need-loop-holds Inv-loop μ-loop
 unfolding packed
 loop-holds c = (search needs, search needs, sym (placed-none _ _))
 
+fits : (c : tie.In-loop Inv-loop μ-loop) → let a = c .before .before .before .before .args in
+    c .before .loop .i * a .width + a .width ≤ a .count * a .width
+fits c = group-fits _ _ (c .before .loop .i) (c .loop-test .taken)
+
 mul-digits : tie.Need-mul-digits Inv-loop μ-loop
-mul-digits c =
-    let g = group-fits (c .before .before .before .before .args .width) _ (c .before .loop .i) (c .loop-test .taken) in omega arith
+mul-digits c = let g = fits c in omega arith
 
 add-digits : tie.Need-add-digits Inv-loop μ-loop
-add-digits c =
-    let g = group-fits (c .before .before .before .before .args .width) _ (c .before .loop .i) (c .loop-test .taken) in omega arith
+add-digits c = let g = fits c in omega arith
 
 digits-requires : tie.Need-digits-requires Inv-loop μ-loop
 digits-requires c κs =
-    let g = group-fits (c .before .before .before .before .args .width) _ (c .before .loop .i) (c .loop-test .taken) in
+    let g = fits c in
     let pre = c .before .before .before .before .pre in
     (search needs, omega arith, search needs, search needs, all-group _ _ _ _ _ (pre .4))
 
