@@ -1,3 +1,3 @@
-pub mod Refusing
-pub mod Laying
-pub mod Making
+mod Refusing
+mod Laying
+mod Making

@@ -1,7 +1,7 @@
 -- Writing's refusals that need no work area, and what the call leaves before the work area is cleared.
 --
 --   earlyRefusal         the first of 2, 3, 4, 6, 7, 8 that concerns the call; 0 if none does
---   Ready                room for the record, and the contour word of a plan that fits at 3n
+--   Ready                room for the record, and a valid word in the work area
 --   Recorded             the record of that word in the output
 --   Made                 the answer and the output of writing, and the work area's length
 use Prim.Native.Nat.{ℕ, _*_, _/_, _≤_}
@@ -26,7 +26,6 @@ pub record Made (k : ℕ) (p : Plan) (work out : List ℕ) (answer : Written) (w
   pub filled : out′ ≡ writtenOutput k p (length work) out
   pub kept : length work′ ≡ length work
 
--- room and a valid word for the record
 pub record Ready (n k : ℕ) (w out : List ℕ) : Type 0 where
   pub kind : isKind k ≡ true
   pub proper : valid k (lettersIn n w) ≡ true

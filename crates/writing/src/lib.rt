@@ -38,7 +38,7 @@ fn early(order: &[u16], root: u16, kind: u16, room: usize, space: usize) -> u16
     0
 }
 
-// The record of a plan that fits, whose word stands at 3n.
+// The record of a plan that fits, whose word is in the work area.
 fn laid_out(w: &mut [u16], n: usize, kind: u16, out: &mut [u8]) -> u16
     requires { ⌜ Ready n kind (now w) (now out) ⌝ }
     ensures { λ r. ⌜ Recorded n kind (now (w .entry)) (now (out .entry)) r (now (w .exit)) (now (out .exit)) ⌝ }
@@ -47,6 +47,7 @@ fn laid_out(w: &mut [u16], n: usize, kind: u16, out: &mut [u8]) -> u16
     packer::pack(w, kind, n / 2, out)
 }
 
+// The answer and the output, before the work area is cleared.
 fn made(order: &[u16], root: u16, kind: u16, w: &mut [u16], out: &mut [u8]) -> Written
     ensures { λ r. ⌜ Made kind (record { rotation = now (order .entry); root = root }) (now (w .entry)) (now (out .entry)) r (now (w .exit)) (now (out .exit)) ⌝ }
 {

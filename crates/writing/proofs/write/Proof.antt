@@ -8,8 +8,13 @@ use Rattle.writing.proofs.write.Tie as tie
 
 returns : tie.Need-returns
 unfolding zeros
-returns c = let m = c .before .before .before .before .before .before .before .before .made in
-    record { answered = m .ensures .answered; filled = m .ensures .filled; cleared = c .before .before .clear .ensures ∙ ap (λ (n : ℕ). replicate n 0) (m .kept .1 .1 .1 .0) }
+returns c =
+    let m = c .before .before .before .before .before .before .before .before .made in
+    record {
+      answered = m .ensures .answered;
+      filled = m .ensures .filled;
+      cleared = c .before .before .clear .ensures ∙ ap (λ (n : ℕ). replicate n 0) (m .ensures .kept);
+    }
 
 pub write-spec : {M : Type 1} → statement M
 write-spec =
