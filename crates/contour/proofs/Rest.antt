@@ -144,7 +144,8 @@ module _ {rot : List ℕ} {root : ℕ} {w w₂ : List ℕ} (s : Started rot root
 
   -- ---- one step
 
-  module _ {w₀ : List ℕ} {d i : ℕ} {u : List ℕ} (at : Walking rot root w₀ d i u) (more : i < n) {e : ℕ} {w′ : List ℕ} (v : Visited rot d i u e w′) where
+  module _ {w₀ : List ℕ} {d i : ℕ} {u : List ℕ} (at : Walking rot root w₀ d i u) (more : i < n)
+      {e : ℕ} {w′ : List ℕ} (v : Visited rot d i u e w′) where
     -- the letter that is noted comes off what is left
     moved : (xs : List ℕ) → left rot root d i u ≡ code (letterIn rot u d) ∷ xs → codesIn n (i + 1) w′ ++ xs ≡ map code (word p)
     moved xs q =

@@ -1,5 +1,5 @@
-// The contour walk in the work area, which has the names of the vertices. What it leaves for others is the word. It knows the walk, not what is read off
-// its letters.
+// The contour walk in the work area, by the names of the vertices that are there. What it leaves for others is the word. It knows the walk, not what
+// is read off its letters.
 ghost use mathlib.Core.Path.{_≡_};
 ghost use mathlib.Core.Bool.{true};
 ghost use Prim.Native.Nat.{_*_, _≤_, _<_};

@@ -14,7 +14,8 @@ use Rattle.orbits.specs.Permutation.{Perm}
 use Rattle.orbits.proofs.Maps.{next-perm, face-perm}
 use Rattle.cycles.specs.Cycles.{stepOf}
 
-pub step-perm : (rot : List ℕ) → isPermutation rot ≡ true → dartCountFits (length rot) ≡ true → (across : Bool) → Perm (length rot) (stepOf rot across)
+pub step-perm : (rot : List ℕ) → isPermutation rot ≡ true → dartCountFits (length rot) ≡ true → (across : Bool)
+    → Perm (length rot) (stepOf rot across)
 step-perm rot entries size false = next-perm rot entries
 step-perm rot entries size true = face-perm rot entries (count-parts (length rot) size .1)
 

@@ -35,7 +35,8 @@ pub fn step(order: &[u16], across: bool, d: usize) -> usize
 // Names every dart of the cycle of start, which is its least.
 fn follow(order: &[u16], across: bool, w: &mut [u16], a: usize, start: usize)
     requires { ⌜ HalfNamed (now order) across a start (now w) ⌝ }
-    ensures { λ _. ⌜ now (w .exit) ≡ placed a (namesBelow (stepOf (now (order .entry)) across) (length (now (order .entry))) (start + 1)) (now (w .entry)) ⌝ }
+    ensures { λ _. ⌜ now (w .exit)
+        ≡ placed a (namesBelow (stepOf (now (order .entry)) across) (length (now (order .entry))) (start + 1)) (now (w .entry)) ⌝ }
 {
     let name = start as u16;
     let mut x = start;

@@ -4,8 +4,9 @@
 --   vertices-named, surveyed   what naming the vertices and walking leave
 --   Looked               a plan that is judged, and its work area after it is surveyed
 --   parted               not every dart is met
+--   Counted              the same, every dart being met and the faces counted
 --   few-counts           the counts are small
---   curved, flat         every dart is met: the characteristic is not 2, or it is
+--   curved, flat         the characteristic is not 2, or it is
 use Prim.Native.Nat.{ℕ, _+_, _*_, _/_, _≤_, _<_}
 use native.Mathlib.Nat.{suc-ne-zero}
 use native.Mathlib.Omega.{arith}
@@ -18,7 +19,8 @@ use lib.ListN.{length}
 use lib.Dec.{eqb}
 use borrow.Author.Tests.{eq-eqb, ne-eqb}
 use Rattle.model.specs.Numbers.{least, isLeast, cycles, firstRefusal, isPermutation}
-use Rattle.model.specs.Map.{Plan, darts, edges, next, faceNext, vertexOf, vertices, faces, connected, planar, characteristic, is, hasLoop, hasDeadEnd, degreeRefused, dartCountFits}
+use Rattle.model.specs.Map.{Plan, darts, edges, next, faceNext, vertexOf, vertices, faces, connected, planar, characteristic, is}
+use Rattle.model.specs.Map.{hasLoop, hasDeadEnd, degreeRefused, dartCountFits}
 use Rattle.model.specs.Traversal.{code, word}
 use Rattle.model.specs.Calls.{lateRefusals}
 use Rattle.model.proofs.Booleans.{not-intro}
@@ -61,7 +63,8 @@ module _ (k : ℕ) (p : Plan) where
 
 -- ---- the names and the walk
 
-pub vertices-named : (rot w : List ℕ) (v : ℕ) (w′ : List ℕ) → 0 + length rot ≤ length w → Named (next rot) (length rot) 0 w v w′ → VerticesNamed rot w′
+pub vertices-named : (rot w : List ℕ) (v : ℕ) (w′ : List ℕ) → 0 + length rot ≤ length w → Named (next rot) (length rot) 0 w v w′
+    → VerticesNamed rot w′
 unfolding vertexOf
 vertices-named rot w v w′ fits s =
     let names = tabulate (least (next rot) (length rot)) 0 (length rot) in
@@ -105,52 +108,60 @@ module _ {p : Plan} {w : List ℕ} {s : Survey} {w₁ : List ℕ} (a : Looked p 
         kept = a .survey .kept;
       }
 
-  module _ (all : s .met ≡ darts p) {f : ℕ} {w₂ : List ℕ} (l : Named (faceNext (p .rotation)) (darts p) (FACES * darts p) w₁ f w₂) where
-    joined : connected (p .rotation) ≡ true
-    joined = long-connected p (a .fits) (a .low) (a .entries) (sym (a .survey .all-met) ∙ all)
+pub record Counted (p : Plan) (w : List ℕ) (s : Survey) (w₁ : List ℕ) (f : ℕ) (w₂ : List ℕ) : Type 0 where
+  pub looked : Looked p w s w₁
+  pub all : s .met ≡ darts p
+  pub named : Named (faceNext (p .rotation)) (darts p) (FACES * darts p) w₁ f w₂
 
-    fourth : FACES * darts p + darts p ≤ length w₁
-    fourth = omega (arith, a .survey .kept, a .room)
+module _ {p : Plan} {w : List ℕ} {s : Survey} {w₁ : List ℕ} {f : ℕ} {w₂ : List ℕ} (b : Counted p w s w₁ f w₂) where
+  abbrev a : Looked p w s w₁
+  a = b .looked
 
-    letters-kept : region (LETTERS * darts p) (darts p) w₂ ≡ map code (word p)
-    letters-kept =
-        named-beside (faceNext (p .rotation)) (darts p) (FACES * darts p) w₁ f w₂ fourth l (LETTERS * darts p) (darts p) (λ h. omega arith)
-        ∙ subst (λ (n : ℕ). region (LETTERS * darts p) n w₁ ≡ map code (word p)) all (a .survey .letters)
+  joined : connected (p .rotation) ≡ true
+  joined = long-connected p (a .fits) (a .low) (a .entries) (sym (a .survey .all-met) ∙ b .all)
 
-    length-kept : length w₂ ≡ length w
-    length-kept = named-length (faceNext (p .rotation)) (darts p) (FACES * darts p) w₁ f w₂ fourth l ∙ a .survey .kept
+  fourth : FACES * darts p + darts p ≤ length w₁
+  fourth = omega (arith, a .survey .kept, a .room)
 
-    pub few-counts : (s .vertices ≤ 8192) × (darts p / 2 ≤ 8192) × (f ≤ 8192)
-    unfolding vertices
-    few-counts =
-        let n = count-parts (darts p) (a .fits) .2 in
-        let v = few (next (p .rotation)) (darts p) n in
-        let g = few (faceNext (p .rotation)) (darts p) n in
-        (omega (arith, a .survey .counted), omega arith, omega (arith, l .counted))
+  letters-kept : region (LETTERS * darts p) (darts p) w₂ ≡ map code (word p)
+  letters-kept =
+      named-beside (faceNext (p .rotation)) (darts p) (FACES * darts p) w₁ f w₂ fourth (b .named) (LETTERS * darts p) (darts p) (λ h. omega arith)
+      ∙ subst (λ (n : ℕ). region (LETTERS * darts p) n w₁ ≡ map code (word p)) (b .all) (a .survey .letters)
 
-    module _ {x : ℤ} (e : x ≡ (pos (s .vertices) -ℤ pos (darts p / 2)) +ℤ pos f) where
-      euler : x ≡ characteristic (p .rotation)
-      unfolding characteristic vertices faces edges
-      euler = rw (sym (a .survey .counted), sym (l .counted)) e
+  length-kept : length w₂ ≡ length w
+  length-kept = named-length (faceNext (p .rotation)) (darts p) (FACES * darts p) w₁ f w₂ fourth (b .named) ∙ a .survey .kept
 
-      pub curved : {k : ℕ} → is x 2 ≡ false → Judged k p w (NotPlanar x) w₂
-      unfolding verdictOf lateRefusal lateRefusals firstRefusal planar
-      curved {k} u = let u′ = rw euler at u in record { answered = rw (joined, u′, euler); letters = λ z. letters-kept; kept = length-kept }
+  pub few-counts : (s .vertices ≤ 8192) × (darts p / 2 ≤ 8192) × (f ≤ 8192)
+  unfolding vertices
+  few-counts =
+      let n = count-parts (darts p) (a .fits) .2 in
+      let v = few (next (p .rotation)) (darts p) n in
+      let g = few (faceNext (p .rotation)) (darts p) n in
+      (omega (arith, a .survey .counted), omega arith, omega (arith, b .named .counted))
 
-      pub flat : {k : ℕ} → is x 2 ≡ true → {v : Verdict} → v ≡ localOf k p → Judged k p w v w₂
-      unfolding verdictOf lateRefusal lateRefusals firstRefusal planar localOf
-      flat {k} u {v} q =
-          let u′ = rw euler at u in
-          record {
-            answered = q ∙ rw (joined, u′) (either (hasLoop (p .rotation)) (degreeRefused k p));
-            letters = λ z. letters-kept;
-            kept = length-kept;
-          }
-        where
-          told : ℕ → Verdict
-          told r = cond (eqb r 0) Fits (cond (eqb r 10) (NotPlanar (characteristic (p .rotation))) (Refused r))
+  module _ {x : ℤ} (e : x ≡ (pos (s .vertices) -ℤ pos (darts p / 2)) +ℤ pos f) where
+    euler : x ≡ characteristic (p .rotation)
+    unfolding characteristic vertices faces edges
+    euler = rw (sym (a .survey .counted), sym (b .named .counted)) e
 
-          either : (loop end : Bool) → cond loop (Refused 11) (cond end (Refused 12) Fits) ≡ told (cond loop 11 (cond end 12 0))
-          either true end = refl
-          either false true = refl
-          either false false = refl
+    pub curved : {k : ℕ} → is x 2 ≡ false → Judged k p w (NotPlanar x) w₂
+    unfolding verdictOf lateRefusal lateRefusals firstRefusal planar
+    curved {k} u = let u′ = rw euler at u in record { answered = rw (joined, u′, euler); letters = λ z. letters-kept; kept = length-kept }
+
+    pub flat : {k : ℕ} → is x 2 ≡ true → {v : Verdict} → v ≡ localOf k p → Judged k p w v w₂
+    unfolding verdictOf lateRefusal lateRefusals firstRefusal planar localOf
+    flat {k} u {v} q =
+        let u′ = rw euler at u in
+        record {
+          answered = q ∙ rw (joined, u′) (either (hasLoop (p .rotation)) (degreeRefused k p));
+          letters = λ z. letters-kept;
+          kept = length-kept;
+        }
+      where
+        told : ℕ → Verdict
+        told r = cond (eqb r 0) Fits (cond (eqb r 10) (NotPlanar (characteristic (p .rotation))) (Refused r))
+
+        either : (loop end : Bool) → cond loop (Refused 11) (cond end (Refused 12) Fits) ≡ told (cond loop 11 (cond end 12 0))
+        either true end = refl
+        either false true = refl
+        either false false = refl

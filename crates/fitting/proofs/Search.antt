@@ -80,8 +80,10 @@ module _ (p : Plan) (d : ℕ) where
   pub dead-end-here : isPermutation (p .rotation) ≡ true → p .root < darts p → d < darts p → getD (p .rotation) d 0 ≡ d → not (eqb d (p .root)) ≡ true
       → true ≡ hasDeadEnd p
   unfolding hasDeadEnd degreeOne next
-  dead-end-here entries low h own other = sym (some-in (deadEndAt p) (darts p) d h (both (eq-eqb _ d own)
-      (ap not (ne-eqb _ _ (λ same. eqb-false d (p .root) (not-left _ other) (vertex-alone (p .rotation) (next-perm (p .rotation) entries) d (p .root) low own same))))))
+  dead-end-here entries low h own other =
+      let alone = vertex-alone (p .rotation) (next-perm (p .rotation) entries) d (p .root) low own in
+      let apart : vertexOf (p .rotation) d ≢ vertexOf (p .rotation) (p .root) = λ same. eqb-false d (p .root) (not-left _ other) (alone same) in
+      sym (some-in (deadEndAt p) (darts p) d h (both (eq-eqb _ d own) (ap not (ne-eqb _ _ apart))))
 
   pub root-alone : getD (p .rotation) d 0 ≡ d → not (eqb d (p .root)) ≡ false → deadEndAt p d ≡ false
   unfolding degreeOne next

@@ -63,7 +63,8 @@ fn euler(v: usize, e: usize, f: usize) -> i32
 
 // The vertices are named, loops are looked for by their names, and the plan is walked.
 fn surveyed(order: &[u16], root: usize, w: &mut [u16]) -> Survey
-    requires { ⌜ (dartCountFits (length (now order)) ≡ true) × (isPermutation (now order) ≡ true) × (root < length (now order)) × (16 * length (now order) ≤ length (now w)) ⌝ }
+    requires { ⌜ (dartCountFits (length (now order)) ≡ true) × (isPermutation (now order) ≡ true) × (root < length (now order))
+        × (16 * length (now order) ≤ length (now w)) ⌝ }
     ensures { λ r. ⌜ Surveyed (record { rotation = now (order .entry); root = root }) (now (w .entry)) r (now (w .exit)) ⌝ }
 {
     let vertices = cycles::name(order, false, w, 0);
@@ -94,7 +95,8 @@ fn local(order: &[u16], root: usize, kind: u16, looped: bool) -> Verdict
 
 // Refusals 9 to 12; the word of a plan that fits stands at LETTERS.
 pub fn judge(order: &[u16], root: usize, kind: u16, w: &mut [u16]) -> Verdict
-    requires { ⌜ (dartCountFits (length (now order)) ≡ true) × (isPermutation (now order) ≡ true) × (root < length (now order)) × (16 * length (now order) ≤ length (now w)) ⌝ }
+    requires { ⌜ (dartCountFits (length (now order)) ≡ true) × (isPermutation (now order) ≡ true) × (root < length (now order))
+        × (16 * length (now order) ≤ length (now w)) ⌝ }
     ensures { λ r. ⌜ Judged kind (record { rotation = now (order .entry); root = root }) (now (w .entry)) r (now (w .exit)) ⌝ }
 {
     let n = order.len();

@@ -3,30 +3,23 @@
 --   run n xs marks       every number of xs is below n and finds its mark not set
 --   decides              from no marks, that is `isPermutation`
 --   next, stop-big, stop-seen, end   one turn of the loop
-use mathlib.Core.Path.{_≡_, refl, sym, _∙_, subst}
-use mathlib.Core.Logic.{_⊎_, inl, inr, _≢_, ⊎-elim}
+use mathlib.Core.Path.{_≡_, refl, sym, ap, _∙_}
+use mathlib.Core.Logic.{_≢_}
 use mathlib.Core.Bool.{Bool, true, false, not, _&&_, false≢true, true≢false}
 use mathlib.Core.List.{List, [], _∷_}
 use Prim.Native.Nat.{ℕ, suc, _+_, _≤_, _<_}
-use native.Mathlib.Nat.{suc-ne-zero, lt-of-lt-of-le}
+use native.Mathlib.Nat.{suc-ne-zero}
 use native.Mathlib.Decide.{ℕ-discrete}
 use native.Mathlib.Omega.{arith}
 use native.Mathlib.Numerals.{add-one}
 use lib.Dec.{eqb, ltb}
 use lib.ListN.{length, getD, set, drop, replicate, length-set, getD-replicate, length-replicate}
 use lib.Seq.{getD-set-same, getD-set-other, drop-cons, drop-length}
-use borrow.Author.Tests.{ltb-true, lt-ltb, le-ltb, eqb-true, eq-eqb, ne-eqb, not-true}
+use borrow.Author.Tests.{ltb-true, lt-ltb, le-ltb, eqb-true, eq-eqb, ne-eqb}
 use Rattle.model.specs.Numbers.{elem, distinct, allBelow, isPermutation}
-use Rattle.model.proofs.Booleans.{and-left, and-right, both, bool-ext}
+use Rattle.model.proofs.Booleans.{and-left, and-right, both, not-left, not-intro, bool-ext}
 use Rattle.model.proofs.Fitness.{below-all}
 use Rattle.model.proofs.Permutations.{elem-at, at-elem}
-
-same-or-not : (a b : ℕ) → (a ≡ b) ⊎ (a ≢ b)
-same-or-not a b = go (ℕ-discrete a b)
-  where
-    go : Dec (a ≡ b) → (a ≡ b) ⊎ (a ≢ b)
-    go (yes p) = inl p
-    go (no n) = inr n
 
 -- ---- the loop as a function of lists
 
@@ -51,13 +44,6 @@ elem-cases : (y x : ℕ) (xs : List ℕ) → elem y (x ∷ xs) ≡ true → y �
 unfolding elem
 elem-cases y x xs e h = simp (ne-eqb y x h) at e
 
-not-in : (x : ℕ) (xs : List ℕ) → (elem x xs ≡ true → ⊥) → not (elem x xs) ≡ true
-not-in x xs h = go (elem x xs) h
-  where
-    go : (b : Bool) → (b ≡ true → ⊥) → not b ≡ true
-    go true g = absurd (g refl)
-    go false g = refl
-
 sound : (n : ℕ) (xs w : List ℕ) → n ≤ length w → run n xs w ≡ true → Good n xs w
 unfolding run distinct allBelow elem
 sound n [] w h e = record { below = refl; differ = refl; fresh = λ y i. absurd (false≢true i) }
@@ -68,8 +54,8 @@ sound n (x ∷ xs) w h e =
     let g = sound n xs (set w x 1) (simp length-set (omega arith)) (and-right (eqb (getD w x 0) 0) _ e₁) in
     record {
       below = both (lt-ltb x n lt) (g .below);
-      differ = both (not-in x xs (λ i. suc-ne-zero _ (sym (getD-set-same w x 1 0 (omega arith)) ∙ g .fresh x i))) (g .differ);
-      fresh = λ y i. ⊎-elim (λ s. rw s z) (λ d. sym (getD-set-other w x y 1 0 d) ∙ g .fresh y (elem-cases y x xs i d)) (same-or-not y x);
+      differ = both (ap not (not-intro (elem x xs) (λ i. suc-ne-zero _ (sym (getD-set-same w x 1 0 (omega arith)) ∙ g .fresh x i)))) (g .differ);
+      fresh = λ y i. elim (ℕ-discrete y x) [ yes s ↦ rw s z | no d ↦ sym (getD-set-other w x y 1 0 d) ∙ g .fresh y (elem-cases y x xs i d) ];
     }
 
 complete : (n : ℕ) (xs w : List ℕ) → Good n xs w → run n xs w ≡ true
@@ -81,7 +67,9 @@ complete n (x ∷ xs) w g =
     (complete n xs (set w x 1) (record {
       below = and-right (ltb x n) _ (g .below);
       differ = and-right (not (elem x xs)) _ (g .differ);
-      fresh = λ y i. getD-set-other w x y 1 0 (λ s. true≢false (sym (rw s at i) ∙ not-true (elem x xs) (and-left (not (elem x xs)) (distinct xs) (g .differ)))) ∙ g .fresh y (elem-tail y x xs i);
+      fresh = λ y i.
+          let new = not-left (elem x xs) (and-left (not (elem x xs)) (distinct xs) (g .differ)) in
+          getD-set-other w x y 1 0 (λ s. true≢false (sym (rw s at i) ∙ new)) ∙ g .fresh y (elem-tail y x xs i);
     })))
 
 pub decides : (p : List ℕ) (m : ℕ) → length p ≤ m → run (length p) p (replicate m 0) ≡ isPermutation p
@@ -94,10 +82,12 @@ decides p m h =
       differ = and-right (allBelow (length p) p) _ e;
       fresh = λ y i.
           let r = elem-at y p i in
-          getD-replicate m y 0 0 (lt-of-lt-of-le (subst (λ z. z < length p) (r .2) (below-all (length p) p (and-left _ (distinct p) e) (r .0) (r .1))) h);
+          let low = below-all (length p) p (and-left _ (distinct p) e) (r .0) (r .1) in
+          getD-replicate m y 0 0 (omega (arith, r .2));
     }))
 
-pub next : (n : ℕ) (p w : List ℕ) (i : ℕ) → i < length p → getD p i 0 < n → getD w (getD p i 0) 0 ≡ 0 → run n (drop i p) w ≡ run n (drop (i + 1) p) (set w (getD p i 0) 1)
+pub next : (n : ℕ) (p w : List ℕ) (i : ℕ) → i < length p → getD p i 0 < n → getD w (getD p i 0) 0 ≡ 0
+    → run n (drop i p) w ≡ run n (drop (i + 1) p) (set w (getD p i 0) 1)
 unfolding run
 next n p w i h lt z = rw (add-one, drop-cons p i 0) (simp (lt-ltb _ _ lt, eq-eqb _ _ z))
 

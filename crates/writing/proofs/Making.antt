@@ -44,7 +44,8 @@ isFits verdict.Fits = true
 isFits (verdict.Refused r) = false
 isFits (verdict.NotPlanar x) = false
 
-pub turned-away : {k : ℕ} {p : Plan} {w out : List ℕ} {r : ℕ} → r ≡ earlyRefusal k p (length w) (length out) → (r ≢ 0) → Made k p w out (written.Refused r) w out
+pub turned-away : {k : ℕ} {p : Plan} {w out : List ℕ} {r : ℕ} → r ≡ earlyRefusal k p (length w) (length out) → (r ≢ 0)
+    → Made k p w out (written.Refused r) w out
 unfolding writeAnswer writtenOutput
 turned-away {k} {p} {w} {out} {r} e ne =
     let late : writeRefusal k p (length w) (length out) ≡ r = refusal-split k p (length w) (length out) ∙ rw (sym e, ne-eqb r 0 ne) in

@@ -49,7 +49,8 @@ fn laid_out(w: &mut [u16], n: usize, kind: u16, out: &mut [u8]) -> u16
 
 // The answer and the output, before the work area is cleared.
 fn made(order: &[u16], root: u16, kind: u16, w: &mut [u16], out: &mut [u8]) -> Written
-    ensures { λ r. ⌜ Made kind (record { rotation = now (order .entry); root = root }) (now (w .entry)) (now (out .entry)) r (now (w .exit)) (now (out .exit)) ⌝ }
+    ensures { λ r. ⌜ Made kind (record { rotation = now (order .entry); root = root })
+        (now (w .entry)) (now (out .entry)) r (now (w .exit)) (now (out .exit)) ⌝ }
 {
     let r = early(order, root, kind, w.len(), out.len());
     if r != 0 {
@@ -65,7 +66,8 @@ fn made(order: &[u16], root: u16, kind: u16, w: &mut [u16], out: &mut [u8]) -> W
 
 // A plan is written as a record of this kind. Any content and any length of what is lent.
 pub fn write(order: &[u16], root: u16, kind: u16, work: &mut [u16], out: &mut [u8]) -> Written
-    ensures { λ r. ⌜ Wrote kind (record { rotation = now (order .entry); root = root }) (now (work .entry)) (now (out .entry)) r (now (work .exit)) (now (out .exit)) ⌝ }
+    ensures { λ r. ⌜ Wrote kind (record { rotation = now (order .entry); root = root })
+        (now (work .entry)) (now (out .entry)) r (now (work .exit)) (now (out .exit)) ⌝ }
 {
     let r = made(order, root, kind, work, out);
     work::clear(work);

@@ -61,7 +61,8 @@ note-requires c κs = let f = at (c .before .before .before .before .before .bef
 
 returns : tie.Need-returns
 returns c =
-    goes-down (at (c .before .before .before .before .before .before .before .before .before .before)) (c .before .before .before .before .before .before .before .before .if1 .taken)
+    goes-down (at (c .before .before .before .before .before .before .before .before .before .before))
+    (c .before .before .before .before .before .before .before .before .if1 .taken)
     (c .before .before .before .before .before .if2 .taken) (c .before .before .before .note .ensures) (c .step .ensures)
 
 same-length : tie.Need-same-length
@@ -72,7 +73,8 @@ note-requires-2 c κs = let f = at (c .before .before .before .before .before .b
 
 returns-2 : tie.Need-returns-2
 returns-2 c =
-    is-noted (at (c .before .before .before .before .before .before .before .before .before .before)) (c .before .before .before .before .before .before .before .before .if1 .taken)
+    is-noted (at (c .before .before .before .before .before .before .before .before .before .before))
+    (c .before .before .before .before .before .before .before .before .if1 .taken)
     (c .before .before .before .before .before .if2 .left) (c .before .before .before .note2 .ensures) (c .step2 .ensures)
 
 note-requires-3 : tie.Need-note-requires-3
@@ -88,8 +90,9 @@ note-requires-4 c κs = let f = at (c .before .before .before .before) in (f .fe
 
 returns-4 : tie.Need-returns-4
 returns-4 c =
-    is-noted-again (at (c .before .before .before .before .before .before .before .before)) (c .before .before .before .before .before .before .if1 .left)
-    (c .before .before .before .before .before .if3 .left) (c .before .before .before .note4 .ensures) (c .step4 .ensures)
+    is-noted-again (at (c .before .before .before .before .before .before .before .before))
+    (c .before .before .before .before .before .before .if1 .left) (c .before .before .before .before .before .if3 .left)
+    (c .before .before .before .note4 .ensures) (c .step4 .ensures)
 
 pub visit-spec : {M : Type 1} → statement M
 visit-spec =

@@ -18,8 +18,8 @@ start : (c : tie.After-slice-known3 Inv-loop μ-loop) → let a = c .before .bef
 start c =
     let a = c .before .before .before .before .before .before .before .before .before .before in
     started (a .args .order .now) (a .args .root) (a .args .w .now) (c .before .before .before .before .before .before .fill .last .0)
-    (c .before .before .fill2 .last .0) (a .pre .0) (a .pre .1) (a .pre .2) (a .pre .3) (a .pre .4) (c .before .before .before .before .before .before .fill .ensures)
-    (c .before .before .fill2 .ensures)
+    (c .before .before .fill2 .last .0) (a .pre .0) (a .pre .1) (a .pre .2) (a .pre .3) (a .pre .4)
+    (c .before .before .before .before .before .before .fill .ensures) (c .before .before .fill2 .ensures)
 
 mul-v : tie.Need-mul-v Inv-loop μ-loop
 mul-v c = let s = start c in omega arith
@@ -59,8 +59,9 @@ add-i c =
 
 returns : tie.Need-returns Inv-loop μ-loop
 returns c =
-    walked-back (start (c .before .before .before .before .before .before .before .before)) (c .before .before .before .before .before .before .loop .inv)
-    (c .before .before .before .before .before .loop-test .taken) (c .before .before .before .visit .ensures) (simp length-set) (c .if1 .taken)
+    walked-back (start (c .before .before .before .before .before .before .before .before))
+    (c .before .before .before .before .before .before .loop .inv) (c .before .before .before .before .before .loop-test .taken)
+    (c .before .before .before .visit .ensures) (simp length-set) (c .if1 .taken)
 
 same-length : tie.Need-same-length Inv-loop μ-loop
 same-length c = returns c .kept
@@ -70,8 +71,9 @@ loop-less c = let t = c .before .before .before .before .before .loop-test .take
 
 loop-again : tie.Need-loop-again Inv-loop μ-loop
 loop-again c =
-    going-on (start (c .before .before .before .before .before .before .before .before)) (c .before .before .before .before .before .before .loop .inv)
-    (c .before .before .before .before .before .loop-test .taken) (c .before .before .before .visit .ensures) (c .if1 .left)
+    going-on (start (c .before .before .before .before .before .before .before .before))
+    (c .before .before .before .before .before .before .loop .inv) (c .before .before .before .before .before .loop-test .taken)
+    (c .before .before .before .visit .ensures) (c .if1 .left)
 
 returns-2 : tie.Need-returns-2 Inv-loop μ-loop
 returns-2 c =

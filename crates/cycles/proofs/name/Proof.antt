@@ -17,8 +17,9 @@ abbrev μ-loop : tie.MeasureT-loop
 μ-loop order across w₀ a n count₀ d₀ w count d = length order - d
 
 -- dart d has its turn
-turn : (c : tie.After-slice-known3 Inv-loop μ-loop) → let a = c .before .before .before .before .before .before .before .before .before in
-    let at = c .before .before .loop in Turn (a .args .order .now) (a .args .across) (a .args .a) (c .before .before .before .before .before .fill .last .0) (at .d) (at .count) (at .w)
+turn : (c : tie.After-slice-known3 Inv-loop μ-loop) → let a = c .before .before .before .before .before .before .before .before .before .args in
+    let at = c .before .before .loop in
+    Turn (a .order .now) (a .across) (a .a) (c .before .before .before .before .before .fill .last .0) (at .d) (at .count) (at .w)
 turn c =
     let a = c .before .before .before .before .before .before .before .before .before in
     let at = c .before .before .loop in record {

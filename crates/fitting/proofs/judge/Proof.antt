@@ -3,7 +3,7 @@ use mir.Syntax.{w32}
 use mir.Val.{SFits}
 use native.Mathlib.Omega.{arith}
 use Rattle.fitting.proofs.Signed.{bits-is, bits-not}
-use Rattle.fitting.proofs.Cases.{Looked, parted, few-counts, curved, flat}
+use Rattle.fitting.proofs.Cases.{Looked, parted, Counted, few-counts, curved, flat}
 use borrow.Author.Needs.{needs}
 use Rattle.fitting.proofs.judge.Statement.{statement}
 use Rattle.fitting.proofs.judge.Tie as tie
@@ -15,6 +15,13 @@ looked c =
     let a = c .before .before .before .before in
     record { fits = a .pre .0; entries = a .pre .1; low = a .pre .2; room = a .pre .3; survey = c .surveyed .ensures }
 
+-- every dart is met, and the faces are counted
+counted : (c : tie.After-name) → let a = c .before .before .before .before .before .before .before .before .before .args in
+    let s = c .before .before .before .before .before .surveyed in
+    Counted (record { rotation = a .order .now; root = a .root }) (a .w .now) (s .result) (s .last .1 .1 .0) (c .name .result)
+    (c .name .last .1 .1 .0)
+counted c = record { looked = looked (c .before .before .before .before .before); all = c .before .before .if1 .left; named = c .name .ensures }
+
 -- the characteristic is a small number
 small : (c : tie.After-euler) → SFits w32 (c .euler .result)
 small c = record { sfits = c .euler .ok }
@@ -23,21 +30,20 @@ returns : tie.Need-returns
 returns c = parted (looked (c .before .before .before)) (c .if1 .taken)
 
 euler-requires : tie.Need-euler-requires
-euler-requires c κs = few-counts (looked (c .before .before .before .before .before .before .before)) (c .before .before .before .before .if1 .left) (c .before .before .name .ensures)
+euler-requires c κs = few-counts (counted (c .before .before))
 
 returns-2 : tie.Need-returns-2
 returns-2 c =
     let x = c .before .euler in
-    rw (toZ-ofZ (small (c .before)))
-    (curved (looked (c .before .before .before .before .before .before .before .before .before)) (c .before .before .before .before .before .before .if1 .left) (c .before .before .before .before .name .ensures) (x .ensures) (bits-not (x .result) 2 (c .if2 .taken)))
+    rw (toZ-ofZ (small (c .before))) (curved (counted (c .before .before .before .before)) (x .ensures) (bits-not (x .result) 2 (c .if2 .taken)))
 
 local-requires : tie.Need-local-requires
-local-requires c κs = let l = looked (c .before .before .before .before .before .before .before .before .before) in (l .entries, l .low, l .survey .searched)
+local-requires c κs = let l = counted (c .before .before .before .before) .looked in (l .entries, l .low, l .survey .searched)
 
 returns-3 : tie.Need-returns-3
 returns-3 c =
     let x = c .before .before .euler in
-    flat (looked (c .before .before .before .before .before .before .before .before .before .before)) (c .before .before .before .before .before .before .before .if1 .left) (c .before .before .before .before .before .name .ensures) (x .ensures)
+    flat (counted (c .before .before .before .before .before)) (x .ensures)
     (bits-is (x .result) 2 (omega arith) (small (c .before .before)) (c .before .if2 .left)) (c .local .ensures)
 
 pub judge-spec : {M : Type 1} → statement M

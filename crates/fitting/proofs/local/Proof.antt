@@ -13,10 +13,12 @@ returns : tie.Need-returns
 returns c = looped _ _ (sym (c .before .before .pre .2) ∙ c .if1 .taken)
 
 returns-2 : tie.Need-returns-2
-returns-2 c = dead-end _ _ (none (c .before .before .before)) (c .before .before .if2 .taken) (sym (c .before .has-dead-end .ensures) ∙ c .if3 .taken)
+returns-2 c =
+    dead-end _ _ (none (c .before .before .before)) (c .before .before .if2 .taken) (sym (c .before .has-dead-end .ensures) ∙ c .if3 .taken)
 
 returns-3 : tie.Need-returns-3
-returns-3 c = no-dead-end _ _ (none (c .before .before .before)) (c .before .before .if2 .taken) (sym (c .before .has-dead-end .ensures) ∙ c .if3 .left)
+returns-3 c =
+    no-dead-end _ _ (none (c .before .before .before)) (c .before .before .if2 .taken) (sym (c .before .has-dead-end .ensures) ∙ c .if3 .left)
 
 returns-4 : tie.Need-returns-4
 returns-4 c = other-kind _ _ (none (c .before)) (c .if2 .left)

@@ -11,17 +11,19 @@ named c = let st = c .before .before .before .before in
     vertices-named (st .args .order .now) (st .args .w .now) (c .name .result) _ (omega (arith, st .pre .3)) (c .name .ensures)
 
 has-loop-requires : tie.Need-has-loop-requires
-has-loop-requires c κs = let st = c .before .before .before .before .before .before .before in (st .pre .0, search needs, named (c .before .before .before))
+has-loop-requires c κs = (c .before .before .before .before .before .before .before .pre .0, search needs, named (c .before .before .before))
 
 walk-requires : tie.Need-walk-requires
-walk-requires c κs = let st = c .before .before .before .before .before .before .before .before .before in (st .pre .0, st .pre .1, st .pre .2, search needs, named (c .before .before .before .before .before))
+walk-requires c κs =
+    let pre = c .before .before .before .before .before .before .before .before .before .pre in
+    (pre .0, pre .1, pre .2, search needs, named (c .before .before .before .before .before))
 
 returns : tie.Need-returns
 returns c =
-    let st = c .before .before .before .before .before .before .before .before .before .before .before .before in
     let v = c .before .before .before .before .before .before .before .before .name in
-    let t = c .before .before .walk in
-    surveyed _ (st .args .w .now) (v .last .1 .1 .0) _ (v .result) (t .result) _ (omega (arith, st .pre .3)) (v .ensures) (c .before .before .before .before .has-loop .ensures) (t .ensures)
+    let room = c .before .before .before .before .before .before .before .before .before .before .before .before .pre .3 in
+    surveyed _ _ (v .last .1 .1 .0) _ _ _ _ (omega (arith, room)) (v .ensures) (c .before .before .before .before .has-loop .ensures)
+    (c .before .before .walk .ensures)
 
 pub surveyed-spec : {M : Type 1} → statement M
 surveyed-spec =

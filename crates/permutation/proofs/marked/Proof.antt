@@ -10,7 +10,8 @@ use Rattle.permutation.proofs.marked.Statement.{statement}
 use Rattle.permutation.proofs.marked.Tie as tie
 
 abbrev Inv-loop : tie.InvT-loop
-Inv-loop order marks₀ i₀ marks i = (i ≤ length order) × (run (length order) (drop i order) (bits marks) ≡ isPermutation order) × (length marks ≡ length marks₀)
+Inv-loop order marks₀ i₀ marks i =
+    (i ≤ length order) × (run (length order) (drop i order) (bits marks) ≡ isPermutation order) × (length marks ≡ length marks₀)
 
 abbrev μ-loop : tie.MeasureT-loop
 μ-loop order marks₀ i₀ marks i = length order - i
@@ -33,13 +34,13 @@ put-bit-requires : tie.Need-put-bit-requires Inv-loop μ-loop
 put-bit-requires c κs = (omega arith, omega arith, sym (c .before .before .bit-at .ensures) ∙ c .before .if2 .left)
 
 loop-again : tie.Need-loop-again Inv-loop μ-loop
-loop-again c = let at = c .before .before .before .before .before .before .before .before .before .before .loop in (
-  omega arith,
-  ap (run _ _) (c .before .before .put-bit .ensures)
-      ∙ sym (next _ _ (bits (at .marks)) (at .i) (omega arith) (omega arith) (sym (c .before .before .before .before .before .bit-at .ensures) ∙ c .before .before .before .before .if2 .left))
-      ∙ at .inv .1,
-  c .before .before .put-bit .kept .0 ∙ at .inv .2,
-)
+loop-again c =
+    let at = c .before .before .before .before .before .before .before .before .before .before .loop in
+    let fresh = sym (c .before .before .before .before .before .bit-at .ensures) ∙ c .before .before .before .before .if2 .left in (
+      omega arith,
+      ap (run _ _) (c .before .before .put-bit .ensures) ∙ sym (next _ _ (bits (at .marks)) (at .i) (omega arith) (omega arith) fresh) ∙ at .inv .1,
+      c .before .before .put-bit .kept .0 ∙ at .inv .2,
+    )
 
 returns-3 : tie.Need-returns-3 Inv-loop μ-loop
 returns-3 c = let at = c .before .loop in sym (end _ _ _ (at .i) (omega arith)) ∙ at .inv .1

@@ -35,8 +35,8 @@ returns-3 c =
 
 returns-4 : tie.Need-returns-4
 returns-4 c =
-    made (told (c .before .before .before .before .before .before .before .before .before .before .before)) (c .before .before .before .before .before .before .before .enum-told .given .1)
-    (c .before .before .before .before .laid-out .ensures)
+    made (told (c .before .before .before .before .before .before .before .before .before .before .before))
+    (c .before .before .before .before .before .before .before .enum-told .given .1) (c .before .before .before .before .laid-out .ensures)
 
 pub made-spec : {M : Type 1} → statement M
 made-spec =
