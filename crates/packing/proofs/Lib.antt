@@ -1,4 +1,3 @@
-pub mod Below
 pub mod Digits
 pub mod Packed
 pub mod Place

@@ -2,11 +2,9 @@
 --
 --   early-head, early-work, early-output, early-none   the first refusal, check by check
 --   Early, early-facts, facts-early   no refusal: the head passes, the work area and the output have room
---   core-none            no refusal with an output: none without
---   core-room            an output of 8,192 entries is as good as none
 use Prim.Native.Nat.{ℕ, _*_, _≤_, _<_}
 use native.Mathlib.Omega.{arith}
-use mathlib.Core.Path.{_≡_, refl, sym, _∙_}
+use mathlib.Core.Path.{_≡_, refl, sym}
 use mathlib.Core.Logic.{_≢_}
 use mathlib.Core.Bool.{Bool, true, false, not, cond}
 use mathlib.Core.List.{List}
@@ -17,7 +15,6 @@ use Rattle.model.specs.Shelf.{edgesOf, headRefusal, passes}
 use Rattle.model.specs.Calls.{readRefusal}
 use Rattle.model.proofs.Unreadable.{room-clear}
 use Rattle.model.proofs.Heads.{passes-facts}
-use Rattle.reading.specs.Core.{coreRefusal}
 
 pub record Early (r : List ℕ) (w o : ℕ) : Type 0 where
   pub passed : passes r ≡ true
@@ -55,20 +52,3 @@ module _ (r : List ℕ) (w o : ℕ) where
       head true true c p q s t = let z : ⊥ = omega arith in absurd z
       head true false true p q s t = let z : ⊥ = omega arith in absurd z
       head true false false p q s t = record { passed = p; work-room = ltb-false w _ q; out-room = ltb-false o _ s }
-
--- ---- without an output
-
-pub core-none : (r : List ℕ) (w o : ℕ) → readRefusal r w o ≡ 0 → coreRefusal r w ≡ 0
-core-none r w o e =
-    let f = early-facts r w o e in
-    facts-early r w _ (record { passed = f .passed; work-room = f .work-room; out-room = omega arith })
-
-pub core-room : (r : List ℕ) (w : ℕ) → readRefusal r w 8192 ≡ coreRefusal r w
-unfolding passes readRefusal firstRefusal
-core-room r w = go (eqb (headRefusal r) 0) refl
-  where
-    go : (b : Bool) → eqb (headRefusal r) 0 ≡ b → readRefusal r w 8192 ≡ coreRefusal r w
-    go false p = let d = eqb-false _ 0 p in sym (early-head r w 8192 _ refl d) ∙ early-head r w (2 * edgesOf r) _ refl d
-    go true p =
-        let few = passes-facts r p .few-edges in
-        rw (le-ltb 8192 (2 * edgesOf r) (omega arith), le-ltb (2 * edgesOf r) (2 * edgesOf r) (omega arith))

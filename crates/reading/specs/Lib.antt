@@ -1,1 +1,1 @@
-pub mod Core
+pub mod Planned

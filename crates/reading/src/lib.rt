@@ -1,13 +1,13 @@
 // Reading, the call: any bytes come back as the plan in its standard numbering, or as one refusal. It puts the head checks and the decoder in
 // order and clears the work area; how a payload is decoded is not known here.
 ghost use mathlib.Core.Path.{_≡_};
-ghost use Rattle.model.specs.Calls.{readRefusal, Reads, ReadCall};
+ghost use mathlib.Core.Bool.{true};
+ghost use Prim.Native.Nat.{_*_, _≤_};
 ghost use lib.ListN.{length};
-ghost use Rattle.reading.specs.Core.{Core};
+ghost use Rattle.model.specs.Shelf.{edgesOf, passes};
+ghost use Rattle.model.specs.Calls.{readRefusal, Reads, ReadCall};
+ghost use Rattle.reading.specs.Planned.{Planned};
 use model::ReadBack;
-
-// An output of this length has room for every plan.
-const ROOM: usize = 8192;
 
 // The first of 1, 2, 3, 5, 7, 8 that concerns the record, with a work area and an output of these lengths; 0 if none does.
 fn early(record: &[u8], work: usize, out: usize) -> u16
@@ -27,15 +27,11 @@ fn early(record: &[u8], work: usize, out: usize) -> u16
     0
 }
 
-// Reading without an output: the standard plan stays in the first 2m entries of the work area. It is no public call, since it leaves the work area as it is:
-// it is the inner call of `read`, and of shelving that reads its record without an output (request (b)).
-pub fn read_core(record: &[u8], w: &mut [u16]) -> ReadBack
-    ensures { λ r. ⌜ Core (now («record» .entry)) (now (w .entry)) r (now (w .exit)) ⌝ }
+// The standard plan of a record whose head passes, in the first 2m entries of a work area with room, or 13. The work area is not cleared.
+fn read_core(record: &[u8], w: &mut [u16]) -> ReadBack
+    requires { ⌜ (passes (now «record») ≡ true) × (32 * edgesOf (now «record») ≤ length (now w)) ⌝ }
+    ensures { λ r. ⌜ Planned (now («record» .entry)) r (now (w .exit)) ⌝ }
 {
-    let e = early(record, w.len(), ROOM);
-    if e != 0 {
-        return ReadBack::Refused(e);
-    }
     let kind = heads::field(record, 2);
     let m = heads::field(record, 4);
     let found = decoder::decode(&record[6..], kind, m as usize, w);
@@ -45,7 +41,7 @@ pub fn read_core(record: &[u8], w: &mut [u16]) -> ReadBack
     ReadBack::Refused(13)
 }
 
-// The checks but 13, then the core, then the plan to the output.
+// The checks, then 13, then the plan to the output.
 fn read_out(record: &[u8], work: &mut [u16], out: &mut [u16]) -> ReadBack
     ensures { λ r. ⌜ Reads (now («record» .entry)) (length (now (work .entry))) (now (out .entry)) r (now (out .exit)) ⌝ }
 {
