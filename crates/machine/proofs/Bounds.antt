@@ -1,6 +1,5 @@
 -- How large the tree bits and labels of a word are. They need no valid word.
 --
---   all-cons, all-head, all-tail   below-cons, below-head, below-tail of the model, passed on
 --   all-part, head-below, tail-below   entries below n, one by one
 --   second-below           `startsSecond` is below 2
 --   ups-below, seconds-below   the labels of the edges that a word ends are below 2, tree and others
@@ -18,7 +17,6 @@ use Rattle.model.specs.Numbers.{allBelow}
 use Rattle.model.specs.Traversal.{Letter, down, up, first, second}
 use Rattle.model.specs.LabelledTree.{star}
 use Rattle.model.proofs.Below.{below-cons, below-head, below-tail}
-pub use Rattle.model.proofs.Below.{below-cons as all-cons, below-head as all-head, below-tail as all-tail}
 use Rattle.words.specs.Word.{startsUp, bareLeaf, startsSecond, Ends, head, tail, endsOne, ends, wordLabels, wordBits}
 
 pub all-part : (n : ℕ) (xs : List ℕ) (y : ℕ) (ys : List ℕ) → xs ≡ y ∷ ys → allBelow n xs ≡ true → (y < n) × (allBelow n ys ≡ true)

@@ -176,7 +176,7 @@ module _ (k : ℕ) (bits labels : List ℕ) (w : List Letter) (low : allBelow 2 
   decoded-nests = from-start .nests
 
   pub decoded-length : length w ≡ length bits
-  decoded-length = let h = bits-count false 1 0 [] [] w decoded-nests in let q = ap length decoded-bits in omega arith
+  decoded-length = let h = bits-count 1 0 [] [] w decoded-nests in let q = ap length decoded-bits in omega arith
 
   pub decoded-valid : isKind k ≡ true → dartCountFits (length bits) ≡ true → valid k w ≡ true
   decoded-valid kind fits = valid-of k w kind (rw decoded-length fits) decoded-nests

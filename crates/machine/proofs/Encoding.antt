@@ -1,6 +1,6 @@
 -- The machine reads a valid word's tree bits and labels back (`decode-encode`), from any state on its way through the word (`encoded`).
 --
---   Onward m s ls w    a turn from s gives the letters ls and leaves w to be read, where m labels were to be read at the start
+--   Onward s ls w      a turn from s gives the letters ls and leaves w to be read
 --   on-up, on-second, on-star, on-back, on-tree   it does so, for each letter and for a leaf
 --   encoded            the machine reads the word that is still to be read
 --   starts-reading     at the start a word is to be read from its own bits and labels
@@ -27,10 +27,10 @@ use Rattle.machine.proofs.Turns.{turn-close, turn-up, turn-star, turn-b
 use Rattle.machine.proofs.Within.{Within, starts-within, within-close, within-up, within-star, within-back, within-tree}
 use Rattle.machine.proofs.Runs.{run-goes, run-done, decodeWord-run}
 
-pub record Onward (m : ℕ) (s : Machine) (ls w : List Letter) : Type 0 where
+pub record Onward (s : Machine) (ls w : List Letter) : Type 0 where
   pub next : Machine
   pub turns : turn s ≡ goes ls next
-  pub within : Within m next
+  pub within : Within next
   pub reads : Reads next w
 
 -- ---- small facts
@@ -47,15 +47,15 @@ head-low n (x ∷ xs) e = let h = below-head n x xs e in omega arith
 
 -- ---- each letter
 
-module _ (m : ℕ) (s : Machine) (w : List Letter) (i : Within m s) where
-  pub on-up : Reads s (up ∷ w) → Onward m s (up ∷ []) w
+module _ (s : Machine) (w : List Letter) (i : Within s) where
+  pub on-up : Reads s (up ∷ w) → Onward s (up ∷ []) w
   unfolding ends endsOne startsSecond wordBits
   on-up r =
       let z = nest-up (s .n) (s .here) (s .below) (s .opens) w (r .nests) in
       record {
         next = risen s (z .0) (z .1) (wordBits false w);
         turns = turn-up s (z .0) (z .1) (wordBits false w) (not-one (s .label) (r .label-is)) (r .bits-are) (z .2);
-        within = within-up m s i (z .0) (z .1) (wordBits false w) (z .2);
+        within = within-up s i (z .0) (z .1) (wordBits false w) (z .2);
         reads = record {
           nests = z .3;
           ups-are = ap tail (r .ups-are);
@@ -66,14 +66,14 @@ module _ (m : ℕ) (s : Machine) (w : List Letter) (i : Within m s) where
         };
       }
 
-  pub on-second : Reads s (second ∷ w) → Onward m s (second ∷ []) w
+  pub on-second : Reads s (second ∷ w) → Onward s (second ∷ []) w
   unfolding ends endsOne startsSecond wordBits
   on-second r =
       let z = nest-second (s .n) (s .here) (s .below) (s .opens) w (r .nests) in
       record {
         next = closed s (z .1);
         turns = turn-close s (z .0) (z .1) (r .label-is) (z .2) (z .3);
-        within = within-close m s i (z .0) (z .1) (z .2);
+        within = within-close s i (z .0) (z .1) (z .2);
         reads = record {
           nests = z .4;
           ups-are = r .ups-are;
@@ -84,14 +84,14 @@ module _ (m : ℕ) (s : Machine) (w : List Letter) (i : Within m s) where
         };
       }
 
-  pub on-star : Reads s (down ∷ up ∷ w) → Onward m s (down ∷ up ∷ []) w
+  pub on-star : Reads s (down ∷ up ∷ w) → Onward s (down ∷ up ∷ []) w
   unfolding nested ends endsOne startsUp startsSecond wordBits
   on-star r =
       record {
         next = leafed s (startsSecond w) (wordBits false w) (ends w .labels);
         turns = turn-star s 1 star (startsSecond w) (wordBits false w) (ends w .labels) (not-one (s .label) (r .label-is)) (r .bits-are)
             (λ e. omega arith) (r .labels-are) refl;
-        within = within-star m s i star (wordBits false w) (ends w .labels) (r .labels-are) (startsSecond w);
+        within = within-star s i (startsSecond w) (wordBits false w) (ends w .labels);
         reads = record {
           nests = r .nests;
           ups-are = r .ups-are;
@@ -102,7 +102,7 @@ module _ (m : ℕ) (s : Machine) (w : List Letter) (i : Within m s) where
         };
       }
 
-  pub on-back : Reads s (first ∷ w) → Onward m s (first ∷ []) w
+  pub on-back : Reads s (first ∷ w) → Onward s (first ∷ []) w
   unfolding nested ends endsOne startsSecond wordBits
   on-back r =
       let e : nested false (s .n) (s .here) (s .below) (s .here ∷ s .opens) w ≡ true = r .nests in
@@ -111,7 +111,7 @@ module _ (m : ℕ) (s : Machine) (w : List Letter) (i : Within m s) where
         next = backed s l (wordBits false w) (ends w .labels);
         turns = turn-back s 1 l 0 (wordBits false w) (ends w .labels) (not-one (s .label) (r .label-is)) (r .bits-are)
             (λ e. omega arith) (r .labels-are) (no-star l (head-below 2 (ends w .seconds) (omega arith) (seconds-below w))) refl;
-        within = within-back m s i l (wordBits false w) (ends w .labels) (r .labels-are);
+        within = within-back s i l (wordBits false w) (ends w .labels);
         reads = record {
           nests = e;
           ups-are = r .ups-are;
@@ -123,7 +123,7 @@ module _ (m : ℕ) (s : Machine) (w : List Letter) (i : Within m s) where
         };
       }
 
-  pub on-tree : startsUp w ≡ false → Reads s (down ∷ w) → Onward m s (down ∷ []) w
+  pub on-tree : startsUp w ≡ false → Reads s (down ∷ w) → Onward s (down ∷ []) w
   unfolding nested ends endsOne startsSecond wordBits
   on-tree u r =
       let e : nested false (suc (s .n)) (s .n) (s .here ∷ s .below) (s .opens) w ≡ true = r .nests in
@@ -136,7 +136,7 @@ module _ (m : ℕ) (s : Machine) (w : List Letter) (i : Within m s) where
         turns = turn-tree s 1 l 1 (g .0) (ends w .labels) (not-one (s .label) (r .label-is))
             (r .bits-are ∙ ap (λ (xs : List ℕ). 1 ∷ xs) (g .1)) (λ e. omega arith)
             q (no-star l (head-below 2 (ends w .ups) (omega arith) (ups-below w))) (λ e. omega arith);
-        within = within-tree m s i l (1 ∷ g .0) (ends w .labels) q;
+        within = within-tree s i l (1 ∷ g .0) (ends w .labels);
         reads = record {
           nests = e;
           ups-are = ap (λ (xs : List ℕ). l ∷ xs) (r .ups-are)
@@ -150,25 +150,25 @@ module _ (m : ℕ) (s : Machine) (w : List Letter) (i : Within m s) where
 
 -- ---- the whole word
 
-reads-on : (m : ℕ) (s : Machine) (ls w : List Letter) (o : Onward m s ls w) → run (o .next) ≡ found w → run s ≡ after ls (found w)
-reads-on m s ls w o e = run-goes s (o .next) ls (o .turns) ∙ ap (after ls) e
+reads-on : (s : Machine) (ls w : List Letter) (o : Onward s ls w) → run (o .next) ≡ found w → run s ≡ after ls (found w)
+reads-on s ls w o e = run-goes s (o .next) ls (o .turns) ∙ ap (after ls) e
 
-pub encoded : (m : ℕ) (s : Machine) (w : List Letter) → Within m s → Reads s w → run s ≡ found w
+pub encoded : (s : Machine) (w : List Letter) → Within s → Reads s w → run s ≡ found w
 unfolding nested startsUp ends startsSecond wordBits
-encoded m s [] i r =
+encoded s [] i r =
     let z = nest-end (s .n) (s .here) (s .below) (s .opens) (r .nests) in
     run-done s (turn-done s (not-one (s .label) (r .label-is)) (r .bits-are) (z .0) (z .1) (r .labels-are))
-encoded m s (down ∷ []) i r = absurd (false≢true (r .nests))
-encoded m s (down ∷ down ∷ w) i r =
-    let o = on-tree m s (down ∷ w) i refl r in reads-on m s (down ∷ []) (down ∷ w) o (encoded m (o .next) (down ∷ w) (o .within) (o .reads))
-encoded m s (down ∷ up ∷ w) i r = let o = on-star m s w i r in reads-on m s (down ∷ up ∷ []) w o (encoded m (o .next) w (o .within) (o .reads))
-encoded m s (down ∷ first ∷ w) i r =
-    let o = on-tree m s (first ∷ w) i refl r in reads-on m s (down ∷ []) (first ∷ w) o (encoded m (o .next) (first ∷ w) (o .within) (o .reads))
-encoded m s (down ∷ second ∷ w) i r =
-    let o = on-tree m s (second ∷ w) i refl r in reads-on m s (down ∷ []) (second ∷ w) o (encoded m (o .next) (second ∷ w) (o .within) (o .reads))
-encoded m s (up ∷ w) i r = let o = on-up m s w i r in reads-on m s (up ∷ []) w o (encoded m (o .next) w (o .within) (o .reads))
-encoded m s (first ∷ w) i r = let o = on-back m s w i r in reads-on m s (first ∷ []) w o (encoded m (o .next) w (o .within) (o .reads))
-encoded m s (second ∷ w) i r = let o = on-second m s w i r in reads-on m s (second ∷ []) w o (encoded m (o .next) w (o .within) (o .reads))
+encoded s (down ∷ []) i r = absurd (false≢true (r .nests))
+encoded s (down ∷ down ∷ w) i r =
+    let o = on-tree s (down ∷ w) i refl r in reads-on s (down ∷ []) (down ∷ w) o (encoded (o .next) (down ∷ w) (o .within) (o .reads))
+encoded s (down ∷ up ∷ w) i r = let o = on-star s w i r in reads-on s (down ∷ up ∷ []) w o (encoded (o .next) w (o .within) (o .reads))
+encoded s (down ∷ first ∷ w) i r =
+    let o = on-tree s (first ∷ w) i refl r in reads-on s (down ∷ []) (first ∷ w) o (encoded (o .next) (first ∷ w) (o .within) (o .reads))
+encoded s (down ∷ second ∷ w) i r =
+    let o = on-tree s (second ∷ w) i refl r in reads-on s (down ∷ []) (second ∷ w) o (encoded (o .next) (second ∷ w) (o .within) (o .reads))
+encoded s (up ∷ w) i r = let o = on-up s w i r in reads-on s (up ∷ []) w o (encoded (o .next) w (o .within) (o .reads))
+encoded s (first ∷ w) i r = let o = on-back s w i r in reads-on s (first ∷ []) w o (encoded (o .next) w (o .within) (o .reads))
+encoded s (second ∷ w) i r = let o = on-second s w i r in reads-on s (second ∷ []) w o (encoded (o .next) w (o .within) (o .reads))
 
 pub starts-reading : (w : List Letter) → nested false 1 0 [] [] w ≡ true → Reads (start (wordBits false w) (wordLabels w)) w
 unfolding start wordLabels
@@ -184,6 +184,5 @@ starts-reading w e = record {
 pub decode-encode : (k : ℕ) (w : List Letter) → valid k w ≡ true → decodeWord (wordBits false w) (wordLabels w) ≡ found w
 decode-encode k w v =
     let s = start (wordBits false w) (wordLabels w) in
-    let m = length (wordLabels w) in
     decodeWord-run (wordBits false w) (wordLabels w)
-    ∙ encoded m s w (starts-within m (wordBits false w) (wordLabels w) (le-refl m)) (starts-reading w (valid-nested k w v))
+    ∙ encoded s w (starts-within (wordBits false w) (wordLabels w)) (starts-reading w (valid-nested k w v))

@@ -26,55 +26,50 @@ pub head-tail : (xs : List ℕ) (k : ℕ) → length xs ≡ suc k → head xs �
 head-tail [] k e = absurd (omega arith)
 head-tail (x ∷ xs) k e = refl
 
-pub ups-count : (n here : ℕ) (below opens : List ℕ) (w : List Letter) → nested false n here below opens w ≡ true → length (ends w .ups) ≡ length below
-unfolding nested ends endsOne
-ups-count n here [] [] [] e = refl
-ups-count n here [] (o ∷ os) [] e = absurd (false≢true e)
-ups-count n here (v ∷ vs) opens [] e = absurd (false≢true e)
-ups-count n here below opens (down ∷ w) e = length-tail (ends w .ups) (length below) (ups-count (suc n) n (here ∷ below) opens w e)
-ups-count n here [] opens (up ∷ w) e = absurd (false≢true e)
-ups-count n here (v ∷ vs) opens (up ∷ w) e = ap suc (ups-count n v vs opens w e)
-ups-count n here below opens (first ∷ w) e = ups-count n here below (here ∷ opens) w e
-ups-count n here below [] (second ∷ w) e = absurd (false≢true e)
-ups-count n here below (o ∷ os) (second ∷ w) e = ups-count n here below os w (second-rest n here below o os w e .1)
+-- each letter's part in all four counts; b as in `wordBits`
+record Counted (b : Bool) (below opens : List ℕ) (w : List Letter) : Type 0 where
+  ups : length (ends w .ups) ≡ length below
+  seconds : length (ends w .seconds) ≡ length opens
+  bits : length (wordBits b w) + length opens ≡ length w
+  letters : length w ≡ 2 * length (wordLabels w) + (length below + length opens)
 
-pub seconds-count : (n here : ℕ) (below opens : List ℕ) (w : List Letter) → nested false n here below opens w ≡ true
-    → length (ends w .seconds) ≡ length opens
-unfolding nested ends endsOne
-seconds-count n here [] [] [] e = refl
-seconds-count n here [] (o ∷ os) [] e = absurd (false≢true e)
-seconds-count n here (v ∷ vs) opens [] e = absurd (false≢true e)
-seconds-count n here below opens (down ∷ w) e = seconds-count (suc n) n (here ∷ below) opens w e
-seconds-count n here [] opens (up ∷ w) e = absurd (false≢true e)
-seconds-count n here (v ∷ vs) opens (up ∷ w) e = seconds-count n v vs opens w e
-seconds-count n here below opens (first ∷ w) e = length-tail (ends w .seconds) (length opens) (seconds-count n here below (here ∷ opens) w e)
-seconds-count n here below [] (second ∷ w) e = absurd (false≢true e)
-seconds-count n here below (o ∷ os) (second ∷ w) e = ap suc (seconds-count n here below os w (second-rest n here below o os w e .1))
+counted : (b : Bool) (n here : ℕ) (below opens : List ℕ) (w : List Letter) → nested false n here below opens w ≡ true → Counted b below opens w
+unfolding nested ends endsOne wordBits wordLabels
+counted b n here [] [] [] e = record { ups = refl; seconds = refl; bits = refl; letters = refl }
+counted b n here [] (o ∷ os) [] e = absurd (false≢true e)
+counted b n here (v ∷ vs) opens [] e = absurd (false≢true e)
+counted b n here below opens (down ∷ w) e =
+    let c = counted true (suc n) n (here ∷ below) opens w e in
+    let h = c .bits in
+    let k = c .letters in
+    record { ups = length-tail (ends w .ups) (length below) (c .ups); seconds = c .seconds; bits = omega arith; letters = omega arith }
+counted b n here [] opens (up ∷ w) e = absurd (false≢true e)
+counted b n here (v ∷ vs) opens (up ∷ w) e =
+    let c = counted false n v vs opens w e in
+    let h = c .bits in
+    let k = c .letters in
+    record { ups = ap suc (c .ups); seconds = c .seconds; bits = omega arith; letters = omega arith }
+counted b n here below opens (first ∷ w) e =
+    let c = counted false n here below (here ∷ opens) w e in
+    let h = c .bits in
+    let k = c .letters in
+    record { ups = c .ups; seconds = length-tail (ends w .seconds) (length opens) (c .seconds); bits = omega arith; letters = omega arith }
+counted b n here below [] (second ∷ w) e = absurd (false≢true e)
+counted b n here below (o ∷ os) (second ∷ w) e =
+    let c = counted false n here below os w (second-rest n here below o os w e .1) in
+    let h = c .bits in
+    let k = c .letters in
+    record { ups = c .ups; seconds = ap suc (c .seconds); bits = omega arith; letters = omega arith }
 
-pub bits-count : (b : Bool) (n here : ℕ) (below opens : List ℕ) (w : List Letter) → nested false n here below opens w ≡ true
-    → length (wordBits b w) + length opens ≡ length w
-unfolding nested wordBits
-bits-count b n here [] [] [] e = refl
-bits-count b n here [] (o ∷ os) [] e = absurd (false≢true e)
-bits-count b n here (v ∷ vs) opens [] e = absurd (false≢true e)
-bits-count b n here below opens (down ∷ w) e = let h = bits-count true (suc n) n (here ∷ below) opens w e in omega arith
-bits-count b n here [] opens (up ∷ w) e = absurd (false≢true e)
-bits-count b n here (v ∷ vs) opens (up ∷ w) e = let h = bits-count false n v vs opens w e in omega arith
-bits-count b n here below opens (first ∷ w) e = let h = bits-count false n here below (here ∷ opens) w e in omega arith
-bits-count b n here below [] (second ∷ w) e = absurd (false≢true e)
-bits-count b n here below (o ∷ os) (second ∷ w) e =
-    let h = bits-count false n here below os w (second-rest n here below o os w e .1) in omega arith
+module _ (n here : ℕ) (below opens : List ℕ) (w : List Letter) (e : nested false n here below opens w ≡ true) where
+  pub ups-count : length (ends w .ups) ≡ length below
+  ups-count = counted false n here below opens w e .ups
 
-pub letters-count : (n here : ℕ) (below opens : List ℕ) (w : List Letter) → nested false n here below opens w ≡ true
-    → length w ≡ 2 * length (wordLabels w) + (length below + length opens)
-unfolding nested wordLabels ends endsOne
-letters-count n here [] [] [] e = refl
-letters-count n here [] (o ∷ os) [] e = absurd (false≢true e)
-letters-count n here (v ∷ vs) opens [] e = absurd (false≢true e)
-letters-count n here below opens (down ∷ w) e = let h = letters-count (suc n) n (here ∷ below) opens w e in omega arith
-letters-count n here [] opens (up ∷ w) e = absurd (false≢true e)
-letters-count n here (v ∷ vs) opens (up ∷ w) e = let h = letters-count n v vs opens w e in omega arith
-letters-count n here below opens (first ∷ w) e = let h = letters-count n here below (here ∷ opens) w e in omega arith
-letters-count n here below [] (second ∷ w) e = absurd (false≢true e)
-letters-count n here below (o ∷ os) (second ∷ w) e =
-    let h = letters-count n here below os w (second-rest n here below o os w e .1) in omega arith
+  pub seconds-count : length (ends w .seconds) ≡ length opens
+  seconds-count = counted false n here below opens w e .seconds
+
+  pub bits-count : length (wordBits false w) + length opens ≡ length w
+  bits-count = counted false n here below opens w e .bits
+
+  pub letters-count : length w ≡ 2 * length (wordLabels w) + (length below + length opens)
+  letters-count = counted false n here below opens w e .letters

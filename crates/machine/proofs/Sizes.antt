@@ -47,7 +47,7 @@ bound-of k labels h e = go (eqb k 1) e
 
 module _ (k : ℕ) (w : List Letter) (v : valid k w ≡ true) where
   pub bits-length : length (wordBits false w) ≡ length w
-  bits-length = let h = bits-count false 1 0 [] [] w (valid-nested k w v) in omega arith
+  bits-length = let h = bits-count 1 0 [] [] w (valid-nested k w v) in omega arith
 
   pub letters-length : length w ≡ 2 * length (wordLabels w)
   letters-length = let h = letters-count 1 0 [] [] w (valid-nested k w v) in omega arith
