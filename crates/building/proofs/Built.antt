@@ -21,12 +21,14 @@ use Rattle.words.specs.Position.{Balance, Ends}
 use Rattle.words.proofs.Validity.{valid-kind, valid-fits, valid-nested, valid-plain}
 use Rattle.words.proofs.Nesting.{balance, nested-ends, ends-low}
 use Rattle.words.proofs.Rotation.{rotation-listed}
+use Rattle.traversal.specs.Walked.{Walked}
+use Rattle.traversal.proofs.Walk.{walked}
 use Rattle.traversal.proofs.Toured.{walk-toured}
 use Rattle.planarity.proofs.Vertices.{trees-nested}
 use Rattle.planarity.proofs.Planar.{bracketed-planar}
 use Rattle.standard.proofs.DeadEnds.{dead-end-word}
 use Rattle.standard.proofs.Linking.{standard-is-planOf}
-use Rattle.building.proofs.Walk.{walked}
+use Rattle.building.proofs.Walk.{built-walk}
 use Rattle.building.proofs.Planar.{built-chords}
 use Rattle.building.proofs.Loops.{built-no-loop}
 use Rattle.building.proofs.Connected.{built-connected}
@@ -43,9 +45,6 @@ module _ (k : ℕ) (w : List Letter) (v : valid k w ≡ true) where
 
   some : 0 < length w
   some = count-positive (length w) (valid-fits k w v)
-
-  pub built-word : word (planOf w) ≡ w
-  built-word = walked w brackets low some
 
   -- ---- fitness, part by part
 
@@ -67,11 +66,17 @@ module _ (k : ℕ) (w : List Letter) (v : valid k w ≡ true) where
 
   -- ---- its traversal
 
+  walk : Walked (planOf w)
+  walk = walked (planOf w) count root entries
+
+  pub built-word : word (planOf w) ≡ w
+  built-word = built-walk w brackets low some walk
+
   toured : Toured (planOf w)
   toured = walk-toured (planOf w) count root entries joined
 
   bracketed : Bracketed (planOf w)
-  bracketed = record { trees = trees-nested (planOf w) toured count entries; chords = built-chords w brackets low some toured }
+  bracketed = record { trees = trees-nested (planOf w) toured count entries; chords = built-chords w brackets low some walk toured }
 
   pub built-standard : standardPlan (planOf w) ≡ planOf w
   built-standard = standard-is-planOf (planOf w) toured bracketed count ∙ ap planOf built-word

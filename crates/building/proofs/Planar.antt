@@ -2,27 +2,27 @@
 --
 --   built-mates    the mate of a position is its fellow in the word
 --   built-chords   the edges outside the tree match like brackets
-use Prim.Native.Nat.{ℕ, zero, suc, _<_}
-use native.Mathlib.Nat.{le-of-lt}
+use Prim.Native.Nat.{ℕ, _<_}
 use native.Mathlib.Omega.{arith}
-use mathlib.Core.Path.{_≡_, sym, ap, ap₂, subst, _∙_}
+use mathlib.Core.Path.{_≡_, sym, ap, subst, _∙_}
 use mathlib.Core.Bool.{true}
 use mathlib.Core.List.{List}
 use lib.ListN.{length}
 use borrow.Author.Tests.{not-true}
 use Rattle.model.specs.Map.{darts, opposite}
-use Rattle.model.specs.Traversal.{Letter, onward}
-use Rattle.words.specs.Word.{rotationOf, planOf}
+use Rattle.model.specs.Traversal.{Letter}
+use Rattle.words.specs.Word.{planOf}
 use Rattle.words.specs.Toured.{dartAt, letterOf, posOf, mateOf, isTree, isChord, Brackets, Toured}
 use Rattle.words.specs.Brackets.{letter}
 use Rattle.words.specs.Position.{dartNo, Balance, Ends}
 use Rattle.words.proofs.Plans.{rotation-length}
 use Rattle.words.proofs.Mates.{χ, mate, mate-inv, χ-nested, χ-chord}
-use Rattle.words.proofs.Darts.{dart-mate, dart-zero}
-use Rattle.building.proofs.Walk.{walk-on, walked}
+use Rattle.words.proofs.Darts.{dart-mate}
+use Rattle.traversal.specs.Walked.{Walked}
+use Rattle.building.proofs.Walk.{built-walk, built-dart}
 
 module _ (w : List Letter) (b : Balance (letter w) (length w)) (low : Ends true (letter w) (length w)) (some : 0 < length w)
-    (t : Toured (planOf w)) where
+    (walked : Walked (planOf w)) (t : Toured (planOf w)) where
   abbrev N : ℕ
   N = length w
 
@@ -35,13 +35,10 @@ module _ (w : List Letter) (b : Balance (letter w) (length w)) (low : Ends true 
 
   letter-is : (i : ℕ) → letterOf (planOf w) i ≡ ℓ i
   unfolding letterOf
-  letter-is i = ap (λ (v : List Letter). letter v i) (walked w b low some)
+  letter-is i = ap (λ (v : List Letter). letter v i) (built-walk w b low some walked)
 
   dart-is : (i : ℕ) → i < N → dartAt (planOf w) i ≡ dartNo ℓ i
-  unfolding planOf
-  dart-is zero h = t .starts ∙ sym (dart-zero ℓ N b some)
-  dart-is (suc i) h =
-      t .step i (omega (arith, size)) ∙ ap₂ (onward (rotationOf w)) (letter-is i) (dart-is i (le-of-lt h)) ∙ walk-on w b low some i h
+  dart-is = built-dart w b low some walked
 
   pub built-mates : (i : ℕ) → i < N → mateOf (planOf w) i ≡ mate ℓ N b i
   unfolding mateOf

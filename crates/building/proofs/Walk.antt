@@ -1,52 +1,37 @@
--- The walk of the plan that is built from a balanced word w meets the darts of w with the letters of w.
+-- The darts and letters of a balanced word w keep the rules of the traversal of the plan that is built from it; so they are that traversal.
 --
---   walk-on          where it goes on from each dart
---   walked           its word is w
-use Prim.Native.Nat.{ℕ, zero, suc, _+_, _≤_, _<_}
-use native.Mathlib.Nat.{le-of-lt, le-of-eq}
+--   word-ruled       they keep the rules
+--   built-walk       its word is w
+--   built-dart       and its darts are those of w
+use Prim.Native.Nat.{ℕ, zero, suc, _≤_, _<_}
+use native.Mathlib.Nat.{le-step, le-refl, le-of-lt}
 use native.Mathlib.Omega.{arith}
-use mathlib.Core.Path.{_≡_, refl, sym, ap, ap₂, subst, _∙_}
-use mathlib.Core.Logic.{_≢_}
-use mathlib.Core.Bool.{Bool, true, false, cond}
-use mathlib.Core.List.{List, [], _∷_, map}
-use lib.Dec.{eqb, ltb}
-use lib.ListN.{length, getD, set, drop, replicate, length-set, length-replicate, getD-replicate}
-use lib.Seq.{getD-set-same, getD-set-other, drop-cons, drop-length}
-use borrow.Author.Tests.{lt-ltb, le-ltb, leb-true, ne-eqb}
-use Rattle.model.specs.Numbers.{count, tick}
+use mathlib.Core.Path.{_≡_, refl, sym, ap, _∙_}
+use mathlib.Core.Logic.{_⊎_, inl, inr, ⊎-elim}
+use mathlib.Core.Bool.{true}
+use mathlib.Core.List.{List}
+use lib.ListN.{length}
+use borrow.Author.Tests.{leb-true}
+use Rattle.model.specs.Numbers.{count}
 use Rattle.model.specs.Map.{opposite, next, vertexOf}
-use Rattle.model.specs.Traversal.{Letter, down, up, first, second, code, opens, Visit, letterAt, onward, seenAfter, walk, visits, word}
-use Rattle.orbits.specs.Stack.{stack}
-use Rattle.orbits.proofs.Order.{tri, eq-split}
+use Rattle.model.specs.Traversal.{Letter, down, up, first, second, opens, onward, word}
+use Rattle.orbits.specs.Chord as Chord
+use Rattle.orbits.specs.Stack.{push, stack}
+use Rattle.orbits.proofs.Order.{lt-suc-split}
+use Rattle.orbits.proofs.Tally.{count-grows}
+use Rattle.orbits.proofs.Chord.{next-cases}
 use Rattle.words.specs.Word.{rotationOf, planOf, placeOf}
-use Rattle.words.specs.Toured.{fellow}
+use Rattle.words.specs.Toured.{dartAt, fellow}
+use Rattle.words.specs.Brackets.{letter, treeKind, treeStack}
 use Rattle.words.specs.Entered.{isDown}
-use Rattle.words.proofs.Plans.{rotation-length}
-use Rattle.words.specs.Brackets.{letter}
-use Rattle.words.specs.Position.{entered, vertexNo, dartNo, Balance, Ends}
-use Rattle.words.proofs.Lists.{filled, filled-at, filled-none}
+use Rattle.words.specs.Position.{entered, vertexTop, vertexNo, dartNo, Balance, Ends}
 use Rattle.words.proofs.Nesting.{entered-by}
-use Rattle.words.proofs.Mates.{mate, mate-inv, fellows, later, earlier, vertex-new, vertex-ends, vertex-entered}
+use Rattle.words.proofs.Mates.{mate, mate-inv, fellows, earlier, vertex-new, vertex-ends, vertex-entered}
 use Rattle.words.proofs.Darts.{dart-perm, dart-mate, dart-zero}
-use Rattle.words.proofs.Rotation.{place, step}
-use Rattle.building.proofs.Vertices.{vertex-bound, vertex-number, vertex-same}
-
--- 1 for the vertices with a number below n
-abbrev mark : ℕ → ℕ → ℕ
-mark v n = cond (ltb v n) 1 0
-
-mark-lt : (v n : ℕ) → v < n → mark v n ≡ 1
-mark-lt v n h = ap (λ (c : Bool). cond c 1 0) (lt-ltb v n h)
-
-mark-ge : (v n : ℕ) → n ≤ v → mark v n ≡ 0
-mark-ge v n h = ap (λ (c : Bool). cond c 1 0) (le-ltb v n h)
-
-mark-suc : (v n : ℕ) → v ≢ n → mark v n ≡ mark v (suc n)
-mark-suc v n d =
-    tri v n
-    (λ l. mark-lt v n l ∙ sym (mark-lt v (suc n) (omega arith)))
-    (λ e. absurd (d e))
-    (λ g. mark-ge v n (le-of-lt g) ∙ sym (mark-ge v (suc n) g))
+use Rattle.words.proofs.Rotation.{place, turn}
+use Rattle.traversal.specs.Walked.{Ruled, Walked}
+use Rattle.traversal.proofs.Ruled.{ruled-size, ruled-same, ruled-word}
+use Rattle.building.proofs.Vertices.{vertex-number, vertex-same}
 
 module _ (w : List Letter) (b : Balance (letter w) (length w)) (low : Ends true (letter w) (length w)) (some : 0 < length w) where
   abbrev N : ℕ
@@ -64,109 +49,11 @@ module _ (w : List Letter) (b : Balance (letter w) (length w)) (low : Ends true 
   abbrev rot : List ℕ
   rot = rotationOf w
 
-  -- the letters given before position i, and the vertices seen
-  abbrev met : ℕ → List ℕ
-  met i = filled N x (λ j. code (ℓ j)) i
+  -- ---- one step
 
-  seen : ℕ → List ℕ
-  seen zero = set (replicate N 0) (vertexOf rot (x 0)) 1
-  seen (suc i) = seenAfter rot (ℓ i) (x i) (seen i)
-
-  -- ---- the vertices seen are those entered
-
-  -- s has the marks of the vertices with numbers below n
-  Marks : List ℕ → ℕ → Type 0
-  Marks s n = (length s ≡ N) × ((j : ℕ) → j < N → getD s (vertexOf rot (x j)) 0 ≡ mark (vertexNo ℓ j) n)
-
-  marks-more : (s : List ℕ) (n k : ℕ) → k < N → vertexNo ℓ k ≡ n → Marks s n → Marks (set s (vertexOf rot (x k)) 1) (suc n)
-  unfolding Marks
-  marks-more s n k h e (l, f) = (length-set s (vertexOf rot (x k)) 1 ∙ l, at)
-    where
-      inside : vertexOf rot (x k) < length s
-      inside = subst (λ (z : ℕ). vertexOf rot (x k) < z) (sym l) (vertex-bound w b (x k) (dart-perm ℓ N b .bound k h))
-
-      at : (j : ℕ) → j < N → getD (set s (vertexOf rot (x k)) 1) (vertexOf rot (x j)) 0 ≡ mark (vertexNo ℓ j) (suc n)
-      at j hj =
-          eq-split (vertexNo ℓ j) n
-          (λ q.
-          ap (λ (z : ℕ). getD (set s (vertexOf rot (x k)) 1) z 0) (vertex-same w b j k hj h (q ∙ sym e))
-          ∙ getD-set-same s (vertexOf rot (x k)) 1 0 inside
-          ∙ sym (mark-lt (vertexNo ℓ j) (suc n) (omega arith)))
-          (λ d.
-          getD-set-other s (vertexOf rot (x k)) (vertexOf rot (x j)) 1 0 (λ q. d (vertex-number w b j k hj h q ∙ e))
-          ∙ f j hj ∙ mark-suc (vertexNo ℓ j) n d)
-
-  marks-none : Marks (replicate N 0) 0
-  unfolding Marks
-  marks-none = (
-    length-replicate N 0,
-    λ j h.
-        getD-replicate N (vertexOf rot (x j)) 0 0 (vertex-bound w b (x j) (dart-perm ℓ N b .bound j h))
-        ∙ sym (mark-ge (vertexNo ℓ j) 0 (omega arith)),
-  )
-
-  marks-step : (i : ℕ) → i < N → (s : List ℕ) → Marks s (entered ℓ i) → Marks (seenAfter rot (ℓ i) (x i) s) (entered ℓ (suc i))
-  unfolding seenAfter
-  marks-step i h s k = subst (Marks (seenAfter rot (ℓ i) (x i) s)) (sym (entered-by ℓ i (ℓ i) refl)) (go (ℓ i) refl)
-    where
-      go : (l : Letter) → ℓ i ≡ l → Marks (seenAfter rot l (x i) s) (tick (isDown l) (entered ℓ i))
-      go down e =
-          subst (λ (d : ℕ). Marks (set s (vertexOf rot d) 1) (suc (entered ℓ i))) (dart-mate ℓ N b i h)
-          (marks-more s (entered ℓ i) (m i) (mate-inv ℓ N b .bound i h) (vertex-new ℓ N b i h e) k)
-      go up e = k
-      go first e = k
-      go second e = k
-
-  seen-marks : (i : ℕ) → i ≤ N → Marks (seen i) (entered ℓ i)
-  unfolding seen entered count vertexNo stack
-  seen-marks zero h = marks-more (replicate N 0) 0 0 some refl marks-none
-  seen-marks (suc i) h = marks-step i h (seen i) (seen-marks i (le-of-lt h))
-
-  seen-at : (i : ℕ) → i < N → getD (seen i) (vertexOf rot (opposite (x i))) 0 ≡ mark (vertexNo ℓ (m i)) (entered ℓ i)
-  unfolding Marks
-  seen-at i h =
-      ap (λ (d : ℕ). getD (seen i) (vertexOf rot d) 0) (sym (dart-mate ℓ N b i h)) ∙ seen-marks i (le-of-lt h) .1 (m i) (mate-inv ℓ N b .bound i h)
-
-  -- ---- the letters
-
-  -- the opposite of an opening letter's dart is not met yet, that of a closing one is
-  met-open : (i : ℕ) → i < N → opens (ℓ i) ≡ true → getD (met i) (opposite (x i)) 0 ≡ 0
-  met-open i h o =
-      ap (λ (d : ℕ). getD (met i) d 0) (sym (dart-mate ℓ N b i h))
-      ∙ filled-none N x (λ j. code (ℓ j)) (dart-perm ℓ N b) i (le-of-lt h) (m i) (mate-inv ℓ N b .bound i h) (le-of-lt (later ℓ N b i h o))
-
-  met-close : (i : ℕ) → i < N → opens (ℓ i) ≡ false → getD (met i) (opposite (x i)) 0 ≡ code (fellow (ℓ i))
-  met-close i h o =
-      ap (λ (d : ℕ). getD (met i) d 0) (sym (dart-mate ℓ N b i h))
-      ∙ filled-at N x (λ j. code (ℓ j)) (dart-perm ℓ N b) i (le-of-lt h) (m i) (earlier ℓ N b i h o) ∙ ap code (fellows ℓ N b i h)
-
-  -- the letter from what is met and seen at the opposite dart
-  abbrev by : ℕ → ℕ → Letter
-  by a s = cond (eqb a 0) (cond (eqb s 0) down first) (cond (eqb a 1) up second)
-
-  letter-right : (i : ℕ) → i < N → letterAt rot (met i) (seen i) (x i) ≡ ℓ i
-  unfolding letterAt
-  letter-right i h = go (ℓ i) refl
-    where
-      here : getD (seen i) (vertexOf rot (opposite (x i))) 0 ≡ mark (vertexNo ℓ (m i)) (entered ℓ i)
-      here = seen-at i h
-
-      go : (l : Letter) → ℓ i ≡ l → by (getD (met i) (opposite (x i)) 0) (getD (seen i) (vertexOf rot (opposite (x i))) 0) ≡ l
-      go down e = ap₂ by (met-open i h (ap opens e)) (here ∙ mark-ge _ _ (le-of-eq (sym (vertex-new ℓ N b i h e))))
-      go up e = ap₂ by (met-close i h (ap opens e) ∙ ap (λ (l : Letter). code (fellow l)) e) here
-      go first e =
-          let k : m (m i) ≡ i = mate-inv ℓ N b .back i h in
-          let l = leb-true (vertexNo ℓ (m i)) (vertexNo ℓ (m (m i))) (vertex-ends ℓ N b true low (m i) (mate-inv ℓ N b .bound i h) (fellows ℓ N b i h ∙ ap fellow e)) in
-          let n = vertex-entered ℓ N b i (le-of-lt h) in
-          let same : vertexNo ℓ (m (m i)) ≡ vertexNo ℓ i = ap (vertexNo ℓ) k in
-          ap₂ by (met-open i h (ap opens e)) (here ∙ mark-lt (vertexNo ℓ (m i)) (entered ℓ i) (omega arith))
-      go second e = ap₂ by (met-close i h (ap opens e) ∙ ap (λ (l : Letter). code (fellow l)) e) here
-
-  -- ---- the walk
-
-  pub walk-on : (i : ℕ) → suc i < N → onward rot (ℓ i) (x i) ≡ x (suc i)
+  onward-turn : (i : ℕ) → i < N → onward rot (ℓ i) (x i) ≡ x (Chord.next N i)
   unfolding onward placeOf
-  walk-on i h = by-place (ℓ i) ∙ ap (next rot) (place w b i (le-of-lt h)) ∙ sym (step w b i h)
+  onward-turn i h = by-place (ℓ i) ∙ ap (next rot) (place w b i h) ∙ turn w b i h
     where
       by-place : (l : Letter) → onward rot l (x i) ≡ next rot (placeOf l (x i))
       by-place down = refl
@@ -174,52 +61,81 @@ module _ (w : List Letter) (b : Balance (letter w) (length w)) (low : Ends true 
       by-place first = refl
       by-place second = refl
 
-  unfoldable visit : ℕ → Visit
-  visit i = record { dart = x i; letter = ℓ i }
-
-  unfoldable run : ℕ → ℕ → List Visit
-  run zero i = []
-  run (suc k) i = visit i ∷ run k (suc i)
-
-  -- it goes on before its end
-  goes-on : (i e : ℕ) → suc i < N → e ≡ x (suc i) → (rest : ℕ → List Visit) → cond (eqb e 0) [] (rest e) ≡ rest (x (suc i))
-  goes-on i e h there rest =
-      let away : x (suc i) ≢ 0 = λ z. omega (arith, dart-perm ℓ N b .inj (suc i) 0 h some (z ∙ sym (dart-zero ℓ N b some))) in
-      ap (λ (d : ℕ). cond (eqb d 0) [] (rest d)) there ∙ ap (λ (c : Bool). cond c [] (rest (x (suc i)))) (ne-eqb (x (suc i)) 0 away)
-
-  walk-rest : (k i e : ℕ) → suc i + k ≡ N → (suc i < N → e ≡ x (suc i))
-      → walk rot 0 k (x (suc i)) (met (suc i)) (seen (suc i)) ≡ run k (suc i)
-      → cond (eqb e 0) [] (walk rot 0 k e (met (suc i)) (seen (suc i))) ≡ run k (suc i)
-  unfolding walk run
-  walk-rest zero i e h q ih = both (eqb e 0)
+  pair : (i j : ℕ) → i < j → j < N → x j ≡ opposite (x i) → ((ℓ i ≡ down) × (ℓ j ≡ up)) ⊎ ((ℓ i ≡ first) × (ℓ j ≡ second))
+  pair i j l hj e = go (ℓ i) refl
     where
-      both : (c : Bool) → _≡_ {A = List Visit} (cond c [] []) []
-      both true = refl
-      both false = refl
-  walk-rest (suc k) i e h q ih = goes-on i e (omega arith) (q (omega arith)) (λ d. walk rot 0 (suc k) d (met (suc i)) (seen (suc i))) ∙ ih
+      h : i < N
+      h = omega arith
 
-  walk-is : (k i : ℕ) → i + k ≡ N → walk rot 0 k (x i) (met i) (seen i) ≡ run k i
-  unfolding walk run filled seen visit
-  walk-is zero i h = refl
-  walk-is (suc k) i h =
-      let hi : i < N = omega arith in
-      let more : suc i + k ≡ N = omega arith in
-      ap (λ (l : Letter). record { dart = x i; letter = l } ∷ cond (eqb (onward rot l (x i)) 0) []
-      (walk rot 0 k (onward rot l (x i)) (set (met i) (x i) (code l)) (seenAfter rot l (x i) (seen i)))) (letter-right i hi)
-      ∙ ap (λ (vs : List Visit). visit i ∷ vs) (walk-rest k i (onward rot (ℓ i) (x i)) more (walk-on i) (walk-is k (suc i) more))
+      same : j ≡ m i
+      same = dart-perm ℓ N b .inj j (m i) hj (mate-inv ℓ N b .bound i h) (e ∙ sym (dart-mate ℓ N b i h))
 
-  built-visits : visits (planOf w) ≡ run N 0
-  unfolding visits planOf filled seen
-  built-visits =
-      ap (λ (n : ℕ). walk rot 0 n 0 (replicate n 0) (set (replicate n 0) (vertexOf rot 0) 1)) (rotation-length w)
-      ∙ ap (λ (d : ℕ). walk rot 0 N d (replicate N 0) (set (replicate N 0) (vertexOf rot d) 1)) (sym (dart-zero ℓ N b some))
-      ∙ walk-is N 0 (omega arith)
+      other : (l : Letter) → ℓ i ≡ l → ℓ j ≡ fellow l
+      other l f = ap ℓ same ∙ fellows ℓ N b i h ∙ ap fellow f
 
-  run-letters : (k i : ℕ) → i + k ≡ N → map (λ (v : Visit). v .letter) (run k i) ≡ drop i w
-  unfolding run visit
-  run-letters zero i h = let e : N ≡ i = omega arith in sym (drop-length w) ∙ ap (λ (n : ℕ). drop n w) e
-  run-letters (suc k) i h = ap (λ (v : List Letter). ℓ i ∷ v) (run-letters k (suc i) (omega arith)) ∙ sym (drop-cons w i second (omega arith))
+      go : (l : Letter) → ℓ i ≡ l → ((ℓ i ≡ down) × (ℓ j ≡ up)) ⊎ ((ℓ i ≡ first) × (ℓ j ≡ second))
+      go down f = inl (f, other down f)
+      go up f = absurd (omega (arith, same, earlier ℓ N b i h (ap opens f)))
+      go first f = inr (f, other first f)
+      go second f = absurd (omega (arith, same, earlier ℓ N b i h (ap opens f)))
 
-  pub walked : word (planOf w) ≡ w
-  unfolding word
-  walked = ap (map (λ (v : Visit). v .letter)) built-visits ∙ run-letters N 0 (omega arith)
+  -- ---- the vertices that are entered
+
+  -- each has been stood at
+  visited : (i v : ℕ) → v < entered ℓ i → (j : ℕ) × (j ≤ i) × (vertexNo ℓ j ≡ v)
+  unfolding entered count vertexNo stack
+  visited zero v h = (0, le-refl 0, omega arith)
+  visited (suc i) v h = go (ℓ i) refl (visited i v)
+    where
+      earlier-on : (j : ℕ) × (j ≤ i) × (vertexNo ℓ j ≡ v) → (j : ℕ) × (j ≤ suc i) × (vertexNo ℓ j ≡ v)
+      earlier-on (j, l, e) = (j, le-step l, e)
+
+      go : (l : Letter) → ℓ i ≡ l → (v < entered ℓ i → (j : ℕ) × (j ≤ i) × (vertexNo ℓ j ≡ v)) → (j : ℕ) × (j ≤ suc i) × (vertexNo ℓ j ≡ v)
+      go down e before =
+          lt-suc-split (omega (arith, entered-by ℓ i down e))
+          (λ q. (suc i, le-refl (suc i), ap (λ (l : Letter). vertexTop ℓ (push (treeKind l) i (treeStack ℓ i))) e ∙ sym q))
+          (λ l. earlier-on (before l))
+      go up e before = earlier-on (before (omega (arith, entered-by ℓ i up e)))
+      go first e before = earlier-on (before (omega (arith, entered-by ℓ i first e)))
+      go second e before = earlier-on (before (omega (arith, entered-by ℓ i second e)))
+
+  there : (i : ℕ) → i < N → vertexOf rot (opposite (x i)) ≡ vertexOf rot (x (m i))
+  there i h = ap (vertexOf rot) (sym (dart-mate ℓ N b i h))
+
+  new : (i : ℕ) → i < N → ℓ i ≡ down → (j : ℕ) → j ≤ i → vertexOf rot (x j) ≡ vertexOf rot (opposite (x i)) → ⊥
+  unfolding entered
+  new i h e j l v =
+      let same = vertex-number w b j (m i) (omega arith) (mate-inv ℓ N b .bound i h) (v ∙ there i h) ∙ vertex-new ℓ N b i h e in
+      omega (arith, vertex-entered ℓ N b j (omega arith), count-grows (λ k. isDown (ℓ k)) j i l)
+
+  old : (i : ℕ) → i < N → ℓ i ≡ first → (j : ℕ) × (j ≤ i) × (vertexOf rot (x j) ≡ vertexOf rot (opposite (x i)))
+  old i h e =
+      let hm = mate-inv ℓ N b .bound i h in
+      let back : vertexNo ℓ (m (m i)) ≡ vertexNo ℓ i = ap (vertexNo ℓ) (mate-inv ℓ N b .back i h) in
+      let lower = leb-true (vertexNo ℓ (m i)) (vertexNo ℓ (m (m i))) (vertex-ends ℓ N b true low (m i) hm (fellows ℓ N b i h ∙ ap fellow e)) in
+      let (j, l, v) = visited i (vertexNo ℓ (m i)) (omega (arith, vertex-entered ℓ N b i (le-of-lt h))) in
+      (j, l, vertex-same w b j (m i) (omega arith) hm v ∙ sym (there i h))
+
+  pub word-ruled : Ruled (rotationOf w) 0 (length w) (dartNo (letter w)) (letter w)
+  word-ruled = record {
+    some-met = some;
+    different = λ i j hi hj. dart-perm ℓ N b .inj i j hi hj;
+    starts = dart-zero ℓ N b some;
+    step = λ i h. ⊎-elim (λ c. ap x (sym (c .1))) (λ c. absurd (omega arith)) (next-cases N i (le-of-lt h)) ∙ sym (onward-turn i (le-of-lt h));
+    closes = λ i e.
+        onward-turn i (omega arith)
+        ∙ ⊎-elim (λ c. absurd (omega arith)) (λ c. ap x (c .1) ∙ dart-zero ℓ N b some) (next-cases N i (omega arith));
+    across = λ i h. (m i, mate-inv ℓ N b .bound i h, dart-mate ℓ N b i h);
+    pair = pair;
+    new = new;
+    old = old;
+  }
+
+  module _ (walked : Walked (planOf w)) where
+    pub built-walk : word (planOf w) ≡ w
+    unfolding planOf
+    built-walk = ruled-word (planOf w) walked w word-ruled
+
+    pub built-dart : (i : ℕ) → i < length w → dartAt (planOf w) i ≡ dartNo (letter w) i
+    unfolding planOf
+    built-dart i h = let size = ruled-size (walked .ruled) word-ruled in ruled-same (walked .ruled) word-ruled i (omega arith) h .0

@@ -48,7 +48,7 @@ module _ (p : Plan) (fits : dartCountFits (darts p) ≡ true) (hr : p .root < da
 
   pub connected-met : connected (p .rotation) ≡ true → (x : ℕ) → x < N → Among p x
   connected-met e =
-      connected-from (p .rotation) (count-even N fits) good e (Among p) (walk-closed p fits hr good) (p .root) hr (0, w .some-met, w .starts)
+      connected-from (p .rotation) (count-even N fits) good e (Among p) (walk-closed p fits hr good) (p .root) hr (0, w .ruled .some-met, w .ruled .starts)
 
   all-long : ((x : ℕ) → x < N → Among p x) → length (visits p) ≡ N
   all-long all =
@@ -68,7 +68,7 @@ module _ (p : Plan) (fits : dartCountFits (darts p) ≡ true) (hr : p .root < da
         to = λ i h t. dartAt p i;
         bound = λ i h t. w .dart-bound i h;
         passes = λ i h t. among-met p (dartAt p i) (i, h, refl);
-        inj = λ i j hi hj t u f. w .different i j hi hj f;
+        inj = λ i j hi hj t u f. w .ruled .different i j hi hj f;
       }) in
       met-among p x (count-tight (isMet p) (λ i. true) N (λ i h t. tt) (omega (arith, count-all N, count-all (length (visits p)))) x h tt)
 

@@ -6,6 +6,7 @@ mod Steps
 mod Follow
 mod Merged
 mod Round
-mod Walk
+pub mod Walk
+pub mod Ruled
 pub mod Complete
 pub mod Toured

@@ -60,7 +60,7 @@ module _ (p : Plan) (fits : dartCountFits (darts p) ≡ true) (hr : p .root < da
 
   pos-dart : (i : ℕ) → i < N → posOf p (dartAt p i) ≡ i
   pos-dart i h =
-      let (b, f) = pos-of (dartAt p i) (dart-below i h) in w .different (posOf p (dartAt p i)) i (met-at (posOf p (dartAt p i)) b) (met-at i h) f
+      let (b, f) = pos-of (dartAt p i) (dart-below i h) in w .ruled .different (posOf p (dartAt p i)) i (met-at (posOf p (dartAt p i)) b) (met-at i h) f
 
   -- ---- the position of the opposite
 
@@ -74,9 +74,9 @@ module _ (p : Plan) (fits : dartCountFits (darts p) ≡ true) (hr : p .root < da
   mate-split i h later sooner =
       let (b, f) = mate-of i h in
       tri i (mateOf p i)
-      (λ l. later l (w .pair i (mateOf p i) l (met-at (mateOf p i) b) f))
+      (λ l. later l (w .ruled .pair i (mateOf p i) l (met-at (mateOf p i) b) f))
       (λ q. absurd (opposite-ne (dartAt p i) (sym f ∙ ap (dartAt p) (sym q))))
-      (λ g. sooner (w .pair (mateOf p i) i g (met-at i h) (sym (opposite-opposite (dartAt p i)) ∙ ap opposite (sym f))))
+      (λ g. sooner (w .ruled .pair (mateOf p i) i g (met-at i h) (sym (opposite-opposite (dartAt p i)) ∙ ap opposite (sym f))))
 
   toured : Toured p
   toured = record {
@@ -85,17 +85,17 @@ module _ (p : Plan) (fits : dartCountFits (darts p) ≡ true) (hr : p .root < da
     pos-bound = λ x h. pos-of x h .0;
     dart-pos = λ x h. pos-of x h .1;
     pos-dart = pos-dart;
-    starts = w .starts;
-    step = λ i h. w .step i (met-at (suc i) h);
-    closes = λ i q. w .closes i (q ∙ sym long);
+    starts = w .ruled .starts;
+    step = λ i h. w .ruled .step i (met-at (suc i) h);
+    closes = λ i q. w .ruled .closes i (q ∙ sym long);
     fellows = λ i h. mate-split i h
         (λ l m. fellow-later (letterOf p i) (letterOf p (mateOf p i)) m)
         (λ m. fellow-sooner (letterOf p (mateOf p i)) (letterOf p i) m);
     opens-first = λ i h o. mate-split i h
         (λ l m. l)
         (λ m. absurd (true≢false (sym o ∙ closes-later (letterOf p (mateOf p i)) (letterOf p i) m)));
-    new = λ i h. w .new i (met-at i h);
-    old = λ i h. w .old i (met-at i h);
+    new = λ i h. w .ruled .new i (met-at i h);
+    old = λ i h. w .ruled .old i (met-at i h);
   }
 
 pub walk-toured : (p : Plan) → dartCountFits (darts p) ≡ true → p .root < darts p → isPermutation (p .rotation) ≡ true

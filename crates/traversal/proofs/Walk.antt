@@ -22,7 +22,7 @@ use Rattle.orbits.proofs.Maps.{next-perm, opposite-inv}
 use Rattle.words.specs.Toured.{dartsMet, dartAt, letterOf}
 use Rattle.traversal.specs.Reach.{Closed}
 use Rattle.traversal.specs.Steps.{at, start, step, letter, dart, letterOf as letterAfter, seenMark}
-use Rattle.traversal.specs.Walked.{Among, Walked}
+use Rattle.traversal.specs.Walked.{Ruled, Among, Walked}
 use Rattle.traversal.proofs.Steps.{case, down-case, first-case, dart-step, dart-bound, seen-here, seen-some}
 use Rattle.traversal.proofs.Round.{Round, round, different, met-across, met-turn, pair}
 
@@ -118,11 +118,6 @@ module _ (p : Plan) (turn : Perm (darts p) (next (p .rotation))) (cross : Involu
   within : (i : ℕ) → i < length (visits p) → i < n
   within i h = subst (λ (k : ℕ). i < k) size h
 
-  across : (x : ℕ) → Among p x → Among p (opposite x)
-  across x a =
-      let (j, h, e) = met x a in
-      among (opposite x) (subst (λ (y : ℕ). (i : ℕ) × (i < n) × (dart rot r i ≡ opposite y)) e (met-across rot r turn cross hr o j h))
-
   turn-on : (x : ℕ) → Among p x → Among p (next rot x)
   turn-on x a =
       let (j, h, e) = met x a in
@@ -155,21 +150,26 @@ module _ (p : Plan) (turn : Perm (darts p) (next (p .rotation))) (cross : Involu
   unfolding dart at start
   root-first = dart-is 0 (omega arith)
 
-  walked-perm : Walked p
-  walked-perm = record {
+  rules : Ruled rot r (length (visits p)) (dartAt p) (letterOf p)
+  rules = record {
     some-met = omega (arith, size);
-    few-met = omega (arith, size, o .fits);
-    dart-bound = λ i h. subst (λ (d : ℕ). d < darts p) (sym (dart-is i (within i h))) (dart-bound rot r turn cross hr i);
     different = λ i j hi hj e.
         different rot r turn cross hr o i j (within i hi) (within j hj) (sym (dart-is i (within i hi)) ∙ e ∙ dart-is j (within j hj));
     starts = root-first;
     step = λ i h. let b : suc i < n = within (suc i) h in dart-is (suc i) b ∙ sym (step-on i (le-of-lt b));
     closes = λ i e. let last : suc i ≡ n = e ∙ size in step-on i (omega arith) ∙ ap (dart rot r) last ∙ o .returns;
-    across = across;
-    turn = turn-on;
+    across = λ i h. among (opposite (dartAt p i)) (rw (dart-is i (within i h)) (met-across rot r turn cross hr o i (within i h)));
     pair = λ i j h hj e. paired i j h (within j hj) e;
     new = λ i h. new-vertex i (within i h);
     old = λ i h. old-vertex i (within i h);
+  }
+
+  walked-perm : Walked p
+  walked-perm = record {
+    ruled = rules;
+    few-met = omega (arith, size, o .fits);
+    dart-bound = λ i h. subst (λ (d : ℕ). d < darts p) (sym (dart-is i (within i h))) (dart-bound rot r turn cross hr i);
+    turn = turn-on;
   }
 
 -- ---- any plan that passes the tests on its darts, its root and its entries
@@ -185,7 +185,10 @@ module _ (p : Plan) (fits : dartCountFits (darts p) ≡ true) (hr : p .root < da
   walked = walked-perm p turn cross hr
 
   pub walk-closed : Closed (p .rotation) (Among p)
-  walk-closed = record { across = λ d h a. walked .across d a; turn = λ d h a. walked .turn d a }
+  walk-closed = record {
+    across = λ d h (i, hi, e). let (j, hj, f) = walked .ruled .across i hi in (j, hj, f ∙ ap opposite e);
+    turn = λ d h a. walked .turn d a;
+  }
 
   -- ---- the least closed set that has the root
 
@@ -197,9 +200,9 @@ module _ (p : Plan) (fits : dartCountFits (darts p) ≡ true) (hr : p .root < da
   on-in S c second d h s = c .turn d h s
 
   visit-in : (S : ℕ → Type 0) → Closed (p .rotation) S → S (p .root) → (i : ℕ) → i < length (visits p) → S (dartAt p i)
-  visit-in S c s zero h = subst S (sym (walked .starts)) s
+  visit-in S c s zero h = subst S (sym (walked .ruled .starts)) s
   visit-in S c s (suc i) h =
-      subst S (sym (walked .step i h))
+      subst S (sym (walked .ruled .step i h))
       (on-in S c (letterOf p i) (dartAt p i) (walked .dart-bound i (le-of-lt h)) (visit-in S c s i (le-of-lt h)))
 
   pub walk-least : (S : ℕ → Type 0) → Closed (p .rotation) S → S (p .root) → (x : ℕ) → Among p x → S x
