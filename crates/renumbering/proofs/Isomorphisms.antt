@@ -1,8 +1,7 @@
--- Isomorphisms of maps make a groupoid, and carry faces and vertices. Assumes nothing.
+-- Isomorphisms of maps have inverses and compositions, and carry faces and vertices. Assumes nothing.
 --
 --   eqb-both              tests of equality that agree
 --   image-perm, image-bound, image-inj   partners are darts, and different darts have different partners
---   identity-at, iso-identity    the identity is an isomorphism
 --   back-left, back-right, back-bound   the inverse leads back, both ways
 --   iso-inverse           the inverse of an isomorphism is one
 --   then, iso-composed    two isomorphisms one after the other are one
@@ -11,7 +10,7 @@
 --   iso-vertex            two darts are of one vertex exactly when their partners are
 use Prim.Native.Nat.{ℕ, _%_, _<_}
 use native.Mathlib.Omega.{arith}
-use mathlib.Core.Path.{_≡_, refl, sym, ap, subst, _∙_}
+use mathlib.Core.Path.{_≡_, sym, ap, subst, _∙_}
 use mathlib.Core.Logic.{_↔_}
 use mathlib.Core.Bool.{true}
 use mathlib.Core.List.{List}
@@ -24,10 +23,10 @@ use Rattle.model.proofs.Opposite.{opposite-bound}
 use Rattle.orbits.specs.Permutation.{Perm}
 use Rattle.orbits.proofs.Order.{eq-split}
 use Rattle.orbits.proofs.Cycle.{least-step, least-keeps}
-use Rattle.orbits.proofs.Table.{length-tabulate, tabulate-at}
+use Rattle.orbits.proofs.Table.{length-tabulate}
 use Rattle.orbits.proofs.Maps.{list-perm, perm-list, next-perm}
-use Rattle.renumbering.specs.Isomorphism.{Isomorphism, identityOf, inverseOf, composed}
-use Rattle.renumbering.proofs.Permutations.{of-list, identity-perm}
+use Rattle.renumbering.specs.Isomorphism.{Isomorphism, inverseOf, composed}
+use Rattle.renumbering.proofs.Permutations.{of-list}
 use Rattle.renumbering.proofs.Permutations.{length-inverse, inverse-bound, inverse-left, inverse-right, inverse-perm, composed-at, composed-perm}
 
 -- two tests of equality that agree
@@ -46,25 +45,7 @@ module _ {rot rot′ f : List ℕ} (iso : Isomorphism rot rot′ f) where
   pub image-inj : (d e : ℕ) → d < length rot → e < length rot → getD f d 0 ≡ getD f e 0 → d ≡ e
   image-inj = image-perm .inj
 
--- ---- identity, inverse, composition
-
-module _ (rot : List ℕ) (two : length rot % 2 ≡ 0) (perm : isPermutation rot ≡ true) where
-  pub identity-at : (d : ℕ) → d < length rot → getD (identityOf (length rot)) d 0 ≡ d
-  unfolding identityOf
-  identity-at d h = tabulate-at (λ d. d) (length rot) d h
-
-  length-identity : length (identityOf (length rot)) ≡ length rot
-  unfolding identityOf
-  length-identity = length-tabulate (λ d. d) 0 (length rot)
-
-  pub iso-identity : Isomorphism rot rot (identityOf (length rot))
-  iso-identity = record {
-    size = length-identity;
-    same-darts = refl;
-    partners = identity-perm (length rot);
-    opposites = λ d h. identity-at (opposite d) (opposite-bound (length rot) d two h) ∙ ap opposite (sym (identity-at d h));
-    rotations = λ d h. identity-at (next rot d) (next-perm rot perm .bound d h) ∙ ap (next rot) (sym (identity-at d h));
-  }
+-- ---- inverse, composition
 
 module _ {rot rot′ f : List ℕ} (two : length rot % 2 ≡ 0) (perm : isPermutation rot ≡ true) (iso : Isomorphism rot rot′ f) where
   -- the partner's partner the other way round

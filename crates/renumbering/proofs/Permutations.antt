@@ -1,10 +1,9 @@
--- Lists that are made of functions, and permutations as lists: inverse, identity, composition. Assumes nothing.
+-- Lists that are made of functions, and permutations as lists: inverse, composition. Assumes nothing.
 --
 --   of-list f             a list as a function
 --   tabulate-perm         a tabulated permutation passes isPermutation
 --   length-inverse, inverse-bound, inverse-perm   the inverse of a permutation is a permutation of the same size
 --   inverse-left, inverse-right   it undoes the permutation, both ways
---   identity-perm         the identity is a permutation
 --   composed-at, composed-perm   two permutations one after the other are one
 use Prim.Native.Nat.{ℕ, _<_}
 use native.Mathlib.Omega.{arith}
@@ -18,7 +17,7 @@ use Rattle.orbits.specs.Permutation.{Perm}
 use Rattle.orbits.specs.Table.{tabulate}
 use Rattle.orbits.proofs.Table.{length-tabulate, tabulate-at}
 use Rattle.orbits.proofs.Maps.{list-perm, perm-list, onto}
-use Rattle.renumbering.specs.Isomorphism.{identityOf, inverseOf, composed}
+use Rattle.renumbering.specs.Isomorphism.{inverseOf, composed}
 
 abbrev pub of-list : List ℕ → ℕ → ℕ
 of-list f d = getD f d 0
@@ -64,11 +63,7 @@ module _ (f : List ℕ) (e : isPermutation f ≡ true) where
     inj = λ i j hi hj same. sym (position-in i hi .1) ∙ ap (of-list f) same ∙ position-in j hj .1;
   })
 
--- ---- the identity and compositions
-
-pub identity-perm : (n : ℕ) → isPermutation (identityOf n) ≡ true
-unfolding identityOf
-identity-perm n = tabulate-perm n (λ d. d) (record { bound = λ i h. h; inj = λ i j hi hj e. e })
+-- ---- compositions
 
 module _ (f g : List ℕ) (same : length f ≡ length g) (perm-f : isPermutation f ≡ true) (perm-g : isPermutation g ≡ true) where
   pub composed-at : (d : ℕ) → d < length f → getD (composed f g) d 0 ≡ getD g (getD f d 0) 0

@@ -1,8 +1,8 @@
--- Renumberings of plans make a groupoid, and carry vertices. Assumes nothing.
+-- Renumberings of plans have inverses and compositions, and carry vertices. Assumes nothing.
 --
 --   iso-of                a renumbering is an isomorphism of the maps
 --   with-root             an isomorphism that sends root to root is a renumbering
---   identity, inverse, compose   the identity of a plan, the inverse of a renumbering, two renumberings one after the other
+--   inverse, compose      the inverse of a renumbering, two renumberings one after the other
 --   carries-darts, carries-root, carries-permutation   what makes the second plan a plan
 --   carries-vertex        two darts are of one vertex exactly when their partners are
 use Prim.Native.Nat.{ℕ, _%_, _<_}
@@ -16,10 +16,10 @@ use Rattle.model.specs.Numbers.{isPermutation}
 use Rattle.model.specs.Map.{Plan, darts, vertexOf, dartCountFits}
 use Rattle.model.specs.Renumbering.{Renumbering}
 use Rattle.model.proofs.Fitness.{count-even}
-use Rattle.renumbering.specs.Isomorphism.{Isomorphism, identityOf, inverseOf, composed}
+use Rattle.renumbering.specs.Isomorphism.{Isomorphism, inverseOf, composed}
 use Rattle.renumbering.proofs.Permutations.{of-list}
-use Rattle.renumbering.proofs.Isomorphisms.{image-bound, identity-at, back-left, then}
-use Rattle.renumbering.proofs.Isomorphisms.{iso-identity, iso-inverse, iso-composed, iso-permutation, iso-vertex}
+use Rattle.renumbering.proofs.Isomorphisms.{image-bound, back-left, then}
+use Rattle.renumbering.proofs.Isomorphisms.{iso-inverse, iso-composed, iso-permutation, iso-vertex}
 
 pub iso-of : {p q : Plan} {f : List ℕ} → Renumbering p q f → Isomorphism (p .rotation) (q .rotation) f
 iso-of r = record { size = r .size; same-darts = r .same-darts; partners = r .partners; opposites = r .opposites; rotations = r .rotations }
@@ -38,9 +38,6 @@ with-root iso e = record {
 module _ (p : Plan) (fits : dartCountFits (darts p) ≡ true) (root-in : p .root < darts p) (perm : isPermutation (p .rotation) ≡ true) where
   two : darts p % 2 ≡ 0
   two = count-even (darts p) fits
-
-  pub identity : Renumbering p p (identityOf (darts p))
-  identity = with-root (iso-identity (p .rotation) two perm) (identity-at (p .rotation) two perm (p .root) root-in)
 
   module _ (q : Plan) (f : List ℕ) (r : Renumbering p q f) where
     pub inverse : Renumbering q p (inverseOf f)

@@ -1,7 +1,6 @@
 -- Isomorphisms of maps without roots, and the lists that make them.
 --
 --   Isomorphism rot rot′ f   f carries the map with rotation rot to the one with rotation rot′
---   identityOf n          each dart below n is its own partner
 --   inverseOf f           partners the other way round
 --   composed f g          the partner in g of the partner in f
 use Prim.Native.Nat.{ℕ, _<_}
@@ -20,9 +19,6 @@ pub record Isomorphism (rot rot′ f : List ℕ) : Type 0 where
   pub partners : isPermutation f ≡ true
   pub opposites : (d : ℕ) → d < length rot → getD f (opposite d) 0 ≡ opposite (getD f d 0)
   pub rotations : (d : ℕ) → d < length rot → getD f (next rot d) 0 ≡ next rot′ (getD f d 0)
-
-unfoldable pub identityOf : ℕ → List ℕ
-identityOf n = tabulate (λ d. d) 0 n
 
 unfoldable pub inverseOf : List ℕ → List ℕ
 inverseOf f = tabulate (λ d. position d f) 0 (length f)

@@ -8,7 +8,7 @@ mod WordDarts
 pub mod Mates
 pub mod Numbered
 pub mod Darts
-pub mod Lists
+mod Lists
 pub mod Rotation
 pub mod Leaves
 pub mod Validity

@@ -3,7 +3,6 @@
 --   filled n q y k   n zeros, after y i was entered at place q i for each i below k
 --   length-filled    its length
 --   filled-at        an entry that was made
---   filled-none      one that was not made yet
 --   head-drop        the head of what is left after i entries
 use Prim.Native.Nat.{ℕ, zero, suc, _≤_, _<_}
 use native.Mathlib.Nat.{not-suc-le-zero, le-of-lt, add-zero}
@@ -11,7 +10,7 @@ use native.Mathlib.Omega.{arith}
 use mathlib.Core.Path.{_≡_, sym, ap, subst, _∙_}
 use mathlib.Core.Logic.{_≢_}
 use mathlib.Core.List.{List}
-use lib.ListN.{length, getD, set, drop, replicate, length-set, length-replicate, getD-replicate}
+use lib.ListN.{length, getD, set, drop, replicate, length-set, length-replicate}
 use lib.Seq.{getD-set-same, getD-set-other, getD-drop}
 use Rattle.orbits.specs.Permutation.{Perm}
 use Rattle.orbits.proofs.Order.{lt-suc-split}
@@ -43,11 +42,6 @@ module _ (n : ℕ) (q y : ℕ → ℕ) (perm : Perm n q) where
       lt-suc-split l
       (λ e. subst (λ (i : ℕ). getD (filled n q y (suc k)) (q i) 0 ≡ y i) (sym e) (new-at k h))
       (λ m. old-at j k (omega arith) h (λ e. omega arith) ∙ ih m)
-
-  pub filled-none : (k : ℕ) → k ≤ n → (j : ℕ) → j < n → k ≤ j → getD (filled n q y k) (q j) 0 ≡ 0
-  unfolding filled
-  filled-none zero h j hj l = getD-replicate n (q j) 0 0 (perm .bound j hj)
-  filled-none (suc k) h j hj l = old-at j k hj h (λ e. omega arith) ∙ filled-none k (le-of-lt h) j hj (le-of-lt l)
 
 pub head-drop : (xs : List ℕ) (i : ℕ) → head (drop i xs) ≡ getD xs i 0
 head-drop xs i = head-at (drop i xs) ∙ getD-drop i xs 0 0 ∙ ap (λ (k : ℕ). getD xs k 0) (add-zero i)
