@@ -1,7 +1,8 @@
 -- Laws of fitness: what `fit k p` says, part by part. The laws of opposites and of permutations as lists are passed on from here.
 --
 --   Fit, fit-parts, parts-fit    the parts of fitness
---   count-parts, parts-count     a dart count that fits is positive, even and at most 8,192
+--   edges-parts, parts-edges     an edge count that fits is from 1 to 4,096; edges-unfit, one that does not is not
+--   count-parts, parts-count     a dart count that fits is positive, even and at most 8,192; count-unfit, one that does not is not
 --   count-positive, count-even   its first two parts
 --   even-darts                   the dart count is twice the number of edges
 --   connected-at, at-connected   every dart is reached
@@ -10,15 +11,15 @@
 use mathlib.Core.Path.{_≡_, ap}
 use mathlib.Core.Logic.{_≢_}
 use mathlib.Core.Bool.{Bool, true, false, not, _&&_}
-use Prim.Native.Nat.{ℕ, _*_, _%_, _≤_, _<_}
+use Prim.Native.Nat.{ℕ, _*_, _/_, _%_, _≤_, _<_}
 use native.Mathlib.Omega.{arith}
 use mathlib.Core.List.{List}
 use lib.Dec.{eqb, ltb}
 use lib.ListN.{length, getD}
 use borrow.Author.Tests.{ltb-true, eqb-true, eqb-false, leb-true, lt-ltb, eq-eqb, ne-eqb, le-leb}
 use Rattle.model.specs.Numbers.{isPermutation}
-use Rattle.model.specs.Map.{Plan, darts, opposite, next, vertexOf, edges, isKind, dartCountFits, degreeOne, reached, connected, planar, hasLoop, hasDeadEnd, degreeRefused, fit}
-use Rattle.model.proofs.Booleans.{and-left, and-right, both, not-left, some-at, some-in, some-no, no-some}
+use Rattle.model.specs.Map.{Plan, darts, opposite, next, vertexOf, edges, isKind, edgeCountFits, dartCountFits, degreeOne, reached, connected, planar, hasLoop, hasDeadEnd, degreeRefused, fit}
+use Rattle.model.proofs.Booleans.{and-left, and-right, both, not-left, not-intro, some-at, some-in, some-no, no-some}
 pub use Rattle.model.proofs.Opposite.{opposite-opposite, opposite-ne, opposite-bound, opposite-edge}
 pub use Rattle.model.proofs.Permutations.{below-all, distinct-at, position-entry}
 
@@ -57,16 +58,28 @@ module _ (k : ℕ) (p : Plan) where
   unfolding fit
   parts-fit f = rw (f .kind, f .count, lt-ltb (p .root) (darts p) (f .root), f .entries, f .joined, f .flat, f .loopless, f .degrees)
 
--- a dart count that fits is even, positive and at most 8,192
+pub edges-parts : (m : ℕ) → edgeCountFits m ≡ true → (1 ≤ m) × (m ≤ 4096)
+edges-parts m e = (ltb-true 0 m (and-left (ltb 0 m) _ e), leb-true m 4096 (and-right (ltb 0 m) _ e))
+
+pub parts-edges : (m : ℕ) → 1 ≤ m → m ≤ 4096 → edgeCountFits m ≡ true
+parts-edges m h l = both (lt-ltb 0 m h) (le-leb m 4096 l)
+
+pub edges-unfit : (m : ℕ) → ((1 ≤ m) × (m ≤ 4096) → ⊥) → edgeCountFits m ≡ false
+edges-unfit m f = not-intro (edgeCountFits m) (λ e. f (edges-parts m e))
+
 pub count-parts : (n : ℕ) → dartCountFits n ≡ true → (0 < n) × (n % 2 ≡ 0) × (n ≤ 8192)
 unfolding dartCountFits
 count-parts n e =
-    let r = and-right (ltb 0 n) _ e in
-    (ltb-true 0 n (and-left (ltb 0 n) _ e), eqb-true (n % 2) 0 (and-left (eqb (n % 2) 0) _ r), leb-true n 8192 (and-right (eqb (n % 2) 0) _ r))
+    let even = eqb-true (n % 2) 0 (and-left (eqb (n % 2) 0) _ e) in
+    let m = edges-parts (n / 2) (and-right (eqb (n % 2) 0) _ e) in
+    (omega arith, even, omega arith)
 
 pub parts-count : (n : ℕ) → 0 < n → n % 2 ≡ 0 → n ≤ 8192 → dartCountFits n ≡ true
 unfolding dartCountFits
-parts-count n h e l = rw (lt-ltb 0 n h, eq-eqb (n % 2) 0 e, le-leb n 8192 l)
+parts-count n h e l = both (eq-eqb (n % 2) 0 e) (parts-edges (n / 2) (omega arith) (omega arith))
+
+pub count-unfit : (n : ℕ) → ((0 < n) × (n % 2 ≡ 0) × (n ≤ 8192) → ⊥) → dartCountFits n ≡ false
+count-unfit n f = not-intro (dartCountFits n) (λ e. f (count-parts n e))
 
 pub count-positive : (n : ℕ) → dartCountFits n ≡ true → 0 < n
 count-positive n e = count-parts n e .0

@@ -7,6 +7,7 @@
 --   recordLength-range   a record has from 7 to 1850 bytes
 --   Passes               what passing says
 --   passes-facts, facts-passes    from the test, and to headRefusal r ≡ 0
+--   head-first, head-none         the first of the head's refusals and others behind them; if it is 0, it is 0 in both
 --   head-long            bytes that 1, 2, 3 and 5 don't concern have a head
 --   passes-length        a record that passes has its length field's length
 --   passes-long          a record that passes has 6 bytes or more
@@ -15,17 +16,18 @@ use Prim.Native.Nat.{ℕ, _+_, _*_, _/_, _%_, _≤_, _<_}
 use native.Mathlib.Omega.{arith}
 use mathlib.Core.Path.{_≡_, refl, sym, subst}
 use mathlib.Core.Bool.{Bool, true, false, cond}
-use mathlib.Core.List.{List, [], _∷_}
+use mathlib.Core.List.{List, [], _∷_, _++_}
 use lib.Dec.{eqb, ltb}
 use lib.ListN.{length, getD}
-use borrow.Author.Tests.{le-ltb, eq-eqb, ne-eqb, ltb-false, eqb-true, eqb-false, not-false}
-use Rattle.model.specs.Numbers.{allBelow, firstRefusal}
+use borrow.Author.Tests.{le-ltb, eq-eqb, ne-eqb, ltb-false, eqb-true, not-false}
+use Rattle.model.specs.Numbers.{allBelow, Refusal, firstRefusal}
 use Rattle.model.specs.Map.{isKind}
 use Rattle.model.specs.Record.{le16, recordLength}
-use Rattle.model.specs.Shelf.{word16, kindOf, edgesOf, headRefusal, passes}
+use Rattle.model.specs.Shelf.{word16, kindOf, edgesOf, headRefusals, headRefusal, passes}
 use Rattle.model.proofs.Booleans.{or-split, or-none}
 use Rattle.model.proofs.Below.{below-cons}
-use Rattle.model.proofs.Refusals.{none-holds}
+use Rattle.model.proofs.Fitness.{edges-parts, parts-edges}
+use Rattle.model.proofs.Refusals.{none-holds, first-append, append-none}
 
 pub le16-word16 : (a b : ℕ) → a < 256 → b < 256 → le16 (a + 256 * b) ≡ a ∷ b ∷ []
 unfolding le16
@@ -73,18 +75,17 @@ pub record Passes (r : List ℕ) : Type 0 where
   pub right-length : length r ≡ recordLength (kindOf r) (edgesOf r)
 
 zero-facts : (r : List ℕ) → headRefusal r ≡ 0 → Passes r
-unfolding headRefusal
+unfolding headRefusal headRefusals
 zero-facts r e =
     let no = none-holds _ refl e in
     let (long, field) = or-none (ltb (length r) 6) _ (no 1) in
-    let (some, few) = or-none (eqb (edgesOf r) 0) _ (no 3) in
-    let z = eqb-false (edgesOf r) 0 some in
+    let (some, few) = edges-parts (edgesOf r) (not-false _ (no 3)) in
     record {
       whole-head = ltb-false _ _ long;
       length-field = eqb-true _ _ (not-false _ field);
       kind = not-false _ (no 2);
-      some-edge = omega arith;
-      few-edges = ltb-false _ _ few;
+      some-edge = some;
+      few-edges = few;
       right-length = eqb-true _ _ (not-false _ (no 5));
     }
 
@@ -93,17 +94,24 @@ unfolding passes
 passes-facts r p = zero-facts r (eqb-true _ 0 p)
 
 pub facts-passes : (r : List ℕ) → Passes r → headRefusal r ≡ 0
-unfolding headRefusal firstRefusal
+unfolding headRefusal headRefusals firstRefusal
 facts-passes r p =
-    let z : edgesOf r ≡ 0 → ⊥ = λ e. let s = p .some-edge in omega arith in
     rw (
       le-ltb (length r) 6 (p .whole-head),
       eq-eqb (word16 r 0) (length r) (p .length-field),
       p .kind,
-      ne-eqb (edgesOf r) 0 z,
-      le-ltb 4096 (edgesOf r) (p .few-edges),
+      parts-edges (edgesOf r) (p .some-edge) (p .few-edges),
       eq-eqb (length r) _ (p .right-length),
     )
+
+-- what comes after the refusals of the head
+pub head-first : (r : List ℕ) (rs : List Refusal) → firstRefusal (headRefusals r ++ rs) ≡ cond (eqb (headRefusal r) 0) (firstRefusal rs) (headRefusal r)
+unfolding headRefusal headRefusals
+head-first r rs = first-append (headRefusals r) rs refl
+
+pub head-none : (r : List ℕ) (rs : List Refusal) → firstRefusal (headRefusals r ++ rs) ≡ 0 → (headRefusal r ≡ 0) × (firstRefusal rs ≡ 0)
+unfolding headRefusal headRefusals
+head-none r rs e = append-none (headRefusals r) rs refl e
 
 pub head-long : (r : List ℕ) → headRefusal r ≡ 0 → 6 ≤ length r
 head-long r e = zero-facts r e .whole-head
@@ -115,5 +123,5 @@ pub passes-length : (r : List ℕ) → passes r ≡ true → word16 r 0 ≡ leng
 passes-length r p = passes-facts r p .length-field
 
 pub passes-head : (r s : List ℕ) → length r ≡ length s → ((i : ℕ) → i < 6 → getD r i 0 ≡ getD s i 0) → passes r ≡ passes s
-unfolding passes headRefusal firstRefusal word16
+unfolding passes headRefusal headRefusals firstRefusal word16
 passes-head r s l e = rw (l, e 0 (omega arith), e 1 (omega arith), e 2 (omega arith), e 3 (omega arith), e 4 (omega arith), e 5 (omega arith))

@@ -1,6 +1,5 @@
 -- Lists of refusals, however many they are.
 --
---   not-met              the test b of refusal k fails, and what comes after it
 --   conditionOf n rs     the condition of refusal n; lacks n rs, there is none with this number
 --   none-holds           if the first is 0, every condition fails
 --   first-lacks          the first has no number that none of them has
@@ -19,10 +18,6 @@ use Rattle.model.specs.Record.{recordLength}
 use Rattle.model.specs.Calls.{earlyRefusals, lateRefusals, writeRefusal}
 use Rattle.model.proofs.Booleans.{and-left, and-right}
 use Rattle.model.proofs.Fitness.{parts-fit}
-
-pub not-met : (b : Bool) (k n : ℕ) → (k ≡ 0 → ⊥) → cond b k n ≡ 0 → (b ≡ false) × (n ≡ 0)
-not-met true k n d e = absurd (d e)
-not-met false k n d e = (refl, e)
 
 abbrev pub conditionOf : ℕ → List Refusal → Bool
 conditionOf n [] = false

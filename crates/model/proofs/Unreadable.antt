@@ -17,9 +17,10 @@ use Rattle.model.specs.declared.ReadBack.the-variants as readback
 use Rattle.model.specs.Numbers.{distinct, allBelow, isPermutation, firstRefusal}
 use Rattle.model.specs.Map.{Plan, darts, edges, isKind, fit}
 use Rattle.model.specs.Record.{le16, recordLength, headed, recordOf}
-use Rattle.model.specs.Shelf.{same, word16, edgesOf, headRefusal}
+use Rattle.model.specs.Shelf.{same, word16, edgesOf, headRefusals, headRefusal}
 use Rattle.model.specs.Calls.{readRefusal, HasRecord, Reads, refused, read, unreadable}
 use Rattle.model.proofs.Booleans.{and-left, not-left, all, at}
+use Rattle.model.proofs.Heads.{head-first}
 use Rattle.model.proofs.Line.{on-reading, Holds}
 use Rattle.model.proofs.Opened.{record-opened}
 use Rattle.model.proofs.Fitness.{below-all, Fit, fit-parts, count-parts, even-darts}
@@ -28,7 +29,7 @@ use Rattle.model.proofs.Fitness.{below-all, Fit, fit-parts, count-parts
 
 pub room-clear : (r : List ℕ) (w o : ℕ) → headRefusal r ≡ 0 → 32 * edgesOf r ≤ w → 2 * edgesOf r ≤ o → readRefusal r w o ≡ 0
 unfolding readRefusal firstRefusal
-room-clear r w o passed h l = rw (passed, le-ltb w (32 * edgesOf r) h, le-ltb o (2 * edgesOf r) l)
+room-clear r w o passed h l = rw (head-first r, passed, le-ltb w (32 * edgesOf r) h, le-ltb o (2 * edgesOf r) l)
 
 pub unreadable-refused : (r : List ℕ) → headRefusal r ≡ 0 → ((p : Plan) → HasRecord r p → ⊥) → Holds (on-reading r 13)
 unreadable-refused r passed never w out h l = record { refused-so = unreadable clear never refl refl; only-so = λ a o c. go a o c }
@@ -127,9 +128,9 @@ unreadable-C9 p = none 0xC9 p refl
 -- ---- so reading answers 13
 
 pub refuses-CC : Holds (on-reading (two-edges 0xCC) 13)
-unfolding headRefusal firstRefusal word16 isKind recordLength
+unfolding headRefusal headRefusals firstRefusal word16 isKind recordLength
 refuses-CC = unreadable-refused (two-edges 0xCC) refl unreadable-CC
 
 pub refuses-C9 : Holds (on-reading (two-edges 0xC9) 13)
-unfolding headRefusal firstRefusal word16 isKind recordLength
+unfolding headRefusal headRefusals firstRefusal word16 isKind recordLength
 refuses-C9 = unreadable-refused (two-edges 0xC9) refl unreadable-C9

@@ -37,7 +37,7 @@ use Rattle.model.specs.Numbers.{Refusal, firstRefusal, refuse, isPermuta
 use Rattle.model.specs.Map.{Plan, darts, edges, isKind, dartCountFits, connected, planar, characteristic, hasLoop, degreeRefused, fit}
 use Rattle.model.specs.Traversal.{standardPlan}
 use Rattle.model.specs.Record.{recordLength, recordOf}
-use Rattle.model.specs.Shelf.{kindOf, edgesOf, headRefusal, recordsIn, firstEqual, shelfRefused}
+use Rattle.model.specs.Shelf.{kindOf, edgesOf, headRefusals, recordsIn, firstEqual, shelfRefused}
 
 -- "The work area, short or not, is zeros on every return."
 unfoldable pub zeros : List ℕ → List ℕ
@@ -92,10 +92,10 @@ pub record Wrote (k : ℕ) (p : Plan) (work out : List ℕ) (answer : Written) (
 -- "reading 1, 2, 3, 5, 7, 8, 13"
 unfoldable pub readRefusal : List ℕ → ℕ → ℕ → ℕ
 readRefusal r workLength outLength = firstRefusal
-    (refuse (headRefusal r) (not (eqb (headRefusal r) 0))
-    ∷ refuse 7 (ltb workLength (32 * edgesOf r))
+    (headRefusals r
+    ++ (refuse 7 (ltb workLength (32 * edgesOf r))
     ∷ refuse 8 (ltb outLength (2 * edgesOf r))
-    ∷ [])
+    ∷ []))
 
 -- the plan p is fit for the kind that the record r names, and r is its record
 abbrev pub HasRecord : List ℕ → Plan → Type 0
@@ -121,10 +121,10 @@ unfoldable pub shelveRefusal : List ℕ → List ℕ → ℕ → ℕ
 shelveRefusal r shelf used =
     let rs = recordsIn (take used shelf) in
     firstRefusal
-    (refuse (headRefusal r) (not (eqb (headRefusal r) 0))
-    ∷ refuse 14 (shelfRefused shelf used)
+    (headRefusals r
+    ++ (refuse 14 (shelfRefused shelf used)
     ∷ refuse 16 (eqb (firstEqual r rs) (length rs) && ltb (length shelf - used) (length r))
-    ∷ [])
+    ∷ []))
 
 -- "Shelving returns the record's number and the new used length: if equal bytes are already there, the first such number, with nothing stored; else
 -- they are put just past the used bytes."

@@ -16,7 +16,7 @@
 --   hasLoop rot          some edge has both darts at one vertex
 --   hasDeadEnd p         some vertex other than the root's has degree one
 --   isKind k             k is a kind of record: 1 or 2
---   dartCountFits n      n is a dart count that a plan may have
+--   edgeCountFits m      m is an edge count that a plan may have; dartCountFits n, n is a dart count
 --   degreeRefused k p    kind k does not take p for its dead end
 --   fit k p              the plan p is fit for kind k
 use Prim.Native.Nat.{ℕ, zero, suc, _-_, _*_, _/_, _%_}
@@ -111,9 +111,12 @@ hasDeadEnd p =
 unfoldable pub isKind : ℕ → Bool
 isKind k = eqb k 1 || eqb k 2
 
--- "A plan has m trails, m from 1 to 4,096"
+-- "A plan has m trails, m from 1 to 4,096, and 2m darts"
+abbrev pub edgeCountFits : ℕ → Bool
+edgeCountFits m = ltb 0 m && leb m 4096
+
 unfoldable pub dartCountFits : ℕ → Bool
-dartCountFits n = ltb 0 n && (eqb (n % 2) 0 && leb n 8192)
+dartCountFits n = eqb (n % 2) 0 && edgeCountFits (n / 2)
 
 -- "Kind 1 takes connected planar plans with no loop and no junction of degree one", by document 02 (a) none "other than the start's". "Kind 2 takes
 -- connected planar plans with no loop."

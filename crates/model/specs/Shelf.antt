@@ -2,7 +2,7 @@
 --
 --   word16 bs i           the little-endian 16-bit field at place i
 --   kindOf r, edgesOf r   the kind and m that the bytes r name
---   headRefusal r         the first of 1, 2, 3, 5 that concerns the bytes r; 0 if none does
+--   headRefusals r        the refusals 1, 2, 3, 5 of the bytes r; headRefusal, the first that concerns them, 0 if none does
 --   passes r              r passes 1, 2, 3 and 5
 --   recordsIn bs          the bytes cut into records by their length fields; cutInto, at most so many
 --   allPass rs            each of them passes
@@ -18,8 +18,8 @@ use mathlib.Core.Bool.{Bool, true, false, not, _&&_, _||_, cond}
 use mathlib.Core.List.{List, [], _∷_}
 use lib.Dec.{eqb, ltb}
 use lib.ListN.{length, getD, take, drop}
-use Rattle.model.specs.Numbers.{tick, firstRefusal, refuse}
-use Rattle.model.specs.Map.{isKind}
+use Rattle.model.specs.Numbers.{tick, Refusal, firstRefusal, refuse}
+use Rattle.model.specs.Map.{isKind, edgeCountFits}
 use Rattle.model.specs.Record.{recordLength}
 
 -- "All fields are little-endian"
@@ -34,13 +34,16 @@ edgesOf r = word16 r 4
 
 -- 1. "The record has fewer than 6 bytes, or its length field isn't the number of bytes lent." 2. "The kind is not 1 or 2."
 -- 3. "in a record, m is 0 or above 4,096". 5. "The length is not the one for this kind and m."
-unfoldable pub headRefusal : List ℕ → ℕ
-headRefusal r = firstRefusal
-    (refuse 1 (ltb (length r) 6 || not (eqb (word16 r 0) (length r)))
+unfoldable pub headRefusals : List ℕ → List Refusal
+headRefusals r =
+    refuse 1 (ltb (length r) 6 || not (eqb (word16 r 0) (length r)))
     ∷ refuse 2 (not (isKind (kindOf r)))
-    ∷ refuse 3 (eqb (edgesOf r) 0 || ltb 4096 (edgesOf r))
+    ∷ refuse 3 (not (edgeCountFits (edgesOf r)))
     ∷ refuse 5 (not (eqb (length r) (recordLength (kindOf r) (edgesOf r))))
-    ∷ [])
+    ∷ []
+
+unfoldable pub headRefusal : List ℕ → ℕ
+headRefusal r = firstRefusal (headRefusals r)
 
 unfoldable pub passes : List ℕ → Bool
 passes r = eqb (headRefusal r) 0

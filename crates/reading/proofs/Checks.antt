@@ -6,15 +6,16 @@ use Prim.Native.Nat.{ℕ, _*_, _≤_, _<_}
 use native.Mathlib.Omega.{arith}
 use mathlib.Core.Path.{_≡_, refl, sym}
 use mathlib.Core.Logic.{_≢_}
-use mathlib.Core.Bool.{Bool, true, false, not, cond}
+use mathlib.Core.Bool.{Bool, true, false}
 use mathlib.Core.List.{List}
-use lib.Dec.{eqb, ltb}
-use borrow.Author.Tests.{lt-ltb, le-ltb, ne-eqb, eqb-true, eqb-false, ltb-false}
+use lib.Dec.{eqb}
+use borrow.Author.Tests.{lt-ltb, le-ltb, eq-eqb, ne-eqb, eqb-true, eqb-false, ltb-false}
 use Rattle.model.specs.Numbers.{firstRefusal}
 use Rattle.model.specs.Shelf.{edgesOf, headRefusal, passes}
 use Rattle.model.specs.Calls.{readRefusal}
 use Rattle.model.proofs.Unreadable.{room-clear}
-use Rattle.model.proofs.Heads.{passes-facts}
+use Rattle.model.proofs.Refusals.{none-holds}
+use Rattle.model.proofs.Heads.{passes-facts, head-first, head-none}
 
 pub record Early (r : List ℕ) (w o : ℕ) : Type 0 where
   pub passed : passes r ≡ true
@@ -23,17 +24,17 @@ pub record Early (r : List ℕ) (w o : ℕ) : Type 0 where
 
 module _ (r : List ℕ) (w o : ℕ) where
   pub early-head : (h : ℕ) → h ≡ headRefusal r → h ≢ 0 → h ≡ readRefusal r w o
-  unfolding readRefusal firstRefusal
-  early-head h e d = rw (sym e, ne-eqb h 0 d)
+  unfolding readRefusal
+  early-head h e d = rw (head-first r, sym e, ne-eqb h 0 d)
 
   module _ (m : ℕ) (passed : headRefusal r ≡ 0) (m-is : m ≡ edgesOf r) where
     pub early-work : w < 32 * m → 7 ≡ readRefusal r w o
     unfolding readRefusal firstRefusal
-    early-work h = rw (passed, sym m-is, lt-ltb w (32 * m) h)
+    early-work h = rw (head-first r, passed, sym m-is, lt-ltb w (32 * m) h)
 
     pub early-output : 32 * m ≤ w → o < 2 * m → 8 ≡ readRefusal r w o
     unfolding readRefusal firstRefusal
-    early-output h l = rw (passed, sym m-is, le-ltb w (32 * m) h, lt-ltb o (2 * m) l)
+    early-output h l = rw (head-first r, passed, sym m-is, le-ltb w (32 * m) h, lt-ltb o (2 * m) l)
 
     pub early-none : 32 * m ≤ w → 2 * m ≤ o → 0 ≡ readRefusal r w o
     early-none h l = let e = m-is in sym (room-clear r w o passed (omega arith) (omega arith))
@@ -43,12 +44,8 @@ module _ (r : List ℕ) (w o : ℕ) where
   facts-early f = room-clear r w o (eqb-true _ 0 (f .passed)) (f .work-room) (f .out-room)
 
   pub early-facts : readRefusal r w o ≡ 0 → Early r w o
-  unfolding readRefusal firstRefusal passes
-  early-facts e = head (eqb (headRefusal r) 0) (ltb w (32 * edgesOf r)) (ltb o (2 * edgesOf r)) refl refl refl e
-    where
-      head : (a b c : Bool) → eqb (headRefusal r) 0 ≡ a → ltb w (32 * edgesOf r) ≡ b → ltb o (2 * edgesOf r) ≡ c
-          → cond (not a) (headRefusal r) (cond b 7 (cond c 8 0)) ≡ 0 → Early r w o
-      head false b c p q s t = absurd (eqb-false _ 0 p t)
-      head true true c p q s t = let z : ⊥ = omega arith in absurd z
-      head true false true p q s t = let z : ⊥ = omega arith in absurd z
-      head true false false p q s t = record { passed = p; work-room = ltb-false w _ q; out-room = ltb-false o _ s }
+  unfolding readRefusal passes
+  early-facts e =
+      let (head, rest) = head-none r _ e in
+      let no = none-holds _ refl rest in
+      record { passed = eq-eqb _ 0 head; work-room = ltb-false w _ (no 7); out-room = ltb-false o _ (no 8) }

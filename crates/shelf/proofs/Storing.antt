@@ -5,15 +5,15 @@
 --   new-fits              a new record has room
 --   put-turn, put-ends    the loop that puts a record into the shelf
 use mathlib.Core.Path.{_≡_, refl, sym, ap, _∙_}
-use mathlib.Core.Bool.{Bool, true, false, not, _&&_, cond, false≢true}
+use mathlib.Core.Bool.{Bool, true, false, not, cond}
 use mathlib.Core.List.{List, _++_, append-assoc}
 use Prim.Native.Nat.{ℕ, _+_, _-_, _≤_, _<_}
 use native.Mathlib.Omega.{arith}
 use native.Mathlib.Numerals.{add-one}
-use lib.Dec.{eqb, ltb}
+use lib.Dec.{eqb}
 use lib.ListN.{length, getD, set, take, drop}
 use lib.Seq.{paste, paste-suc, take-length, drop-drop}
-use borrow.Author.Tests.{lt-ltb, le-ltb, eq-eqb, ne-eqb, ltb-false, eqb-true}
+use borrow.Author.Tests.{lt-ltb, le-ltb, ne-eqb, eqb-true}
 use Rattle.searching.specs.declared.Searched.{Searched}
 use Rattle.searching.specs.declared.Searched.the-variants as searched
 use Rattle.searching.specs.Search.{searchOf}
@@ -24,29 +24,20 @@ use Rattle.shelf.specs.declared.Spot.the-variants.{There, New, Refused}
 use Rattle.model.specs.Numbers.{firstRefusal}
 use Rattle.model.specs.Shelf.{headRefusal, recordsIn, endToEnd, firstEqual, shelfRefused}
 use Rattle.model.specs.Calls.{front, shelveRefusal, shelveAnswer, shelvedBytes, Stored}
-use Rattle.model.proofs.Refusals.{not-met}
+use Rattle.model.proofs.Heads.{head-first}
 use Rattle.shelf.specs.Spot.{spotOf}
-use Rattle.shelf.proofs.Refusals.{used-part}
+use Rattle.shelf.proofs.Refusals.{used-part, shelve-none}
 use Rattle.shelf.proofs.Walking.{used-fine}
-
--- the rest of the checks, where the first is not met
-cond-zero : (b : Bool) (k n : ℕ) → (k ≡ 0 → b ≡ false) → cond b k n ≡ 0 → n ≡ 0
-cond-zero true k n f e = absurd (false≢true (sym (f e)))
-cond-zero false k n f e = e
-
-and-false : (a b : Bool) → a ≡ true → (a && b) ≡ false → b ≡ false
-and-false true b t e = e
-and-false false b t e = absurd (false≢true t)
 
 module _ (r s : List ℕ) (u : ℕ) where
   pub spot-refused : (x : ℕ) → x ≡ headRefusal r → (x ≡ 0 → ⊥) → Refused x ≡ spotOf r s u
   unfolding spotOf shelveRefusal firstRefusal
-  spot-refused x e d = rw (sym e, ne-eqb x 0 d, ne-eqb x 0 d)
+  spot-refused x e d = rw (head-first r, sym e, ne-eqb x 0 d, ne-eqb x 0 d)
 
   module _ (fine : headRefusal r ≡ 0) where
     pub spot-over : length s < u → Refused 14 ≡ spotOf r s u
     unfolding spotOf shelveRefusal firstRefusal shelfRefused
-    spot-over h = rw (fine, lt-ltb (length s) u h)
+    spot-over h = rw (head-first r, fine, lt-ltb (length s) u h)
 
     module _ (h : u ≤ length s) where
       abbrev answer : Searched
@@ -59,23 +50,23 @@ module _ (r s : List ℕ) (u : ℕ) where
 
       pub spot-broken : searched.Broken ≡ answer → Refused 14 ≡ spotOf r s u
       unfolding spotOf shelveRefusal firstRefusal
-      spot-broken e = rw (fine, fourteen false (told-broken r _ e))
+      spot-broken e = rw (head-first r, fine, fourteen false (told-broken r _ e))
 
       module _ (n c : ℕ) where
         pub spot-there : searched.There n c ≡ answer → There n ≡ spotOf r s u
         unfolding spotOf shelveRefusal firstRefusal
-        spot-there e = let t = told-there r _ n c e in rw (fine, fourteen true (t .0), sym (used-part s u), t .3, t .1)
+        spot-there e = let t = told-there r _ n c e in rw (head-first r, fine, fourteen true (t .0), sym (used-part s u), t .3, t .1)
 
         module _ (e : searched.Missing n c ≡ answer) where
           pub spot-full : length s - u < length r → Refused 16 ≡ spotOf r s u
           unfolding spotOf shelveRefusal firstRefusal
-          spot-full l = let t = told-missing r _ n c e in rw (fine, fourteen true (t .0), sym (used-part s u), t .3, lt-ltb (length s - u) (length r) l)
+          spot-full l = let t = told-missing r _ n c e in rw (head-first r, fine, fourteen true (t .0), sym (used-part s u), t .3, lt-ltb (length s - u) (length r) l)
 
           pub spot-new : length r ≤ length s - u → New n ≡ spotOf r s u
           unfolding spotOf shelveRefusal firstRefusal
           spot-new l =
               let t = told-missing r _ n c e in
-              rw (fine, fourteen true (t .0), sym (used-part s u), t .3, le-ltb (length s - u) (length r) l, t .1)
+              rw (head-first r, fine, fourteen true (t .0), sym (used-part s u), t .3, le-ltb (length s - u) (length r) l, t .1)
 
 -- ---- shelving, by the spot
 
@@ -126,14 +117,11 @@ module _ (r s : List ℕ) (u : ℕ) where
     stored-new s′ p = let t = is-new in record { answered = rw (t .0, t .1, t .2); bytes = p ∙ rw (t .0, t .1) }
 
     pub new-fits : u + length r ≤ length s
-    unfolding shelveRefusal firstRefusal
     new-fits =
         let t = is-new in
-        let a = cond-zero (not (eqb (headRefusal r) 0)) (headRefusal r) _ (λ z. rw (eq-eqb _ _ z)) (eqb-true _ 0 (t .0)) in
-        let b = not-met (shelfRefused s u) 14 _ (λ z. omega arith) a in
-        let c = not-met (eqb number (length (recordsIn (take u s))) && ltb (length s - u) (length r)) 16 0 (λ z. omega arith) (b .1) in
-        let f = used-fine s u (b .0) in
-        let l = ltb-false (length s - u) (length r) (and-false _ _ (t .1) (c .0)) in
+        let (head, fine, room) = shelve-none r s u (eqb-true _ 0 (t .0)) in
+        let f = used-fine s u fine in
+        let l = room (t .1) in
         omega arith
 
 -- ---- putting

@@ -7,21 +7,21 @@
 --   again                 a second shelving of the same bytes gives the same number and changes nothing
 --   refused-kept          a refused shelving changes nothing
 use mathlib.Core.Path.{_≡_, refl, sym, ap, _∙_}
-use mathlib.Core.Bool.{Bool, true, false, not, _&&_, cond, true≢false}
+use mathlib.Core.Bool.{Bool, true, false, _&&_, cond, true≢false}
 use mathlib.Core.List.{List, [], _∷_, _++_}
-use Prim.Native.Nat.{ℕ, _+_, _-_, _≤_, _<_}
+use Prim.Native.Nat.{ℕ, _+_, _≤_, _<_}
 use native.Mathlib.Omega.{arith}
-use lib.Dec.{eqb, ltb}
+use lib.Dec.{eqb}
 use lib.ListN.{length, getD, take, drop, length-append, List·getD-append}
 use lib.Seq.{length-take-le, take-append-add, take-append-seam}
-use borrow.Author.Tests.{lt-ltb, le-ltb, eq-eqb, ne-eqb, ltb-false, eqb-true, eqb-false}
+use borrow.Author.Tests.{lt-ltb, le-ltb, eq-eqb, ne-eqb, eqb-true, eqb-false}
 use Rattle.model.specs.declared.Shelved.{Shelved}
 use Rattle.model.specs.declared.Shelved.the-variants.{At, Refused}
 use Rattle.model.specs.Numbers.{firstRefusal}
 use Rattle.model.specs.Shelf.{headRefusal, passes, recordsIn, endToEnd, firstEqual, shelfRefused}
 use Rattle.model.specs.Calls.{front, shelveRefusal, shelveAnswer, shelvedBytes, Stored, fetchRefusal, fetched, Fetched}
-use Rattle.model.proofs.Refusals.{not-met}
-use Rattle.shelf.proofs.Refusals.{fetch-none}
+use Rattle.model.proofs.Heads.{head-first}
+use Rattle.shelf.proofs.Refusals.{fetch-none, shelve-none}
 use Rattle.shelf.proofs.Walking.{used-fine}
 use Rattle.shelf_laws.proofs.Laid.{one-more}
 use Rattle.shelf_laws.proofs.Number.{first-bound, first-there, first-behind}
@@ -54,33 +54,16 @@ pub record Accepted (r s : List ℕ) (u n u′ : ℕ) (s′ : List ℕ) : Type 0
   pub earlier : (k : ℕ) → k < length (records s u)
       → (k < length (records s′ u′)) × (getD (records s′ u′) k [] ≡ getD (records s u) k [])
 
--- the checks that an accepted shelving has passed
-module _ (r s : List ℕ) (u : ℕ) (e : shelveRefusal r s u ≡ 0) where
-  checks : (headRefusal r ≡ 0) × (shelfRefused s u ≡ false)
-      × ((unlike r s u && ltb (length s - u) (length r)) ≡ false)
-  unfolding shelveRefusal firstRefusal
-  checks = go (eqb (headRefusal r) 0) refl e
-    where
-      go : (b : Bool) → eqb (headRefusal r) 0 ≡ b
-          → cond (not b) (headRefusal r) (cond (shelfRefused s u) 14 (cond (unlike r s u && ltb (length s - u) (length r)) 16 0)) ≡ 0
-          → (headRefusal r ≡ 0) × (shelfRefused s u ≡ false)
-          × ((unlike r s u && ltb (length s - u) (length r)) ≡ false)
-      go true t z =
-          let a = not-met (shelfRefused s u) 14 _ (λ q. omega arith) z in
-          let b = not-met (unlike r s u && ltb (length s - u) (length r)) 16 0 (λ q. omega arith) (a .1) in
-          (eqb-true _ _ t, a .0, b .0)
-      go false t z = absurd (eqb-false _ _ t z)
-
 -- nothing was stored: the record is there
 module _ (r s : List ℕ) (u : ℕ) (e : shelveRefusal r s u ≡ 0) (d : unlike r s u ≡ false) where
   found : Accepted r s u (firstEqual r (records s u)) u s
   found =
-      let c = checks r s u e in
+      let (head, fine, room) = shelve-none r s u e in
       let b = first-bound r (records s u) in
       let n = eqb-false _ _ d in
       record {
-        head-fine = c .0;
-        after-fine = c .1;
+        head-fine = head;
+        after-fine = fine;
         number-first = refl;
         number-there = lt-of-ne _ _ b n;
         earlier = λ k h. (h, refl);
@@ -96,9 +79,9 @@ module _ (r s : List ℕ) (u : ℕ) (e : shelveRefusal r s u ≡ 0) (d : unlike 
 
   room : (u ≤ length s) × (u + length r ≤ length s)
   room =
-      let c = checks r s u e in
-      let f = used-fine s u (c .1) in
-      let l = ltb-false (length s - u) (length r) (sym (ap (λ (b : Bool). b && ltb (length s - u) (length r)) d) ∙ c .2) in
+      let (head, fine, space) = shelve-none r s u e in
+      let f = used-fine s u fine in
+      let l = space d in
       (f .0, omega arith)
 
   used-after : take (u + length r) after ≡ take u s ++ r
@@ -111,11 +94,11 @@ module _ (r s : List ℕ) (u : ℕ) (e : shelveRefusal r s u ≡ 0) (d : unlike 
 
   record-passes : passes r ≡ true
   unfolding passes
-  record-passes = eq-eqb _ _ (checks r s u e .0)
+  record-passes = eq-eqb _ _ (shelve-none r s u e .0)
 
   behind : (endToEnd (take (u + length r) after) ≡ true) × (recordsIn (take (u + length r) after) ≡ records s u ++ (r ∷ []))
   behind =
-      let m = one-more (take u s) r (used-fine s u (checks r s u e .1) .1) record-passes in
+      let m = one-more (take u s) r (used-fine s u (shelve-none r s u e .1) .1) record-passes in
       (ap endToEnd used-after ∙ m .0, ap recordsIn used-after ∙ m .1)
 
   length-after : u + length r ≤ length after
@@ -135,7 +118,7 @@ module _ (r s : List ℕ) (u : ℕ) (e : shelveRefusal r s u ≡ 0) (d : unlike 
       let l = ap length (behind .1) ∙ length-append (records s u) (r ∷ []) in
       let n = all-unlike in
       record {
-        head-fine = checks r s u e .0;
+        head-fine = shelve-none r s u e .0;
         after-fine = rw (le-ltb _ _ length-after, behind .0);
         number-first = ap (firstEqual r) (behind .1) ∙ (first-behind r (records s u) n ∙ sym n);
         number-there = omega arith;
@@ -197,7 +180,7 @@ module _ (r s : List ℕ) (u n u′ : ℕ) (s′ : List ℕ) (c : Stored r s u (
       let first = a .number-first in
       let there = a .number-there in
       let new : eqb n (length (records s′ u′)) ≡ false = ne-eqb n (length (records s′ u′)) (λ e. omega arith) in
-      (d .answered ∙ rw (a .head-fine, a .after-fine, first, new), d .bytes ∙ rw (a .head-fine, a .after-fine, first, new))
+      (d .answered ∙ rw (head-first r, a .head-fine, a .after-fine, first, new), d .bytes ∙ rw (head-first r, a .head-fine, a .after-fine, first, new))
 
 pub refused-kept : (r s : List ℕ) (u x : ℕ) (s′ : List ℕ) → Stored r s u (Refused x) s′ → (s′ ≡ s) × (x ≡ shelveRefusal r s u)
 unfolding shelveAnswer shelvedBytes

@@ -10,12 +10,12 @@ use native.Mathlib.Omega.{arith}
 use mathlib.Core.Path.{_≡_, refl}
 use mathlib.Core.Bool.{true, false, cond}
 use lib.Dec.{eqb}
-use borrow.Author.Tests.{lt-ltb, le-ltb, eq-eqb, ne-eqb, le-leb, lt-leb, ltb-true, ltb-false, not-false}
+use borrow.Author.Tests.{lt-ltb, le-ltb, ltb-true, ltb-false, not-false}
 use Rattle.model.specs.Numbers.{firstRefusal, isPermutation}
 use Rattle.model.specs.Map.{Plan, darts, edges, isKind, dartCountFits}
 use Rattle.model.specs.Record.{recordLength}
 use Rattle.model.specs.Calls.{earlyRefusals, lateRefusals, writeRefusal}
-use Rattle.model.proofs.Fitness.{even-darts}
+use Rattle.model.proofs.Fitness.{parts-count, count-unfit, even-darts}
 use Rattle.model.proofs.Refusals.{none-holds, first-lacks, first-append}
 use Rattle.fitting.specs.Judged.{lateRefusal}
 use Rattle.writing.specs.Early.{earlyRefusal}
@@ -69,20 +69,16 @@ module _ (k : ℕ) (p : Plan) (wl ol : ℕ) where
 -- ---- the dart count
 
 pub no-darts : (n : ℕ) → n ≡ 0 → dartCountFits n ≡ false
-unfolding dartCountFits
-no-darts n e = rw (le-ltb 0 n (omega arith))
+no-darts n e = count-unfit n (λ h. omega arith)
 
 pub odd-darts : (n : ℕ) → (n % 2 ≡ 0 → ⊥) → dartCountFits n ≡ false
-unfolding dartCountFits
-odd-darts n e = rw (lt-ltb 0 n (omega arith), ne-eqb (n % 2) 0 e)
+odd-darts n e = count-unfit n (λ h. e (h .1))
 
 pub many-darts : (n : ℕ) → n % 2 ≡ 0 → 8192 < n → dartCountFits n ≡ false
-unfolding dartCountFits
-many-darts n e h = rw (lt-ltb 0 n (omega arith), eq-eqb (n % 2) 0 e, lt-leb n 8192 h)
+many-darts n e h = count-unfit n (λ p. omega arith)
 
 pub fit-darts : (n : ℕ) → (n ≡ 0 → ⊥) → n % 2 ≡ 0 → n ≤ 8192 → dartCountFits n ≡ true
-unfolding dartCountFits
-fit-darts n z e h = rw (lt-ltb 0 n (omega arith), eq-eqb (n % 2) 0 e, le-leb n 8192 h)
+fit-darts n z e h = parts-count n (omega arith) e h
 
 -- ---- what a call that passes is handed
 

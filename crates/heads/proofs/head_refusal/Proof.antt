@@ -1,47 +1,54 @@
 use native.Mathlib.Omega.{arith}
-use mathlib.Core.Path.{sym, _∙_}
+use mathlib.Core.Path.{_≡_, sym, ap, ap₂, _∙_}
 use borrow.Author.Tests.{not-true, not-false}
-use Rattle.heads.proofs.Head.{refuse-short, refuse-length, refuse-kind, refuse-none, refuse-many, refuse-size, refuse-nothing}
+use Rattle.model.specs.Map.{isKind}
+use Rattle.model.specs.Record.{recordLength}
+use Rattle.model.specs.Shelf.{kindOf, edgesOf}
+use Rattle.heads.proofs.Head.{Whole, Kinded, Counted, counted, refuse-short, refuse-length, refuse-kind, refuse-none, refuse-many, refuse-size, refuse-nothing}
 use borrow.Author.Needs.{needs}
 use Rattle.heads.proofs.head_refusal.Statement.{statement}
 use Rattle.heads.proofs.head_refusal.Tie as tie
+
+-- what the checks so far have shown
+whole : (c : tie.Else2) → Whole (c .before .before .before .before .args .«record» .now)
+whole c = record { long = omega arith; field = sym (c .before .field .ensures) ∙ c .if2 .left }
+
+kind-is : (c : tie.After-is-kind) → isKind (kindOf (c .before .before .before .before .before .before .args .«record» .now)) ≡ c .is-kind .result
+kind-is c = sym (c .is-kind .ensures ∙ ap isKind (c .before .field2 .ensures))
+
+kinded : (c : tie.Else3) → Kinded (c .before .before .before .before .before .before .before .args .«record» .now)
+kinded c = record { whole = whole (c .before .before .before); kind = kind-is (c .before) ∙ not-false _ (c .if3 .left) }
+
+counted-is : (c : tie.Else5) → Counted (c .before .before .before .before .before .before .before .before .before .before .args .«record» .now)
+counted-is c = counted _ (kinded (c .before .before .before)) _ (c .before .before .field3 .ensures) (c .before .if4 .left) (omega arith)
+
+length-is : (c : tie.After-record-length)
+    → let r = c .before .before .before .before .before .before .before .before .before .before .before .args .«record» .now in
+    c .record-length .result ≡ recordLength (kindOf r) (edgesOf r)
+length-is c =
+    let m = c .before .before .before in
+    c .record-length .ensures ∙ ap₂ recordLength (m .before .before .before .field2 .ensures) (m .field3 .ensures)
 
 returns : tie.Need-returns
 returns c = refuse-short _ (omega arith)
 
 returns-2 : tie.Need-returns-2
-returns-2 c = refuse-length _ (omega arith) _ (c .before .field .ensures) (c .if2 .taken)
+returns-2 c = refuse-length _ (omega arith) (λ e. c .if2 .taken (c .before .field .ensures ∙ e))
 
 returns-3 : tie.Need-returns-3
-returns-3 c = let kind = c .before .is-kind in
-    refuse-kind _ (omega arith) _ (c .before .before .before .before .field .ensures) (omega arith) _ (c .before .before .field2 .ensures)
-    (sym (kind .ensures) ∙ not-true (kind .result) (c .if3 .taken))
+returns-3 c = refuse-kind _ (whole (c .before .before .before)) (kind-is (c .before) ∙ not-true _ (c .if3 .taken))
 
 returns-4 : tie.Need-returns-4
-returns-4 c = let k = c .before .before in
-    let kind = k .before .is-kind in
-    refuse-none _ (omega arith) _ (k .before .before .before .before .field .ensures) (omega arith) _ (k .before .before .field2 .ensures)
-    (sym (kind .ensures) ∙ not-false (kind .result) (k .if3 .left)) _ (c .before .field3 .ensures) (c .if4 .taken)
+returns-4 c = refuse-none _ (kinded (c .before .before)) _ (c .before .field3 .ensures) (c .if4 .taken)
 
 returns-5 : tie.Need-returns-5
-returns-5 c = let k = c .before .before .before in
-    let kind = k .before .is-kind in
-    refuse-many _ (omega arith) _ (k .before .before .before .before .field .ensures) (omega arith) _ (k .before .before .field2 .ensures)
-    (sym (kind .ensures) ∙ not-false (kind .result) (k .if3 .left)) _ (c .before .before .field3 .ensures) (c .before .if4 .left) (omega arith)
+returns-5 c = refuse-many _ (kinded (c .before .before .before)) _ (c .before .before .field3 .ensures) (omega arith)
 
 returns-6 : tie.Need-returns-6
-returns-6 c = let k = c .before .before .before .before .before in
-    let kind = k .before .is-kind in
-    refuse-size _ (omega arith) _ (k .before .before .before .before .field .ensures) (omega arith) _ (k .before .before .field2 .ensures)
-    (sym (kind .ensures) ∙ not-false (kind .result) (k .if3 .left)) _ (c .before .before .before .before .field3 .ensures) (c .before .before .before .if4 .left) (omega arith)
-    _ (c .before .record-length .ensures) (c .if6 .taken)
+returns-6 c = refuse-size _ (counted-is (c .before .before)) _ (length-is (c .before)) (c .if6 .taken)
 
 returns-7 : tie.Need-returns-7
-returns-7 c = let k = c .before .before .before .before .before in
-    let kind = k .before .is-kind in
-    refuse-nothing _ (omega arith) _ (k .before .before .before .before .field .ensures) (omega arith) _ (k .before .before .field2 .ensures)
-    (sym (kind .ensures) ∙ not-false (kind .result) (k .if3 .left)) _ (c .before .before .before .before .field3 .ensures) (c .before .before .before .if4 .left) (omega arith)
-    _ (c .before .record-length .ensures) (omega arith)
+returns-7 c = refuse-nothing _ (counted-is (c .before .before)) _ (length-is (c .before)) (c .if6 .left)
 
 pub head-refusal-spec : {M : Type 1} → statement M
 head-refusal-spec =
