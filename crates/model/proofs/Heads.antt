@@ -5,6 +5,8 @@
 --   kind-cases           what holds of 1 and 2 holds of every kind
 --   kind-one, kind-other the length of a record of kind 1, and of another
 --   recordLength-range   a record has from 7 to 1850 bytes
+--   Whole, Kinded, Counted        what the checks so far have shown: the length, and the kind, and the number of edges
+--   refuse-short, refuse-length, refuse-kind, refuse-count, refuse-size, refuse-nothing   the head refusal, check by check
 --   Passes               what passing says
 --   passes-facts, facts-passes    from the test, and to headRefusal r ≡ 0
 --   head-first, head-none         the first of the head's refusals and others behind them; if it is 0, it is 0 in both
@@ -19,9 +21,9 @@ use mathlib.Core.Bool.{Bool, true, false, cond}
 use mathlib.Core.List.{List, [], _∷_, _++_}
 use lib.Dec.{eqb, ltb}
 use lib.ListN.{length, getD}
-use borrow.Author.Tests.{le-ltb, eq-eqb, ne-eqb, ltb-false, eqb-true, not-false}
+use borrow.Author.Tests.{lt-ltb, le-ltb, eq-eqb, ne-eqb, ltb-false, eqb-true, not-false}
 use Rattle.model.specs.Numbers.{allBelow, Refusal, firstRefusal}
-use Rattle.model.specs.Map.{isKind}
+use Rattle.model.specs.Map.{isKind, edgeCountFits}
 use Rattle.model.specs.Record.{le16, recordLength}
 use Rattle.model.specs.Shelf.{word16, kindOf, edgesOf, headRefusals, headRefusal, passes}
 use Rattle.model.proofs.Booleans.{or-split, or-none}
@@ -64,6 +66,45 @@ recordLength-range k m h l = go (eqb k 1)
     go true = (omega arith, omega arith)
     go false = (omega arith, omega arith)
 
+-- ---- the head refusal, check by check
+
+module _ (r : List ℕ) where
+  pub record Whole : Type 0 where
+    pub long : 6 ≤ length r
+    pub field : word16 r 0 ≡ length r
+
+  pub record Kinded : Type 0 where
+    pub whole : Whole
+    pub kind : isKind (kindOf r) ≡ true
+
+  pub record Counted : Type 0 where
+    pub kinded : Kinded
+    pub count : edgeCountFits (edgesOf r) ≡ true
+
+  pub refuse-short : length r < 6 → 1 ≡ headRefusal r
+  unfolding headRefusal headRefusals firstRefusal
+  refuse-short h = rw (lt-ltb _ _ h)
+
+  pub refuse-length : 6 ≤ length r → (word16 r 0 ≡ length r → ⊥) → 1 ≡ headRefusal r
+  unfolding headRefusal headRefusals firstRefusal
+  refuse-length h d = rw (le-ltb _ _ h, ne-eqb _ _ d)
+
+  pub refuse-kind : Whole → isKind (kindOf r) ≡ false → 2 ≡ headRefusal r
+  unfolding headRefusal headRefusals firstRefusal
+  refuse-kind w e = rw (le-ltb _ _ (w .long), eq-eqb _ _ (w .field), e)
+
+  pub refuse-count : Kinded → edgeCountFits (edgesOf r) ≡ false → 3 ≡ headRefusal r
+  unfolding headRefusal headRefusals firstRefusal
+  refuse-count k e = rw (le-ltb _ _ (k .whole .long), eq-eqb _ _ (k .whole .field), k .kind, e)
+
+  pub refuse-size : Counted → (length r ≡ recordLength (kindOf r) (edgesOf r) → ⊥) → 5 ≡ headRefusal r
+  unfolding headRefusal headRefusals firstRefusal
+  refuse-size c d = let k = c .kinded in rw (le-ltb _ _ (k .whole .long), eq-eqb _ _ (k .whole .field), k .kind, c .count, ne-eqb (length r) _ d)
+
+  pub refuse-nothing : Counted → length r ≡ recordLength (kindOf r) (edgesOf r) → 0 ≡ headRefusal r
+  unfolding headRefusal headRefusals firstRefusal
+  refuse-nothing c e = let k = c .kinded in rw (le-ltb _ _ (k .whole .long), eq-eqb _ _ (k .whole .field), k .kind, c .count, eq-eqb (length r) _ e)
+
 -- ---- what passing says
 
 pub record Passes (r : List ℕ) : Type 0 where
@@ -94,15 +135,9 @@ unfolding passes
 passes-facts r p = zero-facts r (eqb-true _ 0 p)
 
 pub facts-passes : (r : List ℕ) → Passes r → headRefusal r ≡ 0
-unfolding headRefusal headRefusals firstRefusal
 facts-passes r p =
-    rw (
-      le-ltb (length r) 6 (p .whole-head),
-      eq-eqb (word16 r 0) (length r) (p .length-field),
-      p .kind,
-      parts-edges (edgesOf r) (p .some-edge) (p .few-edges),
-      eq-eqb (length r) _ (p .right-length),
-    )
+    let kinded : Kinded r = record { whole = record { long = p .whole-head; field = p .length-field }; kind = p .kind } in
+    sym (refuse-nothing r (record { kinded = kinded; count = parts-edges _ (p .some-edge) (p .few-edges) }) (p .right-length))
 
 -- what comes after the refusals of the head
 pub head-first : (r : List ℕ) (rs : List Refusal) → firstRefusal (headRefusals r ++ rs) ≡ cond (eqb (headRefusal r) 0) (firstRefusal rs) (headRefusal r)

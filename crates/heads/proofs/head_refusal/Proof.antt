@@ -4,7 +4,8 @@ use borrow.Author.Tests.{not-true, not-false}
 use Rattle.model.specs.Map.{isKind}
 use Rattle.model.specs.Record.{recordLength}
 use Rattle.model.specs.Shelf.{kindOf, edgesOf}
-use Rattle.heads.proofs.Head.{Whole, Kinded, Counted, counted, refuse-short, refuse-length, refuse-kind, refuse-none, refuse-many, refuse-size, refuse-nothing}
+use Rattle.model.proofs.Heads.{Whole, Kinded, Counted, refuse-short, refuse-length, refuse-kind, refuse-size, refuse-nothing}
+use Rattle.heads.proofs.Head.{refuse-none, refuse-many, counted}
 use borrow.Author.Needs.{needs}
 use Rattle.heads.proofs.head_refusal.Statement.{statement}
 use Rattle.heads.proofs.head_refusal.Tie as tie
@@ -45,10 +46,10 @@ returns-5 : tie.Need-returns-5
 returns-5 c = refuse-many _ (kinded (c .before .before .before)) _ (c .before .before .field3 .ensures) (omega arith)
 
 returns-6 : tie.Need-returns-6
-returns-6 c = refuse-size _ (counted-is (c .before .before)) _ (length-is (c .before)) (c .if6 .taken)
+returns-6 c = refuse-size _ (counted-is (c .before .before)) (λ e. c .if6 .taken (length-is (c .before) ∙ sym e))
 
 returns-7 : tie.Need-returns-7
-returns-7 c = refuse-nothing _ (counted-is (c .before .before)) _ (length-is (c .before)) (c .if6 .left)
+returns-7 c = refuse-nothing _ (counted-is (c .before .before)) (sym (c .if6 .left) ∙ length-is (c .before))
 
 pub head-refusal-spec : {M : Type 1} → statement M
 head-refusal-spec =
