@@ -1,1 +1,1 @@
-pub mod Places
+mod Places

@@ -1,6 +1,6 @@
-pub mod Linking
-pub mod Views
-pub mod Moves
-pub mod Cursors
-pub mod Turning
-pub mod Runs
+mod Linking
+mod Parts
+mod Moves
+mod Cursors
+mod Turning
+mod Runs

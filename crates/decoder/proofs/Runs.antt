@@ -19,7 +19,7 @@ use lib.ListN.{length, set, replicate, length-append, length-drop, length-replic
 use Rattle.model.specs.Numbers.{allBelow}
 use Rattle.model.specs.Traversal.{Letter}
 use Rattle.packing.specs.Unlay.{payloadBits, payloadLabels, payloadClean}
-use Rattle.words.specs.Word.{Found, found, none, after, done, stuck, turn, start, head, wordDarts, rotationOf, decodeWord}
+use Rattle.words.specs.Word.{Machine, Found, found, none, after, done, stuck, turn, start, head, wordDarts, rotationOf, decodeWord}
 use Rattle.machine.specs.Reading.{left, run}
 use Rattle.machine.proofs.Decoding.{wordIn}
 use Rattle.machine.proofs.Runs.{turn-left, turn-none, run-on, run-done, run-stuck, decodeWord-run}
@@ -35,9 +35,9 @@ use Rattle.coding.specs.Decode.{decodePayload}
 use Rattle.unpacker.specs.Unpacked.{Sized, labelsAt}
 use Rattle.unpacker.proofs.Payload.{bits-room}
 use Rattle.decoder.specs.Decoded.{Answered}
-use Rattle.decoder.specs.States.{labelsOf, machineOf, outcome, Fits, Moved, Turned}
+use Rattle.decoder.specs.States.{Parts, partsOf, labelsOf, machineOf, machineAt, outcome, outcomeAt, Fits, Moved, Turned}
 use Rattle.decoder.proofs.Linking.{linked-end, first-dart, linked-whole}
-use Rattle.decoder.proofs.Views.{seen, entered}
+use Rattle.decoder.proofs.Parts.{dart-entered}
 
 abbrev pub first-state : State
 first-state = record { n = 1; here = 0; depth = 0; opens = 0; label = 0; place = 0 }
@@ -46,24 +46,31 @@ abbrev pub first-cursor : Cursor
 first-cursor = record { bits = 0; labels = 0 }
 
 -- w₀ is the work area at the start
-pub record Running (m : ℕ) (bs ls w₀ w : List ℕ) (s : State) (c : Cursor) : Type 0 where
+pub record Running (m : ℕ) (bs w₀ w : List ℕ) (s : State) (c : Cursor) : Type 0 where
   pub fits : Fits m w s c
   pub letters : List Letter
-  pub paced : length letters + left (machineOf m bs ls w s c) ≡ length bs
-  pub built : (v : List Letter) → outcome m w s c v ≡ outcome m w₀ first-state first-cursor (letters ++ v)
-  pub answer : after letters (run (machineOf m bs ls w s c)) ≡ run (start bs ls)
+  pub paced : length letters + left (machineAt m bs w s c) ≡ length bs
+  pub built : (v : List Letter) → outcomeAt m w s c v ≡ outcomeAt m w₀ first-state first-cursor (letters ++ v)
+  pub answer : after letters (run (machineAt m bs w s c)) ≡ run (start bs (labelsAt m w₀))
   pub kept : length w ≡ length w₀
-  pub labelled : labelsAt m w ≡ ls
 
 -- how much is left, by the cursor and the stack
-pub left-is : (m : ℕ) (bs ls w : List ℕ) (s : State) (c : Cursor) → left (machineOf m bs ls w s c) ≡ length bs - c .bits + s .opens
-unfolding machineOf
-left-is m bs ls w s c = rw (length-drop (c .bits) bs, length-stack (BEGUN * (2 * m)) (s .opens) w)
+pub left-is : (m : ℕ) (bs w : List ℕ) (s : State) (c : Cursor) → left (machineAt m bs w s c) ≡ length bs - c .bits + s .opens
+unfolding machineOf partsOf
+left-is m bs w s c = rw (length-drop (c .bits) bs, length-stack (BEGUN * (2 * m)) (s .opens) w)
 
-module _ (m : ℕ) (bs ls w₀ : List ℕ) where
-  pub running-start : 1 ≤ m → m ≤ 4096 → 32 * m ≤ length w₀ → labelsAt m w₀ ≡ ls → Running m bs ls w₀ w₀ first-state first-cursor
-  unfolding machineOf labelsOf stack start allBelow
-  running-start g h r l = record {
+nothing-after : (xs : List Letter) → after xs none ≡ none
+nothing-after [] = refl
+nothing-after (x ∷ xs) = refl
+
+only-these : (xs : List Letter) → after xs (found []) ≡ found xs
+only-these [] = refl
+only-these (x ∷ xs) = ap (λ (r : List Letter). found (x ∷ r)) (append-nil xs)
+
+module _ (m : ℕ) (bs w₀ : List ℕ) where
+  pub running-start : 1 ≤ m → m ≤ 4096 → 32 * m ≤ length w₀ → Running m bs w₀ w₀ first-state first-cursor
+  unfolding machineOf partsOf labelsOf stack start allBelow
+  running-start g h r = record {
     fits = record {
       stands = record {
         few-edges = h;
@@ -71,7 +78,7 @@ module _ (m : ℕ) (bs ls w₀ : List ℕ) where
         few-open = omega arith;
         place-in = omega arith;
         trees-in = refl;
-        seconds-in = refl;
+        opens-in = refl;
       };
       bits-in = omega arith;
       labels-in = omega arith;
@@ -83,96 +90,88 @@ module _ (m : ℕ) (bs ls w₀ : List ℕ) where
     built = λ v. refl;
     answer = refl;
     kept = refl;
-    labelled = l;
   }
 
-  module _ (w : List ℕ) (s : State) (c : Cursor) (i : Running m bs ls w₀ w s c) where
-    pub running-on : (w′ : List ℕ) (t : State) (d : Cursor) → Moved m bs ls w s c t d w′ → Running m bs ls w₀ w′ t d
+  module _ (w : List ℕ) (s : State) (c : Cursor) (i : Running m bs w₀ w s c) where
+    abbrev here : Machine
+    here = machineAt m bs w s c
+
+    pub running-on : (w′ : List ℕ) (t : State) (d : Cursor) → Moved m bs w s c t d w′ → Running m bs w₀ w′ t d
     running-on w′ t d x =
         let p = i .paced in
-        let q = turn-left (machineOf m bs ls w s c) (machineOf m bs ls w′ t d) (x .letters) (x .turns) .0 in
+        let q = turn-left here (machineAt m bs w′ t d) (x .letters) (x .turns) .0 in
         let k = length-append (i .letters) (x .letters) in
         record {
           fits = x .fits;
           letters = i .letters ++ x .letters;
           paced = omega arith;
           built = λ v. x .built v ∙ i .built (x .letters ++ v)
-              ∙ ap (outcome m w₀ first-state first-cursor) (sym (append-assoc (i .letters) (x .letters) v));
-          answer = run-on (i .letters) (machineOf m bs ls w s c) (machineOf m bs ls w′ t d) (x .letters) (x .turns) ∙ i .answer;
+              ∙ ap (outcomeAt m w₀ first-state first-cursor) (sym (append-assoc (i .letters) (x .letters) v));
+          answer = run-on (i .letters) here (machineAt m bs w′ t d) (x .letters) (x .turns) ∙ i .answer;
           kept = x .kept ∙ i .kept;
-          labelled = x .labels-stay ∙ i .labelled;
         }
 
     -- each turn leaves less
-    pub running-less : (w′ : List ℕ) (t : State) (d : Cursor) → Moved m bs ls w s c t d w′
+    pub running-less : (w′ : List ℕ) (t : State) (d : Cursor) → Moved m bs w s c t d w′
         → length bs - d .bits + t .opens < length bs - c .bits + s .opens
     running-less w′ t d x =
-        let q = turn-left (machineOf m bs ls w s c) (machineOf m bs ls w′ t d) (x .letters) (x .turns) in
+        let q = turn-left here (machineAt m bs w′ t d) (x .letters) (x .turns) in
         let a = q .0 in let b = q .1 in
-        let e = left-is m bs ls w s c in let f = left-is m bs ls w′ t d in
+        let e = left-is m bs w s c in let f = left-is m bs w′ t d in
         omega arith
 
-    nothing-after : (xs : List Letter) → after xs none ≡ none
-    nothing-after [] = refl
-    nothing-after (x ∷ xs) = refl
-
-    only-these : (xs : List Letter) → after xs (found []) ≡ found xs
-    only-these [] = refl
-    only-these (x ∷ xs) = ap (λ (r : List Letter). found (x ∷ r)) (append-nil xs)
-
-    pub answer-stuck : (w′ : List ℕ) → turn (machineOf m bs ls w s c) ≡ stuck → Answered (decodeWord bs ls) (2 * m) false w′
+    pub answer-stuck : (w′ : List ℕ) → turn here ≡ stuck → Answered (decodeWord bs (labelsAt m w₀)) (2 * m) false w′
     answer-stuck w′ e = record {
       word-found = λ f. absurd (false≢true f);
-      none-found = λ f. decodeWord-run bs ls ∙ sym (i .answer) ∙ ap (after (i .letters)) (run-stuck (machineOf m bs ls w s c) e) ∙ nothing-after (i .letters);
+      none-found = λ f. decodeWord-run bs (labelsAt m w₀) ∙ sym (i .answer) ∙ ap (after (i .letters)) (run-stuck here e) ∙ nothing-after (i .letters);
     }
 
     -- w′ has dart 0 where the last dart waits for its successor
-    module _ (w′ : List ℕ) (size : length bs ≡ 2 * m) (clear : region 0 (2 * m) w₀ ≡ replicate (2 * m) 0)
-        (e : turn (machineOf m bs ls w s c) ≡ done) (q : w′ ≡ set w (s .place) 0) where
-      whole : run (start bs ls) ≡ found (i .letters)
-      whole = sym (i .answer) ∙ ap (after (i .letters)) (run-done (machineOf m bs ls w s c) e) ∙ only-these (i .letters)
+    module _ (w′ : List ℕ) (size : length bs ≡ 2 * m) (clear : region 0 (2 * m) w₀ ≡ replicate (2 * m) 0) (e : turn here ≡ done)
+        (q : w′ ≡ set w (s .place) 0) where
+      whole : run (start bs (labelsAt m w₀)) ≡ found (i .letters)
+      whole = sym (i .answer) ∙ ap (after (i .letters)) (run-done here e) ∙ only-these (i .letters)
 
       -- all 2m letters are read
       all-read : length (i .letters) ≡ 2 * m
-      all-read = let p = i .paced in let z = turn-none (machineOf m bs ls w s c) e in omega arith
+      all-read = let p = i .paced in let z = turn-none here e in omega arith
 
       begun : head (wordDarts 0 [] [] (i .letters)) ≡ 0
       unfolding start
-      begun = ap (λ (r : Found). head (wordDarts 0 [] [] (wordIn r))) (sym whole) ∙ first-dart (start bs ls) (omega arith) refl
+      begun = ap (λ (r : Found). head (wordDarts 0 [] [] (wordIn r))) (sym whole) ∙ first-dart (start bs (labelsAt m w₀)) (omega arith) refl
 
       plan-built : region 0 (2 * m) w′ ≡ rotationOf (i .letters)
-      unfolding outcome wordDarts stack
+      unfolding partsOf outcome wordDarts stack
       plan-built =
           ap (region 0 (2 * m)) q
-          ∙ entered m 0 0 w _ _ _ _ _ _ _ (seen m 0 0 w) (s .place) 0 (i .fits .stands .place-in) .rotation
+          ∙ ap (λ (p : Parts). p .rotation) (dart-entered m w (s .depth) (s .opens) (s .place) 0 (i .fits .stands .place-in))
           ∙ sym (linked-end (s .place) (region 0 (2 * m) w))
           ∙ i .built []
           ∙ rw (append-nil (i .letters), clear) (linked-whole (2 * m) (i .letters) all-read begun)
 
-      pub answer-done : Answered (decodeWord bs ls) (2 * m) true w′
+      pub answer-done : Answered (decodeWord bs (labelsAt m w₀)) (2 * m) true w′
       answer-done = record {
-        word-found = λ f. (i .letters, decodeWord-run bs ls ∙ whole, plan-built);
+        word-found = λ f. (i .letters, decodeWord-run bs (labelsAt m w₀) ∙ whole, plan-built);
         none-found = λ f. absurd (true≢false f);
       }
 
 -- ---- what a turn hands back
 
-module _ (m : ℕ) (bs ls w : List ℕ) (s : State) (c : Cursor) (o : Outcome) (w′ : List ℕ) (l : labelsAt m w ≡ ls)
-    (x : Turned m bs (labelsAt m w) w s c o w′) where
-  turned : Turned m bs ls w s c o w′
-  turned = subst (λ (y : List ℕ). Turned m bs y w s c o w′) l x
+module _ (m : ℕ) (bs w : List ℕ) (s : State) (c : Cursor) (o : Outcome) (w′ : List ℕ) (x : Turned m bs w s c o w′) where
+  turned : (r : Outcome) → o ≡ r → Turned m bs w s c r w′
+  turned r e = subst (λ (y : Outcome). Turned m bs w s c y w′) e x
 
-  pub turned-goes : (t : State) (d : Cursor) → o ≡ Goes t d → Moved m bs ls w s c t d w′
+  pub turned-goes : (t : State) (d : Cursor) → o ≡ Goes t d → Moved m bs w s c t d w′
   unfolding Turned
-  turned-goes t d e = subst (λ (y : Outcome). Turned m bs ls w s c y w′) e turned
+  turned-goes t d = turned (Goes t d)
 
-  pub turned-done : o ≡ Done → (turn (machineOf m bs ls w s c) ≡ done) × (w′ ≡ w)
+  pub turned-done : o ≡ Done → (turn (machineAt m bs w s c) ≡ done) × (w′ ≡ w)
   unfolding Turned
-  turned-done e = subst (λ (y : Outcome). Turned m bs ls w s c y w′) e turned
+  turned-done = turned Done
 
-  pub turned-stuck : o ≡ Stuck → (turn (machineOf m bs ls w s c) ≡ stuck) × (w′ ≡ w)
+  pub turned-stuck : o ≡ Stuck → (turn (machineAt m bs w s c) ≡ stuck) × (w′ ≡ w)
   unfolding Turned
-  turned-stuck e = subst (λ (y : Outcome). Turned m bs ls w s c y w′) e turned
+  turned-stuck = turned Stuck
 
 -- ---- the payload
 

@@ -1,22 +1,26 @@
--- The machine's state in the code: a few numbers, a cursor, and four stacks in the work area. m is the number of edges.
+-- The machine's state in the code: a few numbers, a cursor, and the parts of the work area that it uses. m is the number of edges.
 --
 --   nextBit bs c, nextLabel ls c   what the cursor c hands back of the bits bs and the labels ls
+--   Parts                    the rotation, the stacks and the labels of a work area
+--   partsOf m w d o          those of the work area w, where d tree edges and o others are open
+--   entered q x p            the parts p with dart x entered at place q
+--   pushedTree v e p, pushedOpen v e p   the parts p with edge e, begun at vertex v, pushed on the stacks of tree edges, and of other open edges
 --   labelsOf ls es           the labels of the edges es
---   machineOf m bs ls w s c  the machine's state
+--   machineOf bs p s c, machineAt m bs w s c   the machine's state, from the parts and from the work area
 --   linked q v xs out        the rotation that the word v with its darts xs makes of out, where the place q waits for the next dart
---   outcome m w s c v        the rotation that comes out if the word v is still to be read
---   before c                 the cursor before the bit that was read last
+--   outcome p s c v, outcomeAt m w s c v   the rotation that comes out if the word v is still to be read
+--   unread c                 the cursor before the bit that was read last
 --   Standing m w s           the numbers and stacks are in range
 --   Fits m w s c             and the cursor is
 --   Room m w s e             there is room for edge e and two darts
---   Ready m bs w s c         a bit that is not 0 was read right before c
---   lastOpen m w s, lastTree m w s   the edge opened last, of those outside the tree and of the tree
+--   OneRead m bs w s c       a bit that is not 0 was read right before c
+--   topOpen m w s, topTree m w s   the edge opened last, of those outside the tree and of the tree
 --   closedState, risenState, leafedState, backedState, enteredState   the state after an edge outside the tree ended, after going up, after a leaf,
 --                            after an edge outside the tree began, after going down
 --   closedArea, risenArea, leafedArea, backedArea, enteredArea   the work area after these
---   Moved                    a turn that goes on: its letters' darts are entered, the labels stay, and the state after it
+--   Moved                    a turn that goes on: its letters' darts are entered, and the state after it
 --   Turned                   what one turn hands back, by cases
---   Closed                   the same for a turn that reads no bit, whichever they are
+--   TurnedUnread             the same for a turn that reads no bit, whichever they are
 use Prim.Native.Nat.{ℕ, _+_, _-_, _*_, _≤_, _<_}
 use mathlib.Core.Path.{_≡_}
 use mathlib.Core.Logic.{_≢_}
@@ -43,41 +47,100 @@ nextBit bs c = cond (ltb (c .bits) (length bs)) (Value (getD bs (c .bits) 0) (re
 unfoldable pub nextLabel : List ℕ → Cursor → Next
 nextLabel ls c = cond (ltb (c .labels) (length ls)) (Value (getD ls (c .labels) 0) (record { bits = c .bits; labels = c .labels + 1 })) End
 
+-- ---- the parts of the work area
+
+pub record Parts : Type 0 where
+  pub rotation : List ℕ
+  pub below : List ℕ
+  pub trees : List ℕ
+  pub begun : List ℕ
+  pub opens : List ℕ
+  pub labels : List ℕ
+
+unfoldable pub partsOf : ℕ → List ℕ → ℕ → ℕ → Parts
+partsOf m w d o = record {
+  rotation = region 0 (2 * m) w;
+  below = stack (BELOW * (2 * m)) d w;
+  trees = stack (TREES * (2 * m)) d w;
+  begun = stack (BEGUN * (2 * m)) o w;
+  opens = stack (OPENS * (2 * m)) o w;
+  labels = labelsAt m w;
+}
+
+abbrev pub entered : ℕ → ℕ → Parts → Parts
+entered q x p = record {
+  rotation = set (p .rotation) q x;
+  below = p .below;
+  trees = p .trees;
+  begun = p .begun;
+  opens = p .opens;
+  labels = p .labels;
+}
+
+abbrev pub pushedTree : ℕ → ℕ → Parts → Parts
+pushedTree v e p = record {
+  rotation = p .rotation;
+  below = v ∷ p .below;
+  trees = e ∷ p .trees;
+  begun = p .begun;
+  opens = p .opens;
+  labels = p .labels;
+}
+
+abbrev pub pushedOpen : ℕ → ℕ → Parts → Parts
+pushedOpen v e p = record {
+  rotation = p .rotation;
+  below = p .below;
+  trees = p .trees;
+  begun = v ∷ p .begun;
+  opens = e ∷ p .opens;
+  labels = p .labels;
+}
+
+-- ---- the machine in them
+
 unfoldable pub labelsOf : List ℕ → List ℕ → List ℕ
 labelsOf ls [] = []
 labelsOf ls (e ∷ es) = getD ls e 0 ∷ labelsOf ls es
 
-unfoldable pub machineOf : ℕ → List ℕ → List ℕ → List ℕ → State → Cursor → Machine
-machineOf m bs ls w s c = record {
+unfoldable pub machineOf : List ℕ → Parts → State → Cursor → Machine
+machineOf bs p s c = record {
   n = s .n;
   here = s .here;
-  below = stack (BELOW * (2 * m)) (s .depth) w;
-  ups = labelsOf ls (stack (TREES * (2 * m)) (s .depth) w);
-  opens = stack (BEGUN * (2 * m)) (s .opens) w;
-  seconds = labelsOf ls (stack (OPENS * (2 * m)) (s .opens) w);
+  below = p .below;
+  ups = labelsOf (p .labels) (p .trees);
+  opens = p .begun;
+  seconds = labelsOf (p .labels) (p .opens);
   label = s .label;
   bits = drop (c .bits) bs;
-  labels = drop (c .labels) ls;
+  labels = drop (c .labels) (p .labels);
 }
+
+abbrev pub machineAt : ℕ → List ℕ → List ℕ → State → Cursor → Machine
+machineAt m bs w s c = machineOf bs (partsOf m w (s .depth) (s .opens)) s c
 
 unfoldable pub linked : ℕ → List Letter → List ℕ → List ℕ → List ℕ
 linked q v xs out = link v xs (set out q (head xs))
 
 -- as many edges have their numbers as labels are read
-unfoldable pub outcome : ℕ → List ℕ → State → Cursor → List Letter → List ℕ
-outcome m w s c v =
-    linked (s .place) v (wordDarts (c .labels) (stack (TREES * (2 * m)) (s .depth) w) (stack (OPENS * (2 * m)) (s .opens) w) v) (region 0 (2 * m) w)
+unfoldable pub outcome : Parts → State → Cursor → List Letter → List ℕ
+outcome p s c v = linked (s .place) v (wordDarts (c .labels) (p .trees) (p .opens) v) (p .rotation)
 
-abbrev pub before : Cursor → Cursor
-before c = record { bits = c .bits - 1; labels = c .labels }
+abbrev pub outcomeAt : ℕ → List ℕ → State → Cursor → List Letter → List ℕ
+outcomeAt m w s c v = outcome (partsOf m w (s .depth) (s .opens)) s c v
+
+-- ---- ranges
+
+abbrev pub unread : Cursor → Cursor
+unread c = record { bits = c .bits - 1; labels = c .labels }
 
 pub record Standing (m : ℕ) (w : List ℕ) (s : State) : Type 0 where
   pub few-edges : m ≤ 4096
   pub room : 32 * m ≤ length w
   pub few-open : s .depth + s .opens ≤ m
   pub place-in : s .place < 2 * m
-  pub trees-in : allBelow m (stack (TREES * (2 * m)) (s .depth) w) ≡ true
-  pub seconds-in : allBelow m (stack (OPENS * (2 * m)) (s .opens) w) ≡ true
+  pub trees-in : allBelow m (partsOf m w (s .depth) (s .opens) .trees) ≡ true
+  pub opens-in : allBelow m (partsOf m w (s .depth) (s .opens) .opens) ≡ true
 
 -- each bit that is read is a letter or an open edge, and each label an edge
 pub record Fits (m : ℕ) (w : List ℕ) (s : State) (c : Cursor) : Type 0 where
@@ -95,9 +158,8 @@ pub record Room (m : ℕ) (w : List ℕ) (s : State) (e : ℕ) : Type 0 where
   pub edge-in : e < m
   pub vertices : s .n ≤ m
 
--- a bit that is not 0 was read right before c
-pub record Ready (m : ℕ) (bs w : List ℕ) (s : State) (c : Cursor) : Type 0 where
-  pub fits : Fits m w s (before c)
+pub record OneRead (m : ℕ) (bs w : List ℕ) (s : State) (c : Cursor) : Type 0 where
+  pub fits : Fits m w s (unread c)
   pub some-bit : 0 < c .bits
   pub bits-in : c .bits ≤ 2 * m
   pub one : getD bs (c .bits - 1) 0 ≢ 0
@@ -105,8 +167,8 @@ pub record Ready (m : ℕ) (bs w : List ℕ) (s : State) (c : Cursor) : Type 0 w
 -- ---- the state and the work area after each step
 
 -- the edge that ends
-abbrev pub lastOpen : ℕ → List ℕ → State → ℕ
-lastOpen m w s = getD w (OPENS * (2 * m) + (s .opens - 1)) 0
+abbrev pub topOpen : ℕ → List ℕ → State → ℕ
+topOpen m w s = getD w (OPENS * (2 * m) + (s .opens - 1)) 0
 
 abbrev pub closedState : ℕ → List ℕ → State → State
 closedState m w s = record {
@@ -114,16 +176,16 @@ closedState m w s = record {
   here = s .here;
   depth = s .depth;
   opens = s .opens - 1;
-  label = getD w (LABELS * (2 * m) + lastOpen m w s) 0;
-  place = 2 * lastOpen m w s + 1;
+  label = getD w (LABELS * (2 * m) + topOpen m w s) 0;
+  place = 2 * topOpen m w s + 1;
 }
 
 abbrev pub closedArea : ℕ → List ℕ → State → List ℕ
-closedArea m w s = set w (s .place) (2 * lastOpen m w s + 1)
+closedArea m w s = set w (s .place) (2 * topOpen m w s + 1)
 
 -- the edge that is gone up
-abbrev pub lastTree : ℕ → List ℕ → State → ℕ
-lastTree m w s = getD w (TREES * (2 * m) + (s .depth - 1)) 0
+abbrev pub topTree : ℕ → List ℕ → State → ℕ
+topTree m w s = getD w (TREES * (2 * m) + (s .depth - 1)) 0
 
 abbrev pub risenState : ℕ → List ℕ → State → State
 risenState m w s = record {
@@ -131,12 +193,12 @@ risenState m w s = record {
   here = getD w (BELOW * (2 * m) + (s .depth - 1)) 0;
   depth = s .depth - 1;
   opens = s .opens;
-  label = getD w (LABELS * (2 * m) + lastTree m w s) 0;
-  place = 2 * lastTree m w s;
+  label = getD w (LABELS * (2 * m) + topTree m w s) 0;
+  place = 2 * topTree m w s;
 }
 
 abbrev pub risenArea : ℕ → List ℕ → State → List ℕ
-risenArea m w s = set w (s .place) (2 * lastTree m w s + 1)
+risenArea m w s = set w (s .place) (2 * topTree m w s + 1)
 
 -- e is the edge, here and below; b is the leaf's saved label
 abbrev pub leafedState : State → ℕ → ℕ → State
@@ -180,18 +242,17 @@ enteredArea m w s e = set (set (set w (s .place) (2 * e)) (BELOW * (2 * m) + s .
 
 -- ---- turns
 
-pub record Moved (m : ℕ) (bs ls w : List ℕ) (s : State) (c : Cursor) (t : State) (d : Cursor) (w′ : List ℕ) : Type 0 where
+pub record Moved (m : ℕ) (bs w : List ℕ) (s : State) (c : Cursor) (t : State) (d : Cursor) (w′ : List ℕ) : Type 0 where
   pub letters : List Letter
-  pub turns : turn (machineOf m bs ls w s c) ≡ goes letters (machineOf m bs ls w′ t d)
-  pub built : (v : List Letter) → outcome m w′ t d v ≡ outcome m w s c (letters ++ v)
+  pub turns : turn (machineAt m bs w s c) ≡ goes letters (machineAt m bs w′ t d)
+  pub built : (v : List Letter) → outcomeAt m w′ t d v ≡ outcomeAt m w s c (letters ++ v)
   pub fits : Fits m w′ t d
   pub kept : length w′ ≡ length w
-  pub labels-stay : labelsAt m w′ ≡ labelsAt m w
 
-unfoldable pub Turned : ℕ → List ℕ → List ℕ → List ℕ → State → Cursor → Outcome → List ℕ → Type 0
-Turned m bs ls w s c (Goes t d) w′ = Moved m bs ls w s c t d w′
-Turned m bs ls w s c Done w′ = (turn (machineOf m bs ls w s c) ≡ done) × (w′ ≡ w)
-Turned m bs ls w s c Stuck w′ = (turn (machineOf m bs ls w s c) ≡ stuck) × (w′ ≡ w)
+unfoldable pub Turned : ℕ → List ℕ → List ℕ → State → Cursor → Outcome → List ℕ → Type 0
+Turned m bs w s c (Goes t d) w′ = Moved m bs w s c t d w′
+Turned m bs w s c Done w′ = (turn (machineAt m bs w s c) ≡ done) × (w′ ≡ w)
+Turned m bs w s c Stuck w′ = (turn (machineAt m bs w s c) ≡ stuck) × (w′ ≡ w)
 
-abbrev pub Closed : ℕ → List ℕ → State → Cursor → Outcome → List ℕ → Type 0
-Closed m w s c r w′ = (bs : List ℕ) → Turned m bs (labelsAt m w) w s c r w′
+abbrev pub TurnedUnread : ℕ → List ℕ → State → Cursor → Outcome → List ℕ → Type 0
+TurnedUnread m w s c r w′ = (bs : List ℕ) → Turned m bs w s c r w′

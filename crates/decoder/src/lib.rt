@@ -10,7 +10,7 @@ ghost use Rattle.work.specs.Area.{region};
 ghost use Rattle.coding.specs.Decode.{decodePayload};
 ghost use Rattle.unpacker.specs.Unpacked.{Sized, labelsAt};
 ghost use Rattle.decoder.specs.Decoded.{Answered};
-ghost use Rattle.decoder.specs.States.{nextBit, nextLabel, before, Standing, Fits, Room, Ready, Turned, Closed};
+ghost use Rattle.decoder.specs.States.{nextBit, nextLabel, unread, Standing, Fits, Room, OneRead, Turned, TurnedUnread};
 ghost use Rattle.decoder.specs.States.{risenState, leafedState, backedState, enteredState, risenArea, leafedArea, backedArea, enteredArea};
 
 // Where the next tree bit and the next label stand.
@@ -92,7 +92,7 @@ impl Cursor {
 // The last open edge outside the tree ends here, if this is a proper ancestor of where it began.
 fn close_last(w: &mut [u16], m: usize, s: State, c: Cursor) -> Outcome
     requires { ⌜ Fits m (now w) s c × (s .label ≡ 1) × (0 < s .opens) ⌝ }
-    ensures { λ r. ⌜ Closed m (now (w .entry)) s c r (now (w .exit)) ⌝ }
+    ensures { λ r. ⌜ TurnedUnread m (now (w .entry)) s c r (now (w .exit)) ⌝ }
 {
     let n = s.n;
     let here = s.here;
@@ -123,7 +123,7 @@ fn close_last(w: &mut [u16], m: usize, s: State, c: Cursor) -> Outcome
 // An edge of label 1 has ended: another must end here too.
 fn close(w: &mut [u16], m: usize, s: State, c: Cursor) -> Outcome
     requires { ⌜ Fits m (now w) s c × (s .label ≡ 1) ⌝ }
-    ensures { λ r. ⌜ Closed m (now (w .entry)) s c r (now (w .exit)) ⌝ }
+    ensures { λ r. ⌜ TurnedUnread m (now (w .entry)) s c r (now (w .exit)) ⌝ }
 {
     let opens = s.opens;
     if opens == 0 {
@@ -232,8 +232,8 @@ fn enter(w: &mut [u16], m: usize, s: State, e: usize) -> State
 // A bit that is not 0 was read up to c: a bit and a label more say what begins. Where a tree edge begins, that bit is the next to be read.
 fn descend(payload: &[u8], m: usize, w: &mut [u16], s: State, c: Cursor) -> Outcome
     requires { ⌜ 2 * m ≤ 8 * length (now payload) ⌝ }
-    requires { ⌜ Ready m (payloadBits m (now payload)) (now w) s c × (s .label ≢ 1) ⌝ }
-    ensures { λ r. ⌜ Turned m (payloadBits m (now (payload .entry))) (labelsAt m (now (w .entry))) (now (w .entry)) s (before c) r (now (w .exit)) ⌝ }
+    requires { ⌜ OneRead m (payloadBits m (now payload)) (now w) s c × (s .label ≢ 1) ⌝ }
+    ensures { λ r. ⌜ Turned m (payloadBits m (now (payload .entry))) (now (w .entry)) s (unread c) r (now (w .exit)) ⌝ }
 {
     let at = c.bits;
     let edge = c.labels;
@@ -268,7 +268,7 @@ fn descend(payload: &[u8], m: usize, w: &mut [u16], s: State, c: Cursor) -> Outc
 fn turn(payload: &[u8], m: usize, w: &mut [u16], s: State, c: Cursor) -> Outcome
     requires { ⌜ 2 * m ≤ 8 * length (now payload) ⌝ }
     requires { ⌜ Fits m (now w) s c ⌝ }
-    ensures { λ r. ⌜ Turned m (payloadBits m (now (payload .entry))) (labelsAt m (now (w .entry))) (now (w .entry)) s c r (now (w .exit)) ⌝ }
+    ensures { λ r. ⌜ Turned m (payloadBits m (now (payload .entry))) (now (w .entry)) s c r (now (w .exit)) ⌝ }
 {
     let label = s.label;
     let depth = s.depth;

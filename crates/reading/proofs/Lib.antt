@@ -1,6 +1,6 @@
-pub mod Answers
-pub mod Checks
-pub mod Payloads
-pub mod Outcomes
+mod Answers
+mod Checks
+mod Payloads
+mod Outcomes
 pub mod FitRecords
 pub mod RoundTrip

@@ -2,9 +2,9 @@
 --
 --   payload-sized        it is as long as the payload of its kind and size
 --   record-decoded       the answer for the payload is the answer for the record
-use Prim.Native.Nat.{ℕ, _+_, _-_, _*_}
+use Prim.Native.Nat.{ℕ, _-_, _*_}
 use native.Mathlib.Omega.{arith}
-use mathlib.Core.Path.{_≡_, sym, _∙_}
+use mathlib.Core.Path.{_≡_}
 use mathlib.Core.Bool.{Bool, true}
 use mathlib.Core.List.{List}
 use lib.ListN.{length, take, drop, length-drop}

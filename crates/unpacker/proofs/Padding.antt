@@ -2,12 +2,12 @@
 --
 --   length-labels         how many labels the bytes from a place on hold
 --   bits-next, bits-stop, bits-end   the bits from a place up to another are all 0, bit by bit
---   clean-one, clean-two   what makes a payload of kind 1, and of kind 2, clean
+--   cleanParts, clean-one, clean-two   what makes a payload of kind 1, and of kind 2, clean
 use Prim.Native.Nat.{ℕ, _+_, _-_, _*_, _/_, _≤_, _<_}
 use native.Mathlib.Omega.{arith}
 use mathlib.Core.Path.{_≡_, sym, ap, _∙_}
 use mathlib.Core.Logic.{_≢_}
-use mathlib.Core.Bool.{true, false, _&&_}
+use mathlib.Core.Bool.{Bool, true, false, _&&_}
 use mathlib.Core.List.{List, _++_}
 use lib.ListN.{length, getD, take, drop, length-drop, take-append-drop}
 use lib.Seq.{take-all, take-at, length-take-le, getD-take}
@@ -50,6 +50,12 @@ bits-take n s h =
 
 -- ---- clean payloads
 
+-- kind 2: the padding bits, the groups, the fill labels
+abbrev pub cleanParts : ℕ → List ℕ → Bool
+cleanParts m ps =
+    allBelow 1 (drop (2 * m) (take (8 * ((2 * m + 7) / 8)) (bits ps)))
+    && (allBelow 243 (drop ((2 * m + 7) / 8) ps) && allBelow 1 (drop m (groups (drop ((2 * m + 7) / 8) ps))))
+
 module _ (k m : ℕ) (ps : List ℕ) where
   pub clean-one : k ≡ 1 → allBelow 1 (drop (3 * m) (take (8 * length ps) (bits ps))) ≡ payloadClean k m ps
   unfolding payloadClean
@@ -57,9 +63,7 @@ module _ (k m : ℕ) (ps : List ℕ) where
       let l = length-bits ps in
       rw e (ap (λ (ds : List ℕ). allBelow 1 (drop (3 * m) ds)) (take-all (8 * length ps) (bits ps) (omega arith)))
 
-  pub clean-two : Sized ps k m → k ≢ 1 → payloadClean k m ps
-      ≡ (allBelow 1 (drop (2 * m) (take (8 * ((2 * m + 7) / 8)) (bits ps)))
-      && (allBelow 243 (drop ((2 * m + 7) / 8) ps) && allBelow 1 (drop m (groups (drop ((2 * m + 7) / 8) ps)))))
+  pub clean-two : Sized ps k m → k ≢ 1 → payloadClean k m ps ≡ cleanParts m ps
   unfolding payloadClean
   clean-two h e =
       let z = two ps m (of-kind ps m k 2 (other-kind ps m k h e) h) in

@@ -70,7 +70,8 @@ module _ (ps : List ℕ) (m : ℕ) where
 
   pub bits-room : (k : ℕ) → Sized ps k m → 2 * m ≤ 8 * length ps
   bits-room k h =
-      kind-cases (λ (j : ℕ). Sized ps j m → 2 * m ≤ 8 * length ps) (λ g. let z = one g in omega arith) (λ g. let z = two g in omega arith) k (h .kind) h
+      kind-cases (λ (j : ℕ). Sized ps j m → 2 * m ≤ 8 * length ps)
+      (λ g. let z = one g in omega arith) (λ g. let z = two g in omega arith) k (h .kind) h
 
   pub other-kind : (k : ℕ) → Sized ps k m → k ≢ 1 → k ≡ 2
   other-kind k h = kind-cases (λ (j : ℕ). j ≢ 1 → j ≡ 2) (λ e. absurd (e refl)) (λ e. refl) k (h .kind)

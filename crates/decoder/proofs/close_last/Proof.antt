@@ -1,19 +1,19 @@
 use Prim.Native.Nat.{_<_}
 use native.Mathlib.Omega.{arith}
 use mathlib.Core.Path.{refl}
-use Rattle.decoder.specs.States.{lastOpen, Turned}
-use Rattle.decoder.proofs.Views.{all-first}
+use Rattle.decoder.specs.States.{topOpen, Turned}
+use Rattle.decoder.proofs.Parts.{top-open}
 use Rattle.decoder.proofs.Moves.{early, closing}
 use borrow.Author.Needs.{needs}
 use Rattle.decoder.proofs.close_last.Statement.{statement}
 use Rattle.decoder.proofs.close_last.Tie as tie
 
-small : (c : tie.Start) → lastOpen (c .args .m) (c .args .w .now) (c .args .s) < c .args .m
-small c = all-first _ _ _ _ (c .pre .2) (c .pre .0 .stands .seconds-in)
+small : (c : tie.Start) → topOpen (c .args .m) (c .args .w .now) (c .args .s) < c .args .m
+small c = top-open _ _ _ _ (c .pre .2) (c .pre .0 .stands .opens-in)
 
 returns : tie.Need-returns
 unfolding Turned
-returns c = λ bs. (early _ bs _ _ _ _ (c .before .before .before .pre .1) (c .before .before .before .pre .2) (c .if1 .taken), refl)
+returns c = λ bs. (early _ bs _ _ _ (c .before .before .before .pre .1) (c .before .before .before .pre .2) (c .if1 .taken), refl)
 
 cast-e : tie.Need-cast-e
 cast-e c = let k = small (c .before .before .before .before) in omega arith
@@ -40,7 +40,7 @@ returns-2 : tie.Need-returns-2
 unfolding Turned
 returns-2 c = λ bs.
     let p = c .before .before .before .before .before .pre in
-    closing _ bs _ _ _ _ (p .1) (p .2) refl (p .0) (omega arith)
+    closing _ bs _ _ _ (p .1) (p .2) (p .0) (omega arith)
 
 pub close-last-spec : {M : Type 1} → statement M
 close-last-spec =

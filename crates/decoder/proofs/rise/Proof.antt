@@ -1,13 +1,13 @@
 use Prim.Native.Nat.{_<_}
 use native.Mathlib.Omega.{arith}
-use Rattle.decoder.specs.States.{lastTree}
-use Rattle.decoder.proofs.Views.{all-first}
+use Rattle.decoder.specs.States.{topTree}
+use Rattle.decoder.proofs.Parts.{top-tree}
 use borrow.Author.Needs.{needs}
 use Rattle.decoder.proofs.rise.Statement.{statement}
 use Rattle.decoder.proofs.rise.Tie as tie
 
-small : (c : tie.Start) → lastTree (c .args .m) (c .args .w .now) (c .args .s) < c .args .m
-small c = all-first _ _ _ _ (c .pre .1) (c .pre .0 .trees-in)
+small : (c : tie.Start) → topTree (c .args .m) (c .args .w .now) (c .args .s) < c .args .m
+small c = top-tree _ _ _ _ (c .pre .1) (c .pre .0 .trees-in)
 
 cast-e : tie.Need-cast-e
 cast-e c = let k = small (c .before .before) in omega arith

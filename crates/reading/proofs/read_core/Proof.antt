@@ -46,12 +46,14 @@ decoded : (c : tie.After-decode) → let r = c .before .before .before .before .
     Answered (decodeRecord r) (2 * edgesOf r) (c .decode .result) (c .decode .last .1 .1 .1 .0)
 decoded c =
     let fields = c .before .before .before in
-    record-decoded _ _ _ (fields .before .before .before .before .pre .0) (fields .before .field .ensures) (fields .field2 .ensures) _ _ (c .decode .ensures)
+    let passed = fields .before .before .before .before .pre .0 in
+    record-decoded _ _ _ passed (fields .before .field .ensures) (fields .field2 .ensures) _ _ (c .decode .ensures)
 
 returns : tie.Need-returns
 returns c =
     let d = c .before .before .before in let fields = d .before .before .before in
-    core-read _ _ _ (decoded d) (fields .before .before .before .before .pre .0) (bytes (fields .before .before)) _ (fields .field2 .ensures) (c .if1 .taken)
+    let passed = fields .before .before .before .before .pre .0 in
+    core-read _ _ _ (decoded d) passed (bytes (fields .before .before)) _ (fields .field2 .ensures) (c .if1 .taken)
 
 returns-2 : tie.Need-returns-2
 returns-2 c = core-unreadable _ _ _ (decoded (c .before .before .before)) (c .if1 .left)

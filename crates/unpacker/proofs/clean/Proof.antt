@@ -1,8 +1,9 @@
-use mathlib.Core.Path.{sym, _∙_}
+use mathlib.Core.Path.{_≡_, sym, _∙_}
 use native.Mathlib.Omega.{arith}
 use borrow.Author.Tests.{not-true, not-false}
+use Rattle.packing.specs.Unlay.{payloadClean}
 use Rattle.unpacker.proofs.Payload.{KindOne, one, KindTwo, two, other-kind, of-kind}
-use Rattle.unpacker.proofs.Padding.{clean-one, clean-two}
+use Rattle.unpacker.proofs.Padding.{cleanParts, clean-one, clean-two}
 use borrow.Author.Needs.{needs}
 use Rattle.unpacker.proofs.clean.Statement.{statement}
 use Rattle.unpacker.proofs.clean.Tie as tie
@@ -12,6 +13,10 @@ in-one c = one _ _ (of-kind _ _ _ _ (c .if1 .taken) (c .before .before .pre))
 
 in-two : (c : tie.Else1) → KindTwo (c .before .before .args .payload .now) (c .before .before .args .m)
 in-two c = let h = c .before .before .pre in two _ _ (of-kind _ _ _ _ (other-kind _ _ _ h (c .if1 .left)) h)
+
+in-parts : (c : tie.Else1) → let a = c .before .before .args in
+    payloadClean (a .kind) (a .m) (a .payload .now) ≡ cleanParts (a .m) (a .payload .now)
+in-parts c = clean-two _ _ _ (c .before .before .pre) (c .if1 .left)
 
 mul-zero-bits-2 : tie.Need-mul-zero-bits-2
 mul-zero-bits-2 c = let z = in-one c in omega arith
@@ -28,13 +33,13 @@ zero-bits-requires-2 c κs = let z = in-two c in omega arith
 returns-2 : tie.Need-returns-2
 returns-2 c =
     let p = sym (c .before .zero-bits2 .ensures) ∙ not-true _ (c .if2 .taken) in
-    rw (clean-two _ _ _ (c .before .before .before .before .pre) (c .before .before .if1 .left), p)
+    rw (in-parts (c .before .before), p)
 
 returns-3 : tie.Need-returns-3
 returns-3 c =
     let p = sym (c .before .before .before .zero-bits2 .ensures) ∙ not-false _ (c .before .before .if2 .left) in
     let q = sym (c .before .groups-fit .ensures) ∙ not-true _ (c .if3 .taken) in
-    rw (clean-two _ _ _ (c .before .before .before .before .before .before .pre) (c .before .before .before .before .if1 .left), p, q)
+    rw (in-parts (c .before .before .before .before), p, q)
 
 zero-labels-requires : tie.Need-zero-labels-requires
 zero-labels-requires c κs = let z = in-two (c .before .before .before .before) in (omega arith, omega arith)
@@ -43,7 +48,7 @@ returns-4 : tie.Need-returns-4
 returns-4 c =
     let p = sym (c .before .before .before .before .zero-bits2 .ensures) ∙ not-false _ (c .before .before .before .if2 .left) in
     let q = sym (c .before .before .groups-fit .ensures) ∙ not-false _ (c .before .if3 .left) in
-    rw (clean-two _ _ _ (c .before .before .before .before .before .before .before .pre) (c .before .before .before .before .before .if1 .left), p, q) (c .zero-labels .ensures)
+    rw (in-parts (c .before .before .before .before .before), p, q) (c .zero-labels .ensures)
 
 pub clean-spec : {M : Type 1} → statement M
 clean-spec =

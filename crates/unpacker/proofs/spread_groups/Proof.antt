@@ -52,20 +52,20 @@ loop-less c = let z = facts (c .before .before .before .before .before .before .
 loop-again : tie.Need-loop-again Inv-loop μ-loop
 loop-again c =
     let st = c .before .before .before .before .before .before .before .before .before in
-    let z = facts st in let h = st .pre .1 in
+    let z = facts st in let h = st .pre .1 in let a = st .args in
     let at = c .before .before .before .before .before .before .loop in let k = at .inv .1 in
     let p = c .before .before .put-group in (
       omega arith,
       p .kept .0 ∙ k,
-      ap (region (LABELS * (2 * st .args .m)) (5 * (at .i + 1))) (p .ensures)
-          ∙ group-on (LABELS * (2 * st .args .m)) ((2 * st .args .m + 7) / 8) (st .args .payload .now) (at .w) (at .i) (omega arith) (omega arith) (at .inv .2),
+      ap (region (LABELS * (2 * a .m)) (5 * (at .i + 1))) (p .ensures)
+          ∙ group-on (LABELS * (2 * a .m)) ((2 * a .m + 7) / 8) (a .payload .now) (at .w) (at .i) (omega arith) (omega arith) (at .inv .2),
     )
 
 returns : tie.Need-returns Inv-loop μ-loop
 returns c =
     let st = c .before .before .before .before in
-    let y = facts st in let at = c .before .loop in
-    groups-end (LABELS * (2 * st .args .m)) ((2 * st .args .m + 7) / 8) (st .args .payload .now) (at .w) (at .i) (st .args .m) (omega arith) (omega arith) (at .inv .2)
+    let z = facts st in let a = st .args in let at = c .before .loop in
+    groups-end (LABELS * (2 * a .m)) ((2 * a .m + 7) / 8) (a .payload .now) (at .w) (at .i) (a .m) (omega arith) (omega arith) (at .inv .2)
     ∙ labels-two _ _
 
 pub spread-groups-spec : {M : Type 1} → statement M
