@@ -29,7 +29,7 @@ use Rattle.work.proofs.Stacks.{length-stack}
 use Rattle.unpacker.specs.Unpacked.{labelsAt}
 use Rattle.decoder.specs.declared.Cursor.{Cursor}
 use Rattle.decoder.specs.declared.State.{State}
-use Rattle.decoder.specs.States.{Parts, partsOf, entered, pushedTree, pushedOpen, labelsOf, machineOf, machineAt, outcome, unread}
+use Rattle.decoder.specs.States.{Parts, partsOf, entered, pushedTree, pushedOpen, labelsOf, machineOf, machineAt, outcome, unread, bitOn, labelOn}
 use Rattle.decoder.specs.States.{Fits, Room, OneRead, Moved, topOpen, topTree}
 use Rattle.decoder.specs.States.{closedState, risenState, leafedState, backedState, enteredState}
 use Rattle.decoder.specs.States.{closedArea, risenArea, leafedArea, backedArea, enteredArea}
@@ -98,7 +98,7 @@ module _ (m : ℕ) (bs w : List ℕ) (s : State) (c : Cursor) where
     pub closing : Fits m w s c → s .here < getD w (BEGUN * (2 * m) + (s .opens - 1)) 0 → Moved m bs w s c (closedState m w s) c (closedArea m w s)
     unfolding machineOf labelsOf outcome wordDarts placeOf
     closing f l =
-        let g = f .stands in let few = f .edges in
+        let g = f .stands in
         let e = topOpen m w s in
         let small = top-open m w (s .depth) (s .opens) h (g .opens-in) in
         moves m bs w s c f _ popped (closedState m w s) c (closedArea m w s) (length-set w (s .place) (2 * e + 1))
@@ -120,10 +120,10 @@ module _ (m : ℕ) (bs w : List ℕ) (s : State) (c : Cursor) (t : s .label ≢ 
   at-root e = stuck-root (machineAt m bs w s c) (drop (c .bits + 1) bs) t zero-next (rw e)
 
   pub rising : length bs ≡ 2 * m → Fits m w s c → 0 < s .depth
-      → Moved m bs w s c (risenState m w s) (record { bits = c .bits + 1; labels = c .labels }) (risenArea m w s)
+      → Moved m bs w s c (risenState m w s) (bitOn c) (risenArea m w s)
   unfolding machineOf labelsOf outcome wordDarts placeOf
   rising size f h =
-      let g = f .stands in let few = f .edges in
+      let g = f .stands in
       let e = topTree m w s in
       let unrisen = partsOf m w (s .depth - 1) (s .opens) in
       let small = top-tree m w (s .depth) (s .opens) h (g .trees-in) in
@@ -146,7 +146,6 @@ module _ (m : ℕ) (bs w : List ℕ) (s : State) (c : Cursor) (t : s .label ≢ 
 
   one-next : drop (c .bits - 1) bs ≡ getD bs (c .bits - 1) 0 ∷ drop (c .bits) bs
   one-next =
-      let o = x .some-bit in let i = x .bits-in in
       let e : c .bits - 1 + 1 ≡ c .bits = omega arith in
       rest-cons bs (c .bits - 1) (omega arith) ∙ ap (λ (k : ℕ). getD bs (c .bits - 1) 0 ∷ drop k bs) e
 
@@ -165,7 +164,7 @@ module _ (m : ℕ) (bs w : List ℕ) (s : State) (c : Cursor) (t : s .label ≢ 
     module _ (count : length (here .labels) ≡ m) (j : c .labels < length (here .labels)) where
       pub room-left : Room m w s (c .labels)
       room-left =
-          let f = x .fits in let g = f .stands in let k = f .edges in let v = f .vertices in
+          let f = x .fits in let g = f .stands in
           record {
             few-edges = g .few-edges;
             room = g .room;
@@ -192,11 +191,10 @@ module _ (m : ℕ) (bs w : List ℕ) (s : State) (c : Cursor) (t : s .label ≢ 
       label-next = rest-cons (here .labels) (c .labels) j
 
       pub leafing : getD (here .labels) (c .labels) 0 ≡ star
-          → Moved m bs w s (unread c) (leafedState s (c .labels) (getD bs (c .bits) 0)) (record { bits = c .bits + 1; labels = c .labels + 1 })
-          (leafedArea w s (c .labels))
+          → Moved m bs w s (unread c) (leafedState s (c .labels) (getD bs (c .bits) 0)) (labelOn (bitOn c)) (leafedArea w s (c .labels))
       unfolding machineOf outcome wordDarts placeOf
       leafing k =
-          let f = x .fits in let few = f .edges in let n = f .vertices in let some = x .some-bit in
+          let f = x .fits in
           moves m bs w s (unread c) f here refl _ _ (leafedArea w s e) (length-set w₁ (2 * e + 1) (2 * e + 1) ∙ w₁-long)
           _ (dart-entered m w₁ (s .depth) (s .opens) (2 * e + 1) (2 * e + 1) (omega arith) ∙ ap (entered (2 * e + 1) (2 * e + 1)) w₁-parts)
           (down ∷ up ∷ [])
@@ -208,11 +206,10 @@ module _ (m : ℕ) (bs w : List ℕ) (s : State) (c : Cursor) (t : s .label ≢ 
 
       module _ (k : getD (here .labels) (c .labels) 0 ≢ star) where
         pub backing : getD bs (c .bits) 0 ≡ 0
-            → Moved m bs w s (unread c) (backedState s (c .labels)) (record { bits = c .bits + 1; labels = c .labels + 1 })
-            (backedArea m w s (c .labels))
+            → Moved m bs w s (unread c) (backedState s (c .labels)) (labelOn (bitOn c)) (backedArea m w s (c .labels))
         unfolding machineOf labelsOf outcome wordDarts placeOf
         backing b =
-            let f = x .fits in let r = room-left in let few = f .edges in let n = f .vertices in let some = x .some-bit in
+            let f = x .fits in let r = room-left in
             moves m bs w s (unread c) f here refl (backedState s e) _ (backedArea m w s e) (simp length-set refl)
             _ (rw (add-one (s .opens)) (open-pushed m w₁ (s .depth) (s .opens) (rw w₁-long (r .room)) (r .one-more) (s .here) e)
             ∙ ap (pushedOpen (s .here) e) w₁-parts)
@@ -222,11 +219,10 @@ module _ (m : ℕ) (bs w : List ℕ) (s : State) (c : Cursor) (t : s .label ≢ 
             (λ a. a) (below-cons m e _ (r .edge-in)) (omega arith, omega arith, omega arith, omega arith, omega arith)
 
         pub entering : getD bs (c .bits) 0 ≢ 0
-            → Moved m bs w s (unread c) (enteredState s (c .labels)) (record { bits = c .bits; labels = c .labels + 1 })
-            (enteredArea m w s (c .labels))
+            → Moved m bs w s (unread c) (enteredState s (c .labels)) (labelOn c) (enteredArea m w s (c .labels))
         unfolding machineOf labelsOf outcome wordDarts placeOf
         entering b =
-            let f = x .fits in let r = room-left in let few = f .edges in let n = f .vertices in let some = x .some-bit in
+            let f = x .fits in let r = room-left in
             moves m bs w s (unread c) f here refl (enteredState s e) _ (enteredArea m w s e) (simp length-set refl)
             _ (rw (add-one (s .depth)) (tree-pushed m w₁ (s .depth) (s .opens) (rw w₁-long (r .room)) (r .one-more) (s .here) e)
             ∙ ap (pushedTree (s .here) e) w₁-parts)

@@ -16,13 +16,13 @@ use Rattle.model.specs.LabelledTree.{star}
 use Rattle.unpacker.specs.Unpacked.{labelsAt}
 use Rattle.decoder.specs.declared.Cursor.{Cursor}
 use Rattle.decoder.specs.declared.State.{State}
-use Rattle.decoder.specs.States.{partsOf, unread, Fits, Room, OneRead, Moved}
+use Rattle.decoder.specs.States.{bitOn, partsOf, unread, Fits, Room, OneRead, Moved}
 use Rattle.decoder.specs.States.{risenState, leafedState, backedState, enteredState, risenArea, leafedArea, backedArea, enteredArea}
-use Rattle.decoder.proofs.Cursors.{BitRead, Read}
+use Rattle.decoder.proofs.Cursors.{BitRead, BothRead}
 use Rattle.decoder.proofs.Parts.{label-count}
 use Rattle.decoder.proofs.Moves.{rising, room-left, leafing, backing, entering}
 
-pub unread-moved : (c d : Cursor) → d ≡ record { bits = c .bits + 1; labels = c .labels } → unread d ≡ c
+pub unread-moved : (c d : Cursor) → d ≡ bitOn c → unread d ≡ c
 unread-moved c d e =
     let k : c .bits + 1 - 1 ≡ c .bits = omega arith in
     ap unread e ∙ ap (λ (b : ℕ). same b) k
@@ -52,7 +52,7 @@ pub record Descent (m : ℕ) (bs w : List ℕ) (s : State) (c : Cursor) (b l : �
   pub unlabelled : s .label ≢ 1
   pub begun : OneRead m bs w s c
   pub size : length bs ≡ 2 * m
-  pub next : Read bs (labelsAt m w) c b l e
+  pub next : BothRead bs (labelsAt m w) c b l e
 
 module _ (m : ℕ) (bs w : List ℕ) (s : State) (c : Cursor) (b l : ℕ) (e : Cursor) (x : Descent m bs w s c b l e) where
   count : length (labelsAt m w) ≡ m

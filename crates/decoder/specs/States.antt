@@ -1,5 +1,6 @@
 -- The machine's state in the code: a few numbers, a cursor, and the parts of the work area that it uses. m is the number of edges.
 --
+--   bitOn c, labelOn c       the cursor moved on by a bit, and by a label
 --   nextBit bs c, nextLabel ls c   what the cursor c hands back of the bits bs and the labels ls
 --   Parts                    the rotation, the stacks and the labels of a work area
 --   partsOf m w d o          those of the work area w, where d tree edges and o others are open
@@ -41,11 +42,17 @@ use Rattle.decoder.specs.declared.Next.the-variants.{Value, End}
 use Rattle.decoder.specs.declared.Outcome.{Outcome}
 use Rattle.decoder.specs.declared.Outcome.the-variants.{Goes, Done, Stuck}
 
+abbrev pub bitOn : Cursor → Cursor
+bitOn c = record { bits = c .bits + 1; labels = c .labels }
+
+abbrev pub labelOn : Cursor → Cursor
+labelOn c = record { bits = c .bits; labels = c .labels + 1 }
+
 unfoldable pub nextBit : List ℕ → Cursor → Next
-nextBit bs c = cond (ltb (c .bits) (length bs)) (Value (getD bs (c .bits) 0) (record { bits = c .bits + 1; labels = c .labels })) End
+nextBit bs c = cond (ltb (c .bits) (length bs)) (Value (getD bs (c .bits) 0) (bitOn c)) End
 
 unfoldable pub nextLabel : List ℕ → Cursor → Next
-nextLabel ls c = cond (ltb (c .labels) (length ls)) (Value (getD ls (c .labels) 0) (record { bits = c .bits; labels = c .labels + 1 })) End
+nextLabel ls c = cond (ltb (c .labels) (length ls)) (Value (getD ls (c .labels) 0) (labelOn c)) End
 
 -- ---- the parts of the work area
 
@@ -202,40 +209,19 @@ risenArea m w s = set w (s .place) (2 * topTree m w s + 1)
 
 -- e is the edge, here and below; b is the leaf's saved label
 abbrev pub leafedState : State → ℕ → ℕ → State
-leafedState s e b = record {
-  n = s .n + 1;
-  here = s .here;
-  depth = s .depth;
-  opens = s .opens;
-  label = b;
-  place = 2 * e;
-}
+leafedState s e b = record { n = s .n + 1; here = s .here; depth = s .depth; opens = s .opens; label = b; place = 2 * e }
 
 abbrev pub leafedArea : List ℕ → State → ℕ → List ℕ
 leafedArea w s e = set (set w (s .place) (2 * e)) (2 * e + 1) (2 * e + 1)
 
 abbrev pub backedState : State → ℕ → State
-backedState s e = record {
-  n = s .n;
-  here = s .here;
-  depth = s .depth;
-  opens = s .opens + 1;
-  label = 0;
-  place = 2 * e;
-}
+backedState s e = record { n = s .n; here = s .here; depth = s .depth; opens = s .opens + 1; label = 0; place = 2 * e }
 
 abbrev pub backedArea : ℕ → List ℕ → State → ℕ → List ℕ
 backedArea m w s e = set (set (set w (s .place) (2 * e)) (BEGUN * (2 * m) + s .opens) (s .here)) (OPENS * (2 * m) + s .opens) e
 
 abbrev pub enteredState : State → ℕ → State
-enteredState s e = record {
-  n = s .n + 1;
-  here = s .n;
-  depth = s .depth + 1;
-  opens = s .opens;
-  label = 0;
-  place = 2 * e + 1;
-}
+enteredState s e = record { n = s .n + 1; here = s .n; depth = s .depth + 1; opens = s .opens; label = 0; place = 2 * e + 1 }
 
 abbrev pub enteredArea : ℕ → List ℕ → State → ℕ → List ℕ
 enteredArea m w s e = set (set (set w (s .place) (2 * e)) (BELOW * (2 * m) + s .depth) (s .here)) (TREES * (2 * m) + s .depth) e
