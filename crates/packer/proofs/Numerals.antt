@@ -14,7 +14,7 @@ use mathlib.Core.Path.{_≡_, refl, sym, ap, _∙_}
 use mathlib.Core.Bool.{true}
 use mathlib.Core.List.{List, [], _∷_, _++_}
 use lib.ListN.{length, getD, set, take, drop, List·getD-eq-default}
-use lib.Seq.{drop-drop, drop-nil, getD-drop, getD-take, length-slice}
+use lib.Seq.{drop-drop, getD-drop, getD-take, length-slice}
 use Rattle.model.specs.Numbers.{allBelow}
 use Rattle.model.specs.Record.{digitsFrom, digits, pack}
 use Rattle.model.proofs.Below.{below-drop}

@@ -3,31 +3,27 @@
 --   two-bytes          two stores put a number in two bytes
 --   head-placed        three numbers, one after the other
 --   one-run, bits-run, labels-run   which entries of the work area are tree bits and labels
---   all-one-run, all-bits-run, all-labels-run   they are small
 --   plain-placed, starred-placed   the payload, by its groups
---   kind-two           a kind but 1 is 2
---   plain-bound, starred-bound   the bound of the labels, by kind
+--   plain-asked, starred-asked, plain-payload, starred-payload   what a payload asks for, and what it is, by kind
 --   whole-record       head and payload are the record
-use Prim.Native.Nat.{ℕ, suc, _+_, _-_, _*_, _/_, _%_, _≤_}
+use Prim.Native.Nat.{ℕ, _+_, _*_, _/_, _%_, _≤_}
 use native.Mathlib.Omega.{arith}
 use native.Mathlib.Numerals.{add-one}
-use mathlib.Core.Path.{_≡_, sym, ap, ap₂, _∙_}
+use mathlib.Core.Path.{_≡_, sym, _∙_}
 use mathlib.Core.Logic.{_≢_}
 use mathlib.Core.Bool.{true}
-use mathlib.Core.List.{List, [], _∷_, _++_}
+use mathlib.Core.List.{List, [], _++_}
 use lib.ListN.{length, set, length-set}
-use borrow.Author.Tests.{eq-eqb, ne-eqb, eqb-true}
+use borrow.Author.Tests.{eq-eqb, ne-eqb}
 use Rattle.model.specs.Numbers.{allBelow}
-use Rattle.model.specs.Map.{isKind}
 use Rattle.model.specs.Record.{pack, le16, bytesFor, labelBase, recordLength, payload, headed}
-use Rattle.model.proofs.Below.{below-append}
+use Rattle.packing.proofs.Packed.{pack-length}
+use Rattle.packing.proofs.Payload.{payload-length}
+use Rattle.model.proofs.Heads.{kind-one, kind-other, recordLength-range}
 use Rattle.work.specs.Map.{BITS, LABELS}
 use Rattle.work.specs.Area.{placed}
-use Rattle.work.proofs.Regions.{region-is, region-split, placed-none, placed-cons, placed-next, front-placed}
-use Rattle.packing.proofs.Packed.{pack-length}
-use Rattle.model.proofs.Heads.{recordLength-range}
-use Rattle.packing.proofs.Payload.{payload-length}
 use Rattle.work.specs.Letters.{workBits, workLabels}
+use Rattle.work.proofs.Regions.{region-is, region-split, placed-none, placed-cons, placed-next, front-placed}
 use Rattle.packer.specs.Packed.{between, Packed}
 
 pub two-bytes : (at x : ℕ) (out : List ℕ) → at + 2 ≤ length out → set (set out at (x % 256)) (at + 1) (x / 256 % 256) ≡ placed at (le16 x) out
@@ -80,31 +76,36 @@ module _ (m : ℕ) (w : List ℕ) where
       let l = pack-length 2 8 bytes (workBits n w) in
       q ∙ rw (p, labels-run, bits-run, ← e, ← f) (rw l at (placed-next at bits (pack 3 5 count (workLabels n w)) out (omega arith)))
 
--- ---- the whole record
+-- ---- kinds, and the whole record
 
-pub kind-two : (k : ℕ) → isKind k ≡ true → k ≢ 1 → k ≡ 2
-unfolding isKind
-kind-two k h e = eqb-true k 2 (rw (ne-eqb k 1 e) at h)
+module _ (k m at room : ℕ) (bits labels : List ℕ) (fits : at + length (payload k m bits labels) ≤ room)
+    (small : allBelow (labelBase k) labels ≡ true) where
+  pub plain-asked : k ≡ 1 → (at + bytesFor (3 * m) 8 ≤ room) × (allBelow 2 labels ≡ true)
+  unfolding labelBase
+  plain-asked e = let a = payload-length k m bits labels in let b = kind-one k m e in (omega arith, rw (eq-eqb k 1 e) at small)
 
-pub plain-bound : (k : ℕ) (xs : List ℕ) → k ≡ 1 → allBelow (labelBase k) xs ≡ true → allBelow 2 xs ≡ true
-unfolding labelBase
-plain-bound k xs e h = rw (eq-eqb k 1 e) at h
+  pub starred-asked : k ≢ 1 → (at + bytesFor (2 * m) 8 + bytesFor m 5 ≤ room) × (allBelow 3 labels ≡ true)
+  unfolding labelBase
+  starred-asked d = let a = payload-length k m bits labels in let b = kind-other k m d in (omega arith, rw (ne-eqb k 1 d) at small)
 
-pub starred-bound : (k : ℕ) (xs : List ℕ) → k ≢ 1 → allBelow (labelBase k) xs ≡ true → allBelow 3 xs ≡ true
-unfolding labelBase
-starred-bound k xs d h = rw (ne-eqb k 1 d) at h
+module _ (k m at : ℕ) (bits labels out out′ : List ℕ) where
+  pub plain-payload : k ≡ 1 → out′ ≡ placed at (payload 1 m bits labels) out → out′ ≡ placed at (payload k m bits labels) out
+  plain-payload e p = rw e p
 
--- the payload is that of kind j, which is k
-pub whole-record : (k j m total : ℕ) (w out mid out′ : List ℕ) → k ≡ j → total ≡ recordLength k m → 1 ≤ m → m ≤ 4096 → recordLength k m ≤ length out
-    → mid ≡ placed 0 (le16 total ++ (le16 k ++ le16 m)) out → out′ ≡ placed 6 (payload j m (workBits (2 * m) w) (workLabels (2 * m) w)) mid
+  pub starred-payload : k ≢ 1 → out′ ≡ placed at (payload 2 m bits labels) out → out′ ≡ placed at (payload k m bits labels) out
+  unfolding payload
+  starred-payload d p = rw (ne-eqb k 1 d) p
+
+pub whole-record : (k m total : ℕ) (w out mid out′ : List ℕ) → total ≡ recordLength k m → 1 ≤ m → m ≤ 4096 → recordLength k m ≤ length out
+    → mid ≡ placed 0 (le16 total ++ (le16 k ++ le16 m)) out → out′ ≡ placed 6 (payload k m (workBits (2 * m) w) (workLabels (2 * m) w)) mid
     → Packed k m w out total out′
 unfolding headed le16
-whole-record k j m total w out mid out′ e t o h l p q =
+whole-record k m total w out mid out′ t o h l p q =
+    let s = recordLength-range k m o h in
     let tail = payload k m (workBits (2 * m) w) (workLabels (2 * m) w) in
     let long = payload-length k m (workBits (2 * m) w) (workLabels (2 * m) w) in
-    let s = recordLength-range k m o h in
     record {
       answered = t;
-      filled = rw (q, ← e, p, t ∙ sym long) (placed-next 0 (le16 (6 + length tail) ++ (le16 k ++ le16 m)) tail out (omega arith))
+      filled = rw (q, p, t ∙ sym long) (placed-next 0 (le16 (6 + length tail) ++ (le16 k ++ le16 m)) tail out (omega arith))
           ∙ front-placed (headed k m tail) out;
     }

@@ -95,17 +95,10 @@ fn put_plain(w: &[u16], m: usize, out: &mut [u8], at: usize)
         (now (out .entry)) ⌝ }
 {
     let n = 2 * m;
+    let bits = work::BITS * n;
+    let labels = work::LABELS * n;
     let count = groups(3 * m, 8);
-    put_groups(
-        w,
-        work::BITS * n,
-        work::LABELS * n + m,
-        2,
-        8,
-        out,
-        at,
-        count,
-    );
+    put_groups(w, bits, labels + m, 2, 8, out, at, count);
 }
 
 // The payload of kind 2, from place at on: tree bits, then labels in groups of five.
@@ -116,19 +109,27 @@ fn put_starred(w: &[u16], m: usize, out: &mut [u8], at: usize)
         (now (out .entry)) ⌝ }
 {
     let n = 2 * m;
+    let bits = work::BITS * n;
+    let labels = work::LABELS * n;
     let bytes = groups(n, 8);
     let count = groups(m, 5);
-    put_groups(w, work::BITS * n, work::BITS * n + n, 2, 8, out, at, bytes);
-    put_groups(
-        w,
-        work::LABELS * n,
-        work::LABELS * n + m,
-        3,
-        5,
-        out,
-        at + bytes,
-        count,
-    );
+    put_groups(w, bits, bits + n, 2, 8, out, at, bytes);
+    put_groups(w, labels, labels + m, 3, 5, out, at + bytes, count);
+}
+
+// The payload of a record of this kind, from place at on.
+fn put_payload(w: &[u16], kind: u16, m: usize, out: &mut [u8], at: usize)
+    requires { ⌜ (m ≤ 4096) × (32 * m ≤ length (now w)) × (at ≤ 2 ^ 16)
+        × (at + length (payload kind m (workBits (2 * m) (now w)) (workLabels (2 * m) (now w))) ≤ length (now out))
+        × (allBelow 2 (workBits (2 * m) (now w)) ≡ true) × (allBelow (labelBase kind) (workLabels (2 * m) (now w)) ≡ true) ⌝ }
+    ensures { λ _. ⌜ now (out .exit) ≡ placed at (payload kind m (workBits (2 * m) (now (w .entry))) (workLabels (2 * m) (now (w .entry))))
+        (now (out .entry)) ⌝ }
+{
+    if kind == 1 {
+        put_plain(w, m, out, at);
+        return;
+    }
+    put_starred(w, m, out, at);
 }
 
 // The whole record, from tree bits and labels.
@@ -140,10 +141,6 @@ pub fn pack(w: &[u16], kind: u16, m: usize, out: &mut [u8]) -> u16
     let edges = m as u16;
     let length = heads::record_length(kind, edges) as u16;
     put_head(out, length, kind, edges);
-    if kind == 1 {
-        put_plain(w, m, out, 6);
-        return length;
-    }
-    put_starred(w, m, out, 6);
+    put_payload(w, kind, m, out, 6);
     length
 }

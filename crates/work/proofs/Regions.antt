@@ -1,7 +1,7 @@
 -- Laws of parts of a list. "Fits" is a + length xs ≤ length w.
 --
 --   length-region, getD-region          a region's length and entries
---   drop-region, region-region          what is left of a region; a region of a region
+--   region-region                       a region of a region
 --   region-is, region-split             a region by its end; a region in two adjacent ones
 --   region-set, region-set-other        a store inside the region, and outside it
 --   region-front                        a store right before the entries from place t on of a part that has c of them and begins at a
@@ -50,7 +50,7 @@ drop-take (suc b) zero w = let z : 0 - suc b ≡ 0 = omega arith in rw z
 drop-take (suc b) (suc n) [] = sym (take-nil (suc n - suc b))
 drop-take (suc b) (suc n) (x ∷ xs) = let e : suc n - suc b ≡ n - b = omega arith in rw e (drop-take b n xs)
 
-pub drop-region : (a n j : ℕ) (w : List ℕ) → drop j (region a n w) ≡ region (a + j) (n - j) w
+drop-region : (a n j : ℕ) (w : List ℕ) → drop j (region a n w) ≡ region (a + j) (n - j) w
 unfolding region
 drop-region a n j w = drop-take j n (drop a w) ∙ ap (take (n - j)) (drop-drop j a w)
 

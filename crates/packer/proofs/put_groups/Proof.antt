@@ -1,6 +1,6 @@
 use Prim.Native.Nat.{_+_, _-_, _*_, _≤_}
 use native.Mathlib.Omega.{arith}
-use mathlib.Core.Path.{_≡_, sym, _∙_}
+use mathlib.Core.Path.{_≡_, sym}
 use lib.ListN.{length, length-set}
 use Rattle.work.specs.Area.{placed}
 use Rattle.work.proofs.Regions.{placed-none}
