@@ -24,7 +24,7 @@ loop-holds c = (search needs, search needs, sym (placed-none _ _))
 
 fits : (c : tie.In-loop Inv-loop μ-loop) → let a = c .before .before .before .before .args in
     c .before .loop .i * a .width + a .width ≤ a .count * a .width
-fits c = group-fits _ _ (c .before .loop .i) (c .loop-test .taken)
+fits c = group-fits _ _ (c .before .loop .i) (omega arith)
 
 mul-digits : tie.Need-mul-digits Inv-loop μ-loop
 mul-digits c = let g = fits c in omega arith
