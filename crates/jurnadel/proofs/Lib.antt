@@ -1,3 +1,3 @@
-pub mod Outcomes
-pub mod Parts
-pub mod Sizes
+mod Outcomes
+mod Parts
+mod Sizes

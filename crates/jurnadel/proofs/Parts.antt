@@ -1,7 +1,5 @@
 -- A fetched record as a place and a length: s is the shelf, u its used length, n the record's number.
 --
---   part-of-part          a part of the used bytes is that part of the shelf
---   record-part           the record at a place of the used bytes, as a part of the shelf
 --   fetch-refused, fetch-fine   the two ways out
 use mathlib.Core.Path.{_≡_, refl, sym, ap, _∙_}
 use mathlib.Core.List.{List, [], _∷_}
@@ -15,22 +13,22 @@ use Rattle.model.specs.Calls.{fetchRefusal, fetched}
 use Rattle.model.specs.ShelfWalk.{recordAt, beginPlace, Begun}
 use Rattle.model.specs.Parts.{fetchedPlace}
 use Rattle.model.specs.Exports.{FetchExport}
-use Rattle.records.proofs.Stands.{stands, stands-length, part-none, part-is}
+use Rattle.records.proofs.Stands.{fits-here, part-none, part-is}
 use Rattle.shelf.proofs.Walking.{first-record}
 
-pub part-of-part : (l u p : ℕ) (s : List ℕ) → p + l ≤ u → take l (drop p (take u s)) ≡ take l (drop p s)
+part-of-part : (l u p : ℕ) (s : List ℕ) → p + l ≤ u → take l (drop p (take u s)) ≡ take l (drop p s)
 part-of-part l u zero s h = take-take l u s (omega arith)
 part-of-part l zero (suc p) s h = let z : ⊥ = omega arith in absurd z
 part-of-part l (suc u) (suc p) [] h = refl
 part-of-part l (suc u) (suc p) (x ∷ s) h = part-of-part l u p s (omega arith)
 
-pub record-part : (s : List ℕ) (u at l : ℕ) → l ≡ length (recordAt (take u s) at) → take l (drop at s) ≡ recordAt (take u s) at
+record-part : (s : List ℕ) (u at l : ℕ) → l ≡ length (recordAt (take u s) at) → take l (drop at s) ≡ recordAt (take u s) at
 record-part s u at l e = go (ℕ-discrete l 0)
   where
     go : Dec (l ≡ 0) → take l (drop at s) ≡ recordAt (take u s) at
     go (yes z) = ap (λ (k : ℕ). take k (drop at s)) z ∙ part-none (take u s) at l e z
     go (no d) =
-        let w = stands-length (take u s) at (stands (take u s) at (λ z. d (e ∙ z))) in
+        let w = fits-here (take u s) at l e d in
         let n = length-take u s in
         let k : at + l - at ≡ l = omega arith in
         sym (part-of-part l u at s (omega arith)) ∙ (ap (λ (j : ℕ). take j (drop at (take u s))) (sym k) ∙ part-is (take u s) at l e d)

@@ -6,13 +6,14 @@
 --   end-head                  bytes end to end, not empty, begin with a record that passes
 --   end-rest, end-records     the rest is records end to end; the records
 --   end-nil, some-bytes       no bytes, no record; where there is a record there are bytes
+--   pass-at                   each of records that all pass
 use mathlib.Core.Path.{_≡_, refl, sym, ap, _∙_}
 use mathlib.Core.Bool.{Bool, true, false, false≢true}
 use mathlib.Core.List.{List, [], _∷_}
 use Prim.Native.Nat.{ℕ, zero, suc, _-_, _≤_, _<_}
-use native.Mathlib.Nat.{not-suc-le-zero}
+use native.Mathlib.Nat.{not-suc-le-zero, le-of-suc-le-suc}
 use native.Mathlib.Omega.{arith}
-use lib.ListN.{length, drop, length-drop}
+use lib.ListN.{length, getD, drop, length-drop}
 use Rattle.model.specs.Shelf.{word16, passes, cutInto, recordsIn, allPass, endToEnd}
 use Rattle.model.specs.ShelfWalk.{firstRecord}
 use Rattle.model.proofs.Booleans.{and-left, and-right}
@@ -92,6 +93,12 @@ end-nil = refl
 pub some-bytes : (bs : List ℕ) (k : ℕ) → k < length (recordsIn bs) → 0 < length bs
 some-bytes [] k h = absurd (let e = ap length end-nil in omega arith)
 some-bytes (b ∷ bs) k h = omega arith
+
+pub pass-at : (rs : List (List ℕ)) (m : ℕ) → allPass rs ≡ true → m < length rs → passes (getD rs m []) ≡ true
+unfolding allPass
+pass-at [] m t h = absurd (not-suc-le-zero h)
+pass-at (r ∷ rs) zero t h = and-left _ (allPass rs) t
+pass-at (r ∷ rs) (suc m) t h = pass-at rs m (and-right (passes r) _ t) (le-of-suc-le-suc h)
 
 -- ---- bytes that are records end to end
 

@@ -2,10 +2,12 @@
 --
 --   head-whole            bytes that begin with a record that passes: its length, and that it fits in them
 --   field-at              the length field at a place
---   record-short, record-long, record-refused    no record stands there
---   record-is, record-length                     one does, and its length
---   record-none           there is none where nothing passes
---   part-none, part-is, begins-none, begins-there        the part that is handed back: its bytes, and where it begins
+--   record-is             the record, where one passes
+--   record-short, record-long   no record stands there: too few bytes
+--   length-refused, length-passes   the record's length, by its head's refusal
+--   stands, stands-not, stands-length   what the length of the record at a place tells
+--   passes-here, none-here, fits-here   the same, l being that length
+--   part-none, part-is, begins-none, begins-there   the part that is handed back: its bytes, and where it begins
 use mathlib.Core.Path.{_≡_, refl, sym, ap, _∙_}
 use mathlib.Core.Bool.{Bool, true, false}
 use mathlib.Core.List.{List, []}
@@ -41,12 +43,9 @@ pub field-at : (bs : List ℕ) (at : ℕ) → word16 (drop at bs) 0 ≡ word16 b
 unfolding word16
 field-at bs at = rw (getD-drop at bs 0 0, getD-drop at bs 1 0, add-zero, add-one)
 
-no-pass : (bs : List ℕ) → (passes (firstRecord bs) ≡ true → ⊥) → passes (firstRecord bs) ≡ false
-no-pass bs f = not-intro _ f
-
 -- passing, at a place, by what was read there
 module _ (bs : List ℕ) (at : ℕ) where
-  pub record-none : passes (firstRecord (drop at bs)) ≡ false → recordAt bs at ≡ []
+  record-none : passes (firstRecord (drop at bs)) ≡ false → recordAt bs at ≡ []
   unfolding recordAt
   record-none e = rw e
 
@@ -66,11 +65,11 @@ module _ (bs : List ℕ) (at : ℕ) where
     head-at : take l (drop at bs) ≡ firstRecord (drop at bs)
     head-at = rw (field-at bs at, l-is)
 
-    pub record-refused : (headRefusal (take l (drop at bs)) ≡ 0 → ⊥) → recordAt bs at ≡ []
+    record-refused : (headRefusal (take l (drop at bs)) ≡ 0 → ⊥) → recordAt bs at ≡ []
     unfolding passes
     record-refused d = record-none (sym (ap passes head-at) ∙ ne-eqb _ _ d)
 
-    pub record-passes : headRefusal (take l (drop at bs)) ≡ 0 → recordAt bs at ≡ take l (drop at bs)
+    record-passes : headRefusal (take l (drop at bs)) ≡ 0 → recordAt bs at ≡ take l (drop at bs)
     unfolding passes
     record-passes e = record-is (sym (ap passes head-at) ∙ eq-eqb _ _ e) ∙ sym head-at
 
@@ -107,23 +106,32 @@ module _ (bs : List ℕ) (at : ℕ) where
   pub stands-not : length (recordAt bs at) ≡ 0 → passes (firstRecord (drop at bs)) ≡ false
   stands-not e = not-intro _ (λ p. let s = stands-length p in omega arith)
 
-  -- ---- the part that is handed back
-
   module _ (l : ℕ) (l-is : l ≡ length (recordAt bs at)) where
+    pub passes-here : (l ≡ 0 → ⊥) → passes (firstRecord (drop at bs)) ≡ true
+    passes-here d = stands (λ z. d (l-is ∙ z))
+
+    pub none-here : l ≡ 0 → passes (firstRecord (drop at bs)) ≡ false
+    none-here e = stands-not (sym l-is ∙ e)
+
+    pub fits-here : (l ≡ 0 → ⊥) → (6 ≤ l) × (at + l ≤ length bs)
+    fits-here d = let s = stands-length (passes-here d) in (omega arith, omega arith)
+
+    -- ---- the part that is handed back
+
     pub part-none : l ≡ 0 → [] ≡ recordAt bs at
-    part-none e = sym (record-none (stands-not (sym l-is ∙ e)))
+    part-none e = sym (record-none (none-here e))
 
     pub part-is : (l ≡ 0 → ⊥) → take (at + l - at) (drop at bs) ≡ recordAt bs at
     part-is d =
-        let p = stands (λ z. d (l-is ∙ z)) in
+        let p = passes-here d in
         let e : at + l - at ≡ l = omega arith in
         ap (λ (k : ℕ). take k (drop at bs)) (e ∙ (l-is ∙ stands-length p .2)) ∙ sym (record-is p)
 
     -- the byte where it begins, o being the byte where the bytes begin
     pub begins-none : l ≡ 0 → (o : ℕ) → 0 + o ≡ o + cutPlace bs at
     unfolding cutPlace
-    begins-none e o = rw (stands-not (sym l-is ∙ e)) (omega arith)
+    begins-none e o = rw (none-here e) (omega arith)
 
     pub begins-there : (l ≡ 0 → ⊥) → (o : ℕ) → at + o ≡ o + cutPlace bs at
     unfolding cutPlace
-    begins-there d o = rw (stands (λ z. d (l-is ∙ z))) (omega arith)
+    begins-there d o = rw (passes-here d) (omega arith)

@@ -1,5 +1,6 @@
 -- One turn of each loop over the heads, at plain values. `at` is the place that the loop has come to.
 --
+--   rest-here, broken-here         the bytes past the record at a place; where none stands
 --   plus n x                       a count, n records on
 --   count-begins, count-turn, count-stops, count-ends    counting
 --   some-here                      bytes stand where a record does
@@ -18,14 +19,20 @@ use Rattle.records.specs.declared.Counted.the-variants.{Records, Broken}
 use Rattle.model.specs.Shelf.{word16, passes, allPass, recordsIn, endToEnd}
 use Rattle.model.specs.ShelfWalk.{firstRecord, recordAt, placeOfRecord}
 use Rattle.records.specs.Count.{countOf}
-use Rattle.records.proofs.Stands.{head-whole, field-at, stands, stands-length, stands-not}
+use Rattle.records.proofs.Stands.{head-whole, field-at, stands-length, passes-here, none-here}
 use Rattle.records.proofs.Cut.{rest, cut-verdict, cut-records, cut-stops, end-nil, some-bytes, end-head, end-rest, end-records}
 
--- the bytes past the record at a place are the rest of those from that place on
-pub onward : (bs : List ℕ) (at l : ℕ) → (l ≡ 0 → ⊥) → l ≡ length (recordAt bs at) → rest (drop at bs) ≡ drop (at + l) bs
-onward bs at l d e =
-    let s = stands-length bs at (stands bs at (λ z. d (e ∙ z))) in
-    drop-drop (word16 (drop at bs) 0) at bs ∙ ap (λ (k : ℕ). drop (at + k) bs) (sym (e ∙ s .2))
+-- ---- the bytes past the record at a place are the rest of those from that place on
+
+rest-drop : (bs : List ℕ) (at l : ℕ) → word16 (drop at bs) 0 ≡ l → rest (drop at bs) ≡ drop (at + l) bs
+rest-drop bs at l e = drop-drop (word16 (drop at bs) 0) at bs ∙ ap (λ (k : ℕ). drop (at + k) bs) e
+
+module _ (bs : List ℕ) (at l : ℕ) (l-is : l ≡ length (recordAt bs at)) where
+  pub rest-here : (l ≡ 0 → ⊥) → rest (drop at bs) ≡ drop (at + l) bs
+  rest-here d = rest-drop bs at l (sym (l-is ∙ stands-length bs at (passes-here bs at l l-is d) .2))
+
+  pub broken-here : l ≡ 0 → at < length bs → endToEnd (drop at bs) ≡ false
+  broken-here e h = let d = length-drop at bs in cut-stops (drop at bs) (omega arith) (none-here bs at l l-is e)
 
 -- ---- counting
 
@@ -52,15 +59,11 @@ count-one bs n p = rw (cut-verdict bs p) (go (endToEnd (rest bs)) refl)
 module _ (bs : List ℕ) (at n l : ℕ) (l-is : l ≡ length (recordAt bs at)) where
   pub count-turn : (l ≡ 0 → ⊥) → plus n (countOf (drop at bs)) ≡ plus (n + 1) (countOf (drop (at + l) bs))
   count-turn d =
-      count-one (drop at bs) n (stands bs at (λ z. d (l-is ∙ z)))
-      ∙ ap (λ (r : List ℕ). plus (n + 1) (countOf r)) (onward bs at l d l-is)
+      count-one (drop at bs) n (passes-here bs at l l-is d) ∙ ap (λ (r : List ℕ). plus (n + 1) (countOf r)) (rest-here bs at l l-is d)
 
   pub count-stops : l ≡ 0 → at < length bs → plus n (countOf (drop at bs)) ≡ Broken
   unfolding countOf
-  count-stops e h = let d = length-drop at bs in rw (cut-stops (drop at bs) (omega arith) (stands-not bs at (sym l-is ∙ e)))
-
-  pub step-fits : (l ≡ 0 → ⊥) → (6 ≤ l) × (at + l ≤ length bs)
-  step-fits d = let s = stands-length bs at (stands bs at (λ z. d (l-is ∙ z))) in (omega arith, omega arith)
+  count-stops e h = rw (broken-here bs at l l-is e h)
 
 pub count-ends : (bs : List ℕ) (at n : ℕ) → at ≡ length bs → plus n (countOf (drop at bs)) ≡ Records n
 unfolding countOf endToEnd allPass
@@ -77,21 +80,21 @@ pub some-here : (bs : List ℕ) (at k : ℕ) → k < length (recordsIn (drop at 
 some-here bs at k h = let b = some-bytes (drop at bs) k h in let d = length-drop at bs in omega arith
 
 module _ (bs : List ℕ) (at : ℕ) (t : endToEnd (drop at bs) ≡ true) (h : at < length bs) where
-  here : passes (firstRecord (drop at bs)) ≡ true
-  here = let d = length-drop at bs in end-head (drop at bs) t (omega arith)
+  head-passes : passes (firstRecord (drop at bs)) ≡ true
+  head-passes = let d = length-drop at bs in end-head (drop at bs) t (omega arith)
 
   pub room : at + 6 ≤ length bs
-  room = let w = head-whole (drop at bs) here in let d = length-drop at bs in omega arith
+  room = let w = head-whole (drop at bs) head-passes in let d = length-drop at bs in omega arith
 
   module _ (l : ℕ) (l-is : l ≡ word16 bs at) where
     field-is : word16 (drop at bs) 0 ≡ l
     field-is = field-at bs at ∙ sym l-is
 
     pub next-fits : (6 ≤ l) × (at + l ≤ length bs)
-    next-fits = let w = head-whole (drop at bs) here in let d = length-drop at bs in let f = field-is in (omega arith, omega arith)
+    next-fits = let w = head-whole (drop at bs) head-passes in let d = length-drop at bs in let f = field-is in (omega arith, omega arith)
 
     next-rest : rest (drop at bs) ≡ drop (at + l) bs
-    next-rest = drop-drop (word16 (drop at bs) 0) at bs ∙ ap (λ (k : ℕ). drop (at + k) bs) field-is
+    next-rest = rest-drop bs at l field-is
 
     pub next-end : endToEnd (drop (at + l) bs) ≡ true
     next-end = let d = length-drop at bs in sym (ap endToEnd next-rest) ∙ end-rest (drop at bs) t (omega arith)

@@ -1,3 +1,3 @@
 pub mod Equality
-pub mod Turn
+mod Turn
 pub mod Told

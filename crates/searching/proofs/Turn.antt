@@ -28,9 +28,9 @@ use Rattle.model.specs.ShelfWalk.{firstRecord, recordAt}
 use Rattle.searching.specs.Search.{searchIn, searchOf}
 use Rattle.records.specs.Count.{countOf}
 use Rattle.records.specs.declared.Counted.the-variants as counted
-use Rattle.records.proofs.Stands.{stands, stands-not, record-is, part-is}
-use Rattle.records.proofs.Cut.{rest, cut-verdict, cut-records, cut-stops, end-nil}
-use Rattle.records.proofs.Turn.{onward}
+use Rattle.records.proofs.Stands.{record-is, passes-here, part-is}
+use Rattle.records.proofs.Cut.{rest, cut-verdict, cut-records, end-nil}
+use Rattle.records.proofs.Turn.{rest-here, broken-here}
 use Rattle.searching.proofs.Equality.{same-eq, same-unlike}
 
 abbrev pub further : ℕ → ℕ → Searched → Searched
@@ -123,18 +123,15 @@ module _ (r bs : List ℕ) (p : passes (firstRecord bs) ≡ true) where
 -- ---- the record that stands at a place, l bytes long
 
 module _ (bs : List ℕ) (at l : ℕ) (l-is : l ≡ length (recordAt bs at)) (d : l ≡ 0 → ⊥) where
-  here : passes (firstRecord (drop at bs)) ≡ true
-  here = stands bs at (λ z. d (l-is ∙ z))
-
-  here-length : length (firstRecord (drop at bs)) ≡ l
-  here-length = sym (l-is ∙ ap length (record-is bs at here))
+  first-length : length (firstRecord (drop at bs)) ≡ l
+  first-length = sym (l-is ∙ ap length (record-is bs at (passes-here bs at l l-is d)))
 
   -- as the code lends it
   part : take (at + l - at) (drop at bs) ≡ firstRecord (drop at bs)
-  part = part-is bs at l l-is d ∙ record-is bs at here
+  part = part-is bs at l l-is d ∙ record-is bs at (passes-here bs at l l-is d)
 
   pub part-length : length (take (at + l - at) (drop at bs)) ≡ l
-  part-length = ap length part ∙ here-length
+  part-length = ap length part ∙ first-length
 
 -- the bytes from a place on, as the code lends them
 take-rest : (bs : List ℕ) (k : ℕ) → take (length bs - k) (drop k bs) ≡ drop k bs
@@ -148,21 +145,18 @@ module _ (r bs : List ℕ) (at n c l : ℕ) (l-is : l ≡ length (recordAt bs at
 
   pub search-stops : l ≡ 0 → at < length bs → Left at n c ≡ Broken
   unfolding searchOf
-  search-stops e h = let d = length-drop at bs in rw (cut-stops (drop at bs) (omega arith) (stands-not bs at (sym l-is ∙ e)))
+  search-stops e h = rw (broken-here bs at l l-is e h)
 
   module _ (d : l ≡ 0 → ⊥) where
-    on : rest (drop at bs) ≡ drop (at + l) bs
-    on = onward bs at l d l-is
-
     next : (t : ℕ) → same r (firstRecord (drop at bs)) ≡ false → tick (eqb l (length r)) 0 ≡ t → Left at n c ≡ Left (at + l) (n + 1) (c + t)
     next t e x =
-        of-next r (drop at bs) (here bs at l l-is d) t e (ap (λ (k : ℕ). tick (eqb k (length r)) 0) (here-length bs at l l-is d) ∙ x) n c
-        ∙ ap (λ (xs : List ℕ). further (n + 1) (c + t) (searchOf r xs)) on
+        of-next r (drop at bs) (passes-here bs at l l-is d) t e (ap (λ (k : ℕ). tick (eqb k (length r)) 0) (first-length bs at l l-is d) ∙ x) n c
+        ∙ ap (λ (xs : List ℕ). further (n + 1) (c + t) (searchOf r xs)) (rest-here bs at l l-is d)
 
     -- a record of another length
     pub search-passes : (l ≡ length r → ⊥) → (c′ : ℕ) → c′ ≡ c → Left at n c ≡ Left (at + l) (n + 1) c′
     search-passes u c′ z =
-        next 0 (same-unlike r _ (λ e. u (sym (e ∙ here-length bs at l l-is d)))) (rw (ne-eqb l (length r) u))
+        next 0 (same-unlike r _ (λ e. u (sym (e ∙ first-length bs at l l-is d)))) (rw (ne-eqb l (length r) u))
         ∙ ap (Left (at + l) (n + 1)) (add-zero c ∙ sym z)
 
     -- another record of this length
@@ -174,8 +168,8 @@ module _ (r bs : List ℕ) (at n c l : ℕ) (l-is : l ≡ length (recordAt bs at
     pub search-finds : same r (take (at + l - at) (drop at bs)) ≡ true
         → Left at n c ≡ cond (endToEnd (take (length bs - (at + l)) (drop (at + l) bs))) (There n (c + 1)) Broken
     search-finds e =
-        of-equal r (drop at bs) (here bs at l l-is d) (sym (ap (same r) (part bs at l l-is d)) ∙ e) n c
-        ∙ ap (λ (xs : List ℕ). cond (endToEnd xs) (There n (c + 1)) Broken) (on ∙ sym (take-rest bs (at + l)))
+        of-equal r (drop at bs) (passes-here bs at l l-is d) (sym (ap (same r) (part bs at l l-is d)) ∙ e) n c
+        ∙ ap (λ (xs : List ℕ). cond (endToEnd xs) (There n (c + 1)) Broken) (rest-here bs at l l-is d ∙ sym (take-rest bs (at + l)))
 
 pub search-begins : (r bs : List ℕ) → further 0 0 (searchOf r bs) ≡ searchOf r bs
 search-begins r bs = go (searchOf r bs)

@@ -1,14 +1,13 @@
 -- Walking and fetching at plain values: s is the shelf, u its used length, n a record's number.
 --
 --   place-record          at the place of record n stands record n
---   next-fits             the next place is in the bytes, or the walk stays
+--   next-inside             the next place is in the bytes, or the walk stays
 --   used-fine             where 14 does not concern the shelf: the used length, the used bytes
 --   none-left             at the used length no record is left
 --   fine-parts            where fetching is not refused: the used length, the used bytes, the number
 --   first-record          the record at a walk's beginning is the fetched one
 --   begun-refused, begun-fine    the two ways that a walk begins
---   fetched-there         fetching, by the record at a beginning
---   fetched-part          the same of the parts themselves: which part of the shelf it is
+--   fetched-part          fetching, by the part at a beginning: its bytes, and which part of the shelf it is
 --   next-is, whole-part   the next place by a record's length; the used part of a shelf that is shorter
 use mathlib.Core.Path.{_≡_, refl, sym, ap, _∙_}
 use mathlib.Core.Logic.{_⊎_, inl, inr}
@@ -27,8 +26,9 @@ use Rattle.model.specs.ShelfWalk.{firstRecord, recordAt, placeOfRecord, beginPl
 use Rattle.model.proofs.Booleans.{or-none}
 use denote.Ref.{RefT, now}
 use Rattle.model.specs.Parts.{cutPlace, CutOut}
+use Rattle.heads.proofs.Head.{passes-long}
 use Rattle.records.proofs.Stands.{head-whole, record-is, record-short, stands, stands-length, stands-not}
-use Rattle.records.proofs.Cut.{rest, some-bytes, end-head, end-rest, end-records}
+use Rattle.records.proofs.Cut.{rest, some-bytes, pass-at, end-head, end-rest, end-records}
 use Rattle.model.specs.Parts.{fetchedPlace, FetchedPart}
 use Rattle.shelf.proofs.Refusals.{used-part, fetch-none}
 
@@ -55,20 +55,14 @@ place-record (suc n) bs t h =
 -- a record that passes stands there
 place-stands : (n : ℕ) (bs : List ℕ) → endToEnd bs ≡ true → n < length (recordsIn bs)
     → passes (firstRecord (drop (placeOfRecord (recordsIn bs) n) bs)) ≡ true
-unfolding placeOfRecord
-place-stands zero bs t h = end-head bs t (some-bytes bs 0 h)
-place-stands (suc n) bs t h =
-    let b = some-bytes bs (suc n) h in
-    let e = end-records bs t b in
-    let l = ap length e in
-    let w = head-whole bs (end-head bs t b) in
-    ap (λ (rs : List (List ℕ)). passes (firstRecord (drop (placeOfRecord rs (suc n)) bs))) e
-    ∙ (ap (λ (k : ℕ). passes (firstRecord (drop (k + placeOfRecord (recordsIn (rest bs)) n) bs))) (w .2)
-    ∙ (ap (λ (r : List ℕ). passes (firstRecord r)) (sym (drop-drop (placeOfRecord (recordsIn (rest bs)) n) (word16 bs 0) bs))
-    ∙ place-stands n (rest bs) (end-rest bs t b) (omega arith)))
+unfolding endToEnd
+place-stands n bs t h =
+    let e = ap length (place-record n bs t h) in
+    let l = passes-long _ (pass-at (recordsIn bs) n t h) in
+    stands bs (placeOfRecord (recordsIn bs) n) (λ z. omega arith)
 
-pub next-fits : (bs : List ℕ) (at : ℕ) → (length (recordAt bs at) ≡ 0) ⊎ (at + length (recordAt bs at) ≤ length bs)
-next-fits bs at = go (ℕ-discrete (length (recordAt bs at)) 0)
+pub next-inside : (bs : List ℕ) (at : ℕ) → (length (recordAt bs at) ≡ 0) ⊎ (at + length (recordAt bs at) ≤ length bs)
+next-inside bs at = go (ℕ-discrete (length (recordAt bs at)) 0)
   where
     go : Dec (length (recordAt bs at) ≡ 0) → (length (recordAt bs at) ≡ 0) ⊎ (at + length (recordAt bs at) ≤ length bs)
     go (yes e) = inl e
@@ -124,7 +118,7 @@ module _ (s : List ℕ) (u n : ℕ) where
           number-is = sym z;
         }
 
-  pub fetched-there : (at x : ℕ) (bs part : List ℕ) → Begun s u n at x → bs ≡ take u s → part ≡ recordAt bs at → Fetched s u n part x
+  fetched-there : (at x : ℕ) (bs part : List ℕ) → Begun s u n at x → bs ≡ take u s → part ≡ recordAt bs at → Fetched s u n part x
   fetched-there at x bs part b e p =
       record {
         part-is = p ∙ (ap (λ (r : List ℕ). recordAt r at) e ∙ (ap (recordAt (take u s)) (b .place-is) ∙ first-record));

@@ -1,4 +1,4 @@
-pub mod Laid
-pub mod Number
-pub mod Shelved
-pub mod Walked
+mod Laid
+mod Number
+mod Shelved
+mod Walked

@@ -18,12 +18,12 @@ use lib.ListN.{length, getD, take, drop, length-append, List·getD-eq-default, d
 use lib.Seq.{length-take-le, drop-cons}
 use borrow.Author.Tests.{le-ltb, eq-eqb}
 use Rattle.model.specs.Numbers.{firstRefusal}
-use Rattle.model.specs.Shelf.{passes, recordsIn, allPass, endToEnd, shelfRefused}
+use Rattle.model.specs.Shelf.{recordsIn, endToEnd, shelfRefused}
 use Rattle.model.specs.Calls.{fetchRefusal, fetched}
 use Rattle.model.specs.ShelfWalk.{recordAt, nextPlace, placeOfRecord, beginPlace, walked, HandsOut}
-use Rattle.model.proofs.Booleans.{and-left, and-right}
 use Rattle.model.proofs.Heads.{passes-long}
 use Rattle.records.proofs.Stands.{record-short}
+use Rattle.records.proofs.Cut.{pass-at}
 use Rattle.shelf.proofs.Walking.{place-record, none-left, used-fine, fine-parts}
 use Rattle.shelf_laws.proofs.Laid.{laid, laid-back}
 use Rattle.shelf_laws.proofs.Shelved.{records, fetch-refusal-zero, fetched-record}
@@ -130,12 +130,6 @@ module _ (s : List ℕ) (u : ℕ) where
           ∙ (ap (recordAt (take u s)) (after (take u s) t k n) ∙ (record-at (take u s) t (n + k) ∙ sym (fetched-any e (n + k))))
 
 -- ---- a record that is fetched is not empty
-
-pass-at : (rs : List (List ℕ)) (m : ℕ) → allPass rs ≡ true → m < length rs → passes (getD rs m []) ≡ true
-unfolding allPass
-pass-at [] m t h = absurd (not-suc-le-zero h)
-pass-at (r ∷ rs) zero t h = and-left _ (allPass rs) t
-pass-at (r ∷ rs) (suc m) t h = pass-at rs m (and-right (passes r) _ t) (le-of-suc-le-suc h)
 
 pub fetched-some : (s : List ℕ) (u m : ℕ) → fetchRefusal s u m ≡ 0 → 6 ≤ length (fetched s u m)
 unfolding fetched endToEnd

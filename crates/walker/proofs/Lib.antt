@@ -1,2 +1,2 @@
 pub mod Walk
-pub mod Held
+pub mod Lending

@@ -3,7 +3,8 @@ use mathlib.Core.Path.{_≡_, sym, _∙_}
 use Prim.Native.Nat.{_+_, _-_, _≤_}
 use lib.ListN.{length, drop}
 use Rattle.records.specs.Count.{countOf}
-use Rattle.records.proofs.Turn.{plus, count-begins, count-turn, count-stops, count-ends, step-fits}
+use Rattle.records.proofs.Turn.{plus, count-begins, count-turn, count-stops, count-ends}
+use Rattle.records.proofs.Stands.{fits-here}
 use borrow.Author.Needs.{needs}
 use Rattle.records.proofs.count.Statement.{statement}
 use Rattle.records.proofs.count.Tie as tie
@@ -17,7 +18,7 @@ abbrev μ-loop : tie.MeasureT-loop
 fits : (c : tie.Else1 Inv-loop μ-loop)
     → let k = c .before .before .before in
     (6 ≤ c .before .length-at .result) × (k .loop .at + c .before .length-at .result ≤ length (k .before .before .args .bytes .now))
-fits c = let l = c .before .before .before .loop in step-fits _ (l .at) (l .n) _ (c .before .length-at .ensures) (c .if1 .left)
+fits c = fits-here _ (c .before .before .before .loop .at) _ (c .before .length-at .ensures) (c .if1 .left)
 
 loop-holds : tie.Need-loop-holds Inv-loop μ-loop
 loop-holds c = (search needs, search needs, count-begins _)

@@ -2,8 +2,7 @@ use native.Mathlib.Omega.{arith}
 use mathlib.Core.Path.{ap}
 use Prim.Native.Nat.{ℕ, _+_, _≤_}
 use lib.ListN.{length}
-use Rattle.records.proofs.Stands.{part-none, part-is, begins-none, begins-there}
-use Rattle.records.proofs.Turn.{step-fits}
+use Rattle.records.proofs.Stands.{fits-here, part-none, part-is, begins-none, begins-there}
 use borrow.Author.Needs.{needs}
 use Rattle.records.proofs.record_at.Statement.{statement}
 use Rattle.records.proofs.record_at.Tie as tie
@@ -12,7 +11,7 @@ fits : (c : tie.Else1)
     → let a = c .before .before .before .args in
     let l = c .before .length-at .result in
     (6 ≤ l) × (a .at + l ≤ length (a .bytes .now))
-fits c = step-fits _ _ 0 _ (c .before .length-at .ensures) (c .if1 .left)
+fits c = fits-here _ _ _ (c .before .length-at .ensures) (c .if1 .left)
 
 returns : tie.Need-returns
 returns c = let l = c .before .before .length-at .ensures in

@@ -4,7 +4,7 @@ use mathlib.Core.Logic.{⊎-elim}
 use Prim.Native.Nat.{_+_, _-_, _≤_}
 use lib.ListN.{length, drop}
 use Rattle.searching.specs.Search.{searchOf}
-use Rattle.records.proofs.Turn.{step-fits}
+use Rattle.records.proofs.Stands.{fits-here}
 use Rattle.searching.proofs.Turn.{further, part-length, search-begins, search-passes, search-goes-on, search-finds, search-stops, search-ends}
 use borrow.Author.Needs.{needs}
 use Rattle.searching.proofs.search.Statement.{statement}
@@ -21,7 +21,7 @@ fits : (c : tie.Else1 Inv-loop μ-loop)
     → let l = c .before .before .before .loop in
     let size = c .before .length-at .result in
     (6 ≤ size) × (l .at + size ≤ length (c .before .before .before .before .before .before .before .args .bytes .now))
-fits c = let l = c .before .before .before .loop in step-fits _ (l .at) (l .n) _ (c .before .length-at .ensures) (c .if1 .left)
+fits c = fits-here _ (c .before .before .before .loop .at) _ (c .before .length-at .ensures) (c .if1 .left)
 
 loop-holds : tie.Need-loop-holds Inv-loop μ-loop
 loop-holds c = (search needs, search needs, search needs, search-begins _ _)

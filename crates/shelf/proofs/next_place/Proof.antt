@@ -1,6 +1,6 @@
 use native.Mathlib.Omega.{arith}
 use mathlib.Core.Logic.{⊎-elim}
-use Rattle.shelf.proofs.Walking.{next-fits, next-is}
+use Rattle.shelf.proofs.Walking.{next-inside, next-is}
 use borrow.Author.Needs.{needs}
 use Rattle.shelf.proofs.next_place.Statement.{statement}
 use Rattle.shelf.proofs.next_place.Tie as tie
@@ -8,7 +8,7 @@ use Rattle.shelf.proofs.next_place.Tie as tie
 add-result : tie.Need-add-result
 add-result c = let a = c .before .before .args in
     let e = c .length-at .ensures in
-    ⊎-elim (λ z. omega arith) (λ b. omega arith) (next-fits (a .bytes .now) (a .at))
+    ⊎-elim (λ z. omega arith) (λ b. omega arith) (next-inside (a .bytes .now) (a .at))
 
 returns : tie.Need-returns
 returns c = next-is _ _ _ (c .length-at .ensures)

@@ -14,7 +14,7 @@ use Rattle.walker.proofs.Walk.{URA, Heap, Atoms, Memory, SProp, Routine, Fun, C
 use Rattle.walker.proofs.Walk.{WpFn, Is, walkOf, ends-at, says, cited, named, erased, w64, vint, ‵, raw, _⊛_, _$_, _∵_, !, qed, move, drop, use1}
 use Rattle.walker.proofs.Walk.{split, suffices, frame, done, agg, whole, sub, look-in, look, init, stop, from, of-opd, land, returns, enter, alloc1}
 use Rattle.walker.proofs.Walk.{alloc0, params1, pass1, pass0, free0, of-local, opds1, opds2, of-field, sets, gone, calls, met}
-use Rattle.walker.proofs.Held.{walker-params, own-slice, place-fits, typed, Fields, fields, makes, plain-params}
+use Rattle.walker.proofs.Lending.{walker-params, own-slice, place-fits, typed, Fields, fields, makes, plain-params}
 use Rattle.walker.proofs.onward as onward
 use Rattle.walker.proofs.onward.Symbol.{name as #walker·onward}
 use Rattle.walker.proofs.onward.Met as onward-thm

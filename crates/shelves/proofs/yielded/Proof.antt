@@ -12,7 +12,7 @@ use Rattle.walker.proofs.Walk.{URA, Heap, Atoms, Memory, SProp, Routine, Fun, C
 use Rattle.walker.proofs.Walk.{WpFn, Is, walkOf, ends-at, says, cited, named, w64, vint, ‵, raw, _⊛_, _$_, _∵_, !, qed, move, drop, use1, split}
 use Rattle.walker.proofs.Walk.{suffices, frame, done, agg, look, init, stop, from, land, returns, enter, alloc1, alloc0, params1, pass1, pass0, free0}
 use Rattle.walker.proofs.Walk.{of-local, opds1, opds2, sets, gone, calls, met}
-use Rattle.walker.proofs.Held.{own-slice, Fields, fields, makes, plain-params}
+use Rattle.walker.proofs.Lending.{own-slice, Fields, fields, makes, plain-params}
 use Rattle.walker.proofs.here as here
 use Rattle.walker.proofs.here.Symbol.{name as #walker·here}
 use Rattle.walker.proofs.here.Met as here-thm

@@ -13,7 +13,7 @@ use Rattle.walker.proofs.Walk.{FmC, WpFn, Is, walkOf, ends-at, says, ci
 use Rattle.walker.proofs.Walk.{ !, qed, move, keep, drop, use1, use2, split, join, suffices, frame, done, agg, look, init, stop, hop, from}
 use Rattle.walker.proofs.Walk.{addr, and-then, land, returns, enter, alloc1, alloc0, params1, pass1, pass0, free0, of-local, opds2, sets, gone}
 use Rattle.walker.proofs.Walk.{calls, met}
-use Rattle.walker.proofs.Held.{own-slice, own-walker, made, passes-fields, lent-params, Had, had, lent-on}
+use Rattle.walker.proofs.Lending.{own-slice, own-walker, made, passes-fields, lent-params, Had, had, lent-on}
 use Rattle.shelf.proofs.walk_begin as walk-begin
 use Rattle.shelf.proofs.walk_begin.Symbol.{name as #shelf·walk-begin}
 use Rattle.shelf.proofs.walk_begin.Met as walk-begin-thm

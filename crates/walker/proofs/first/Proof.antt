@@ -16,7 +16,7 @@ use Rattle.walker.proofs.Walk.{FmC, WpFn, Is, walkOf, ends-at, says, ci
 use Rattle.walker.proofs.Walk.{ !, qed, move, drop, use1, use2, split, join, suffices, frame, done, look, init, stop, hop, from, addr, and-then}
 use Rattle.walker.proofs.Walk.{land, returns, enter, alloc1, alloc0, params1, pass1, pass0, free0, of-local, opds1, opds2, sets, gone, calls}
 use Rattle.walker.proofs.Walk.{met}
-use Rattle.walker.proofs.Held.{walker-params, own-slice, typed, passes-walker, lent-params, Had, had, lent-on}
+use Rattle.walker.proofs.Lending.{walker-params, own-slice, typed, passes-walker, lent-params, Had, had, lent-on}
 use Rattle.walker.proofs.begin as begin
 use Rattle.walker.proofs.begin.Symbol.{name as #walker·begin}
 use Rattle.walker.proofs.begin.Met as begin-thm

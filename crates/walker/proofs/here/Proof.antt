@@ -11,7 +11,7 @@ use Rattle.walker.proofs.Walk.{FmC, WpFn, walkOf, ends-at, says, cited,
 use Rattle.walker.proofs.Walk.{split, fjoin, suffices, frame, done, nothing, whole, sub, look-in, look, init, stop, from, of-opd}
 use Rattle.walker.proofs.Walk.{land, returns, enter, alloc1, alloc0, params1, pass1, pass0, free0, of-local, opds2, of-field, sets, gone}
 use Rattle.walker.proofs.Walk.{calls, met}
-use Rattle.walker.proofs.Held.{own-walker, walker-params, Typed, typed, lends}
+use Rattle.walker.proofs.Lending.{own-walker, walker-params, Typed, typed, lends}
 use Rattle.records.proofs.record_at as record-at
 use Rattle.records.proofs.record_at.Symbol.{name as #records·record-at}
 use Rattle.records.proofs.record_at.Met as record-at-thm

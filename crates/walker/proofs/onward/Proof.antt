@@ -12,7 +12,7 @@ use Rattle.walker.proofs.Walk.{FmC, WpFn, walkOf, ends-at, says, cited,
 use Rattle.walker.proofs.Walk.{use1, split, fjoin, suffices, frame, done, nothing, agg, whole, sub, look-in, look, init, stop, from, of-opd}
 use Rattle.walker.proofs.Walk.{land, returns, enter, alloc1, alloc0, params1, pass1, pass0, free0, of-local, opds2, of-field, sets, gone}
 use Rattle.walker.proofs.Walk.{calls, met}
-use Rattle.walker.proofs.Held.{own-slice, own-walker, walker-params, Typed, typed, lends, apart, made}
+use Rattle.walker.proofs.Lending.{own-slice, own-walker, walker-params, Typed, typed, lends, apart, made}
 use Rattle.shelf.proofs.next_place as next-place
 use Rattle.shelf.proofs.next_place.Symbol.{name as #shelf·next-place}
 use Rattle.shelf.proofs.next_place.Met as next-place-thm
