@@ -26,7 +26,7 @@ use Rattle.model.specs.ShelfWalk.{firstRecord, recordAt, placeOfRecord, beginPl
 use Rattle.model.proofs.Booleans.{or-none}
 use denote.Ref.{RefT, now}
 use Rattle.model.specs.Parts.{cutPlace, CutOut}
-use Rattle.heads.proofs.Head.{passes-long}
+use Rattle.model.proofs.Heads.{passes-long}
 use Rattle.records.proofs.Stands.{head-whole, record-is, record-short, stands, stands-length, stands-not}
 use Rattle.records.proofs.Cut.{rest, some-bytes, pass-at, end-head, end-rest, end-records}
 use Rattle.model.specs.Parts.{fetchedPlace, FetchedPart}
