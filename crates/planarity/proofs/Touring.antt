@@ -2,23 +2,21 @@
 --
 --   treeDart p d      the letter of dart d is of a tree edge
 --   step-on           it goes one position on, and from the last to the first
---   turn-flat, turn-tree   where the next dart about a dart's vertex comes
 --   tour              the tour
 use Prim.Native.Nat.{ℕ, _<_}
 use mathlib.Core.Path.{_≡_, sym, ap, _∙_}
-use mathlib.Core.Bool.{Bool, true, false, cond}
+use mathlib.Core.Bool.{Bool, true, cond}
 use Rattle.model.specs.Numbers.{isPermutation}
 use Rattle.model.specs.Map.{Plan, darts, opposite, next, dartCountFits}
 use Rattle.model.specs.Traversal.{onward}
 use Rattle.model.proofs.Fitness.{count-even}
-use Rattle.model.proofs.Opposite.{opposite-opposite}
 use Rattle.orbits.specs.Chord as chord
 use Rattle.orbits.specs.Tour.{Tour}
 use Rattle.orbits.proofs.Chord.{next-bound}
 use Rattle.orbits.proofs.Maps.{opposite-inv, next-perm}
-use Rattle.words.specs.Toured.{dartAt, letterOf, posOf, mateOf, Toured, isTree}
-use Rattle.words.proofs.Letters.{onward-tree, onward-flat, onward-is}
-use Rattle.words.proofs.Positions.{dart-next, mate-bound, mate-dart, pos-mate, mate-tree}
+use Rattle.words.specs.Toured.{dartAt, letterOf, posOf, Toured, isTree}
+use Rattle.words.proofs.Letters.{onward-is}
+use Rattle.words.proofs.Positions.{dart-next, pos-mate, mate-tree}
 
 abbrev pub treeDart : Plan → ℕ → Bool
 treeDart p d = isTree (letterOf p (posOf p d))
@@ -27,18 +25,6 @@ module _ (p : Plan) (t : Toured p) (fits : dartCountFits (darts p) ≡ true) whe
   -- one position on, round the traversal
   pub step-on : (i : ℕ) → i < darts p → posOf p (onward (p .rotation) (letterOf p i) (dartAt p i)) ≡ chord.next (darts p) i
   step-on i h = ap (posOf p) (sym (dart-next p t i h)) ∙ t .pos-dart (chord.next (darts p) i) (next-bound (darts p) i h)
-
-  -- the next dart about the vertex comes one position after the dart, or, if the edge is of the tree, after its mate
-  pub turn-flat : (i : ℕ) → i < darts p → isTree (letterOf p i) ≡ false → posOf p (next (p .rotation) (dartAt p i)) ≡ chord.next (darts p) i
-  turn-flat i h e = ap (posOf p) (sym (onward-flat (p .rotation) (letterOf p i) (dartAt p i) e)) ∙ step-on i h
-
-  pub turn-tree : (i : ℕ) → i < darts p → isTree (letterOf p i) ≡ true
-      → posOf p (next (p .rotation) (dartAt p i)) ≡ chord.next (darts p) (mateOf p i)
-  turn-tree i h e =
-      let m = mateOf p i in
-      ap (λ (d : ℕ). posOf p (next (p .rotation) d)) (sym (ap opposite (mate-dart p t fits i h) ∙ opposite-opposite (dartAt p i)))
-      ∙ ap (posOf p) (sym (onward-tree (p .rotation) (letterOf p m) (dartAt p m) (mate-tree p t i h ∙ e)))
-      ∙ step-on m (mate-bound p t fits i h)
 
   tree-whole : (d : ℕ) → d < darts p → treeDart p (opposite d) ≡ treeDart p d
   tree-whole d h = ap (λ (i : ℕ). isTree (letterOf p i)) (pos-mate p t d h) ∙ mate-tree p t (posOf p d) (t .pos-bound d h)

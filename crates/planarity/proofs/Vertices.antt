@@ -1,6 +1,5 @@
 -- Every vertex but the root's is entered by one down.
 --
---   after-flat, after-tree   the vertex one position on, after a letter that is not of the tree and after one that is
 --   vertices-downs     there is one vertex more than downs
 --   tree-chords        the tree's diagram has as many chords as there are downs
 --   tree-diagram-nested   that diagram is nested
@@ -9,7 +8,7 @@ use Prim.Native.Nat.{ℕ, zero, suc, _≤_, _<_}
 use native.Mathlib.Nat.{le-antisymm, le-of-lt, le-of-eq, le-of-suc-le-suc}
 use native.Mathlib.Omega.{arith}
 use mathlib.Core.Path.{_≡_, refl, sym, ap, _∙_}
-use mathlib.Core.Bool.{Bool, true, false}
+use mathlib.Core.Bool.{Bool, true}
 use lib.Dec.{T, ltb}
 use borrow.Author.Tests.{lt-ltb, le-ltb}
 use Rattle.model.specs.Numbers.{tick, count, least, isLeast, cycles, isPermutation}
@@ -28,7 +27,7 @@ use Rattle.orbits.proofs.Tour.{dual, map-faces-le, map-nested}
 use Rattle.orbits.proofs.Maps.{next-perm, vertex-turn}
 use Rattle.words.specs.Toured.{dartAt, letterOf, posOf, mateOf, isTree, matching, Brackets, Toured}
 use Rattle.words.specs.Entered.{isDown, downs}
-use Rattle.words.proofs.Letters.{onward-tree, onward-flat, is-down}
+use Rattle.words.proofs.Letters.{onward-tree, is-down}
 use Rattle.words.proofs.Positions.{mate-bound, mate-before, opposite-at}
 use Rattle.words.proofs.OpenEdges.{matching-in, matching-out}
 use Rattle.planarity.proofs.Touring.{treeDart, tour}
@@ -55,14 +54,8 @@ count-all-enters p (suc n) h last =
     last n refl (is-down (letterOf p n) (T-true (isDown (letterOf p n)) t)))))
 
 module _ (p : Plan) (t : Toured p) (fits : dartCountFits (darts p) ≡ true) (perm : isPermutation (p .rotation) ≡ true) where
-  -- the vertex one position on
-  pub after-flat : (k : ℕ) → suc k < darts p → isTree (letterOf p k) ≡ false
-      → vertexOf (p .rotation) (dartAt p (suc k)) ≡ vertexOf (p .rotation) (dartAt p k)
-  after-flat k h e =
-      ap (vertexOf (p .rotation)) (t .step k h ∙ onward-flat (p .rotation) (letterOf p k) (dartAt p k) e)
-      ∙ vertex-turn (p .rotation) (next-perm (p .rotation) perm) (dartAt p k) (t .dart-bound k (omega arith))
-
-  pub after-tree : (k : ℕ) → suc k < darts p → isTree (letterOf p k) ≡ true
+  -- the vertex one position on, after a letter of the tree
+  after-tree : (k : ℕ) → suc k < darts p → isTree (letterOf p k) ≡ true
       → vertexOf (p .rotation) (dartAt p (suc k)) ≡ vertexOf (p .rotation) (opposite (dartAt p k))
   after-tree k h e =
       ap (vertexOf (p .rotation)) (t .step k h ∙ onward-tree (p .rotation) (letterOf p k) (dartAt p k) e)

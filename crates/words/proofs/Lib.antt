@@ -10,6 +10,7 @@ pub mod Numbered
 pub mod Darts
 mod Lists
 pub mod Rotation
+pub mod Vertices
 pub mod Leaves
 pub mod Validity
 mod Counts

@@ -7,8 +7,7 @@
 --   fellows, whole  the fellow's letter, and that both are of one sort
 --   later, earlier  the fellow of an opening letter comes later, that of a closing one earlier
 --   τ-tree, τ-chord, χ-chord   which of τ and χ moves a position
---   tree-turn, vertex-turn   the traversal stands after i where it stands at τ i
---   vertex-end      it ends at the root
+--   vertex-turn     the traversal stands after i where it stands at τ i
 --   stack-down      the position on top of the stack of tree edges
 --   vertex-new      down enters a new vertex
 --   vertex-ends     an edge outside the tree ends where it may
@@ -113,16 +112,9 @@ module _ (ℓ : ℕ → Letter) (N : ℕ) (b : Balance ℓ N) where
 
   -- ---- where the traversal stands
 
-  pub tree-turn : (i : ℕ) → i < N → treeStack ℓ (suc i) ≡ treeStack ℓ (τ i)
-  tree-turn i h = stack-turn (treeWord ℓ) N (b .trees) i h
-
   pub vertex-turn : (i : ℕ) → i < N → vertexNo ℓ (suc i) ≡ vertexNo ℓ (τ i)
   unfolding vertexNo
-  vertex-turn i h = ap (vertexTop ℓ) (tree-turn i h)
-
-  pub vertex-end : vertexNo ℓ N ≡ 0
-  unfolding vertexNo
-  vertex-end = ap (vertexTop ℓ) (b .trees .ended)
+  vertex-turn i h = ap (vertexTop ℓ) (stack-turn (treeWord ℓ) N (b .trees) i h)
 
   pub vertex-new : (i : ℕ) → i < N → ℓ i ≡ down → vertexNo ℓ (mate i) ≡ entered ℓ i
   unfolding vertexNo stack

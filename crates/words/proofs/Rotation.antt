@@ -5,7 +5,6 @@
 --   step               the same before the last position
 --   pos                the position of a dart
 --   pos-bound, dart-pos, pos-dart   it is the inverse of x
---   pos-next           the next dart about a vertex, by positions
 --   next-perm          it is a permutation of the darts
 --   rotation-listed    and passes the test for one
 use Prim.Native.Nat.{ℕ, zero, suc, _≤_, _<_}
@@ -136,10 +135,6 @@ module _ (w : List Letter) (b : Balance (letter w) (length w)) where
       let i = pos d in
       let hi : i < N = pos-bound d h in
       ap (next (rotationOf w)) (sym (dart-pos d h) ∙ ap x (sym (τ-inv ℓ N b .back i hi))) ∙ turn (t i) (τ-inv ℓ N b .bound i hi)
-
-  pub pos-next : (d : ℕ) → d < N → pos (next (rotationOf w) d) ≡ Chord.next N (t (pos d))
-  unfolding φ
-  pos-next d h = ap pos (next-pos d h) ∙ pos-dart (φ t N (pos d)) (φ-perm N t (τ-inv ℓ N b) .bound (pos d) (pos-bound d h))
 
   pub next-perm : Perm N (next (rotationOf w))
   next-perm = record {
