@@ -17,9 +17,9 @@ use Rattle.words.specs.Word.{bareLeaf, valid, planOf}
 use Rattle.words.specs.Toured.{Toured, Bracketed}
 use Rattle.words.proofs.Plans.{rotation-length}
 use Rattle.words.specs.Brackets.{letter}
-use Rattle.words.specs.Position.{Balance, Ends}
+use Rattle.words.specs.Position.{Balance, Closes}
 use Rattle.words.proofs.Validity.{valid-kind, valid-fits, valid-nested, valid-plain}
-use Rattle.words.proofs.Nesting.{balance, nested-ends, ends-low}
+use Rattle.words.proofs.Nesting.{balance, nested-closes, closes-low}
 use Rattle.words.proofs.Rotation.{rotation-listed}
 use Rattle.traversal.specs.Walked.{Walked}
 use Rattle.traversal.proofs.Walk.{walked}
@@ -37,11 +37,11 @@ module _ (k : ℕ) (w : List Letter) (v : valid k w ≡ true) where
   brackets : Balance (letter w) (length w)
   brackets = balance false w (valid-nested k w v)
 
-  strict : Ends false (letter w) (length w)
-  strict = nested-ends false w (valid-nested k w v)
+  strict : Closes false (letter w) (length w)
+  strict = nested-closes false w (valid-nested k w v)
 
-  low : Ends true (letter w) (length w)
-  low = ends-low false (letter w) (length w) strict
+  low : Closes true (letter w) (length w)
+  low = closes-low false (letter w) (length w) strict
 
   some : 0 < length w
   some = count-positive (length w) (valid-fits k w v)

@@ -16,13 +16,13 @@ use Rattle.words.specs.Word.{rotationOf}
 use Rattle.words.specs.Toured.{fellow}
 use Rattle.words.proofs.Plans.{rotation-length}
 use Rattle.words.specs.Brackets.{letter}
-use Rattle.words.specs.Position.{vertexNo, dartNo, Balance, Ends}
-use Rattle.words.proofs.Mates.{mate, mate-inv, fellows, vertex-new, vertex-ends, vertex-entered}
+use Rattle.words.specs.Position.{vertexNo, dartNo, Balance, Closes}
+use Rattle.words.proofs.Mates.{mate, mate-inv, fellows, vertex-new, vertex-closes, vertex-entered}
 use Rattle.words.proofs.Darts.{dart-mate}
 use Rattle.words.proofs.Rotation.{pos, pos-bound, dart-pos}
 use Rattle.building.proofs.Vertices.{vertex-number}
 
-module _ (w : List Letter) (b : Balance (letter w) (length w)) (low : Ends false (letter w) (length w)) where
+module _ (w : List Letter) (b : Balance (letter w) (length w)) (low : Closes false (letter w) (length w)) where
   abbrev N : ℕ
   N = length w
 
@@ -40,7 +40,7 @@ module _ (w : List Letter) (b : Balance (letter w) (length w)) (low : Ends false
   ends-down i h e q = omega (arith, vertex-new ℓ N b i h e, vertex-entered ℓ N b i (le-of-lt h))
 
   ends-second : (i : ℕ) → i < N → ℓ i ≡ second → vertexNo ℓ i ≡ vertexNo ℓ (m i) → ⊥
-  ends-second i h e q = omega (arith, ltb-true (vertexNo ℓ i) (vertexNo ℓ (m i)) (vertex-ends ℓ N b false low i h e))
+  ends-second i h e q = omega (arith, ltb-true (vertexNo ℓ i) (vertexNo ℓ (m i)) (vertex-closes ℓ N b false low i h e))
 
   ends-differ : (i : ℕ) → i < N → vertexNo ℓ i ≡ vertexNo ℓ (m i) → ⊥
   ends-differ i h q = go (ℓ i) refl

@@ -14,14 +14,14 @@ use Rattle.model.specs.Traversal.{Letter}
 use Rattle.words.specs.Word.{planOf}
 use Rattle.words.specs.Toured.{dartAt, letterOf, posOf, mateOf, isTree, isChord, Brackets, Toured}
 use Rattle.words.specs.Brackets.{letter}
-use Rattle.words.specs.Position.{dartNo, Balance, Ends}
+use Rattle.words.specs.Position.{dartNo, Balance, Closes}
 use Rattle.words.proofs.Plans.{rotation-length}
 use Rattle.words.proofs.Mates.{χ, mate, mate-inv, χ-nested, χ-chord}
 use Rattle.words.proofs.Darts.{dart-mate}
 use Rattle.traversal.specs.Walked.{Walked}
 use Rattle.building.proofs.Walk.{built-walk, built-dart}
 
-module _ (w : List Letter) (b : Balance (letter w) (length w)) (low : Ends true (letter w) (length w)) (some : 0 < length w)
+module _ (w : List Letter) (b : Balance (letter w) (length w)) (low : Closes true (letter w) (length w)) (some : 0 < length w)
     (walked : Walked (planOf w)) (t : Toured (planOf w)) where
   abbrev N : ℕ
   N = length w

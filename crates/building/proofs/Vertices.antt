@@ -19,7 +19,7 @@ use Rattle.words.specs.Word.{rotationOf}
 use Rattle.words.specs.Entered.{isDown}
 use Rattle.words.proofs.Plans.{rotation-length}
 use Rattle.words.specs.Brackets.{letter, treeStack}
-use Rattle.words.specs.Position.{entered, vertexTop, vertexNo, dartNo, Balance}
+use Rattle.words.specs.Position.{vertexCount, vertexTop, vertexNo, dartNo, Balance}
 use Rattle.words.proofs.Mates.{stack-down}
 use Rattle.words.proofs.Darts.{dart-perm}
 use Rattle.words.proofs.Rotation.{turn, pos, pos-bound, dart-pos, pos-dart, next-perm}
@@ -54,7 +54,7 @@ module _ (w : List Letter) (b : Balance (letter w) (length w)) where
 
   numberOf : ℕ → ℕ
   numberOf zero = 0
-  numberOf (suc a) = entered ℓ a
+  numberOf (suc a) = vertexCount ℓ a
 
   number-is : (i : ℕ) → vertexNo ℓ i ≡ numberOf (top (treeStack ℓ i))
   unfolding vertexNo numberOf
@@ -67,8 +67,8 @@ module _ (w : List Letter) (b : Balance (letter w) (length w)) where
   pub vertex-number : (i j : ℕ) → i < N → j < N → vertexOf rot (x i) ≡ vertexOf rot (x j) → vertexNo ℓ i ≡ vertexNo ℓ j
   vertex-number i j hi hj e = number-is i ∙ ap numberOf (vertex-entry rot N ℓ x (pos w b) turning i j hi hj e) ∙ sym (number-is j)
 
-  entered-inj : (i j : ℕ) → ℓ i ≡ down → ℓ j ≡ down → entered ℓ i ≡ entered ℓ j → i ≡ j
-  unfolding entered
+  entered-inj : (i j : ℕ) → ℓ i ≡ down → ℓ j ≡ down → vertexCount ℓ i ≡ vertexCount ℓ j → i ≡ j
+  unfolding vertexCount
   entered-inj i j p q e =
       tri i j
       (λ l. absurd (omega (arith, count-below (λ k. isDown (ℓ k)) i j l (ap isDown p))))
@@ -76,7 +76,7 @@ module _ (w : List Letter) (b : Balance (letter w) (length w)) where
       (λ g. absurd (omega (arith, count-below (λ k. isDown (ℓ k)) j i g (ap isDown q))))
 
   entry-same : (i j : ℕ) → i < N → j < N → vertexNo ℓ i ≡ vertexNo ℓ j → top (treeStack ℓ i) ≡ top (treeStack ℓ j)
-  unfolding vertexNo entered
+  unfolding vertexNo vertexCount
   entry-same i j hi hj = go (treeStack ℓ i) (treeStack ℓ j) refl refl
     where
       go : (r s : List ℕ) → treeStack ℓ i ≡ r → treeStack ℓ j ≡ s → vertexTop ℓ r ≡ vertexTop ℓ s → top r ≡ top s

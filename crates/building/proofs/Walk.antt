@@ -24,16 +24,16 @@ use Rattle.words.specs.Word.{rotationOf, planOf, placeOf}
 use Rattle.words.specs.Toured.{dartAt, fellow}
 use Rattle.words.specs.Brackets.{letter, treeKind, treeStack}
 use Rattle.words.specs.Entered.{isDown}
-use Rattle.words.specs.Position.{entered, vertexTop, vertexNo, dartNo, Balance, Ends}
+use Rattle.words.specs.Position.{vertexCount, vertexTop, vertexNo, dartNo, Balance, Closes}
 use Rattle.words.proofs.Nesting.{entered-by}
-use Rattle.words.proofs.Mates.{mate, mate-inv, fellows, earlier, vertex-new, vertex-ends, vertex-entered}
+use Rattle.words.proofs.Mates.{mate, mate-inv, fellows, earlier, vertex-new, vertex-closes, vertex-entered}
 use Rattle.words.proofs.Darts.{dart-perm, dart-mate, dart-zero}
 use Rattle.words.proofs.Rotation.{place, turn}
 use Rattle.traversal.specs.Walked.{Ruled, Walked}
 use Rattle.traversal.proofs.Ruled.{ruled-size, ruled-same, ruled-word}
 use Rattle.building.proofs.Vertices.{vertex-number, vertex-same}
 
-module _ (w : List Letter) (b : Balance (letter w) (length w)) (low : Ends true (letter w) (length w)) (some : 0 < length w) where
+module _ (w : List Letter) (b : Balance (letter w) (length w)) (low : Closes true (letter w) (length w)) (some : 0 < length w) where
   abbrev N : ℕ
   N = length w
 
@@ -82,15 +82,15 @@ module _ (w : List Letter) (b : Balance (letter w) (length w)) (low : Ends true 
   -- ---- the vertices that are entered
 
   -- each has been stood at
-  visited : (i v : ℕ) → v < entered ℓ i → (j : ℕ) × (j ≤ i) × (vertexNo ℓ j ≡ v)
-  unfolding entered count vertexNo stack
+  visited : (i v : ℕ) → v < vertexCount ℓ i → (j : ℕ) × (j ≤ i) × (vertexNo ℓ j ≡ v)
+  unfolding vertexCount count vertexNo stack
   visited zero v h = (0, le-refl 0, omega arith)
   visited (suc i) v h = go (ℓ i) refl (visited i v)
     where
       earlier-on : (j : ℕ) × (j ≤ i) × (vertexNo ℓ j ≡ v) → (j : ℕ) × (j ≤ suc i) × (vertexNo ℓ j ≡ v)
       earlier-on (j, l, e) = (j, le-step l, e)
 
-      go : (l : Letter) → ℓ i ≡ l → (v < entered ℓ i → (j : ℕ) × (j ≤ i) × (vertexNo ℓ j ≡ v)) → (j : ℕ) × (j ≤ suc i) × (vertexNo ℓ j ≡ v)
+      go : (l : Letter) → ℓ i ≡ l → (v < vertexCount ℓ i → (j : ℕ) × (j ≤ i) × (vertexNo ℓ j ≡ v)) → (j : ℕ) × (j ≤ suc i) × (vertexNo ℓ j ≡ v)
       go down e before =
           lt-suc-split (omega (arith, entered-by ℓ i down e))
           (λ q. (suc i, le-refl (suc i), ap (λ (l : Letter). vertexTop ℓ (push (treeKind l) i (treeStack ℓ i))) e ∙ sym q))
@@ -103,7 +103,7 @@ module _ (w : List Letter) (b : Balance (letter w) (length w)) (low : Ends true 
   there i h = ap (vertexOf rot) (sym (dart-mate ℓ N b i h))
 
   new : (i : ℕ) → i < N → ℓ i ≡ down → (j : ℕ) → j ≤ i → vertexOf rot (x j) ≡ vertexOf rot (opposite (x i)) → ⊥
-  unfolding entered
+  unfolding vertexCount
   new i h e j l v =
       let same = vertex-number w b j (m i) (omega arith) (mate-inv ℓ N b .bound i h) (v ∙ there i h) ∙ vertex-new ℓ N b i h e in
       omega (arith, vertex-entered ℓ N b j (omega arith), count-grows (λ k. isDown (ℓ k)) j i l)
@@ -112,7 +112,7 @@ module _ (w : List Letter) (b : Balance (letter w) (length w)) (low : Ends true 
   old i h e =
       let hm = mate-inv ℓ N b .bound i h in
       let back : vertexNo ℓ (m (m i)) ≡ vertexNo ℓ i = ap (vertexNo ℓ) (mate-inv ℓ N b .back i h) in
-      let lower = leb-true (vertexNo ℓ (m i)) (vertexNo ℓ (m (m i))) (vertex-ends ℓ N b true low (m i) hm (fellows ℓ N b i h ∙ ap fellow e)) in
+      let lower = leb-true (vertexNo ℓ (m i)) (vertexNo ℓ (m (m i))) (vertex-closes ℓ N b true low (m i) hm (fellows ℓ N b i h ∙ ap fellow e)) in
       let (j, l, v) = visited i (vertexNo ℓ (m i)) (omega (arith, vertex-entered ℓ N b i (le-of-lt h))) in
       (j, l, vertex-same w b j (m i) (omega arith) hm v ∙ sym (there i h))
 

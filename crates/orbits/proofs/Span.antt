@@ -16,7 +16,7 @@ use borrow.Author.Tests.{eq-eqb, ne-eqb}
 use Rattle.model.specs.Numbers.{count, least, isLeast, cycles}
 use Rattle.orbits.specs.Permutation.{Perm, swap}
 use Rattle.orbits.specs.Chord.{Involution}
-use Rattle.orbits.specs.Tour.{onward, Tour}
+use Rattle.orbits.specs.Tour.{tourNext, Tour}
 use Rattle.orbits.proofs.Order.{eq-split, eq→eqb, find-below}
 use Rattle.orbits.proofs.Tally.{count-inj, count-except}
 use Rattle.orbits.proofs.Cycle.{least-step, least-bound, least-idem, least-ext, perm-ext}
@@ -35,26 +35,26 @@ dec-not (no f) = yes f
 module _ (N : ℕ) (σ α : ℕ → ℕ) (turn : Perm N σ) (cross : Involution N α) where
   -- ---- a tour of one cycle numbers the darts
 
-  module _ (tree : ℕ → Bool) (whole : (d : ℕ) → d < N → tree (α d) ≡ tree d) (perm : Perm N (onward σ α tree))
-      (single : cycles (onward σ α tree) N ≡ 1) (r : ℕ) (hr : r < N) where
-    pub tour : Tour N σ α tree (pos N (onward σ α tree) perm single r hr) (dart N (onward σ α tree) perm single r hr)
+  module _ (tree : ℕ → Bool) (whole : (d : ℕ) → d < N → tree (α d) ≡ tree d) (perm : Perm N (tourNext σ α tree))
+      (single : cycles (tourNext σ α tree) N ≡ 1) (r : ℕ) (hr : r < N) where
+    pub tour : Tour N σ α tree (pos N (tourNext σ α tree) perm single r hr) (dart N (tourNext σ α tree) perm single r hr)
     tour = record {
       turn = turn;
       cross = cross;
       whole = whole;
-      pos-bound = pos-bound N (onward σ α tree) perm single r hr;
-      dart-bound = dart-bound N (onward σ α tree) perm single r hr;
-      dart-pos = dart-pos N (onward σ α tree) perm single r hr;
-      pos-dart = pos-dart N (onward σ α tree) perm single r hr;
-      step = pos-step N (onward σ α tree) perm single r hr;
+      pos-bound = pos-bound N (tourNext σ α tree) perm single r hr;
+      dart-bound = dart-bound N (tourNext σ α tree) perm single r hr;
+      dart-pos = dart-pos N (tourNext σ α tree) perm single r hr;
+      pos-dart = pos-dart N (tourNext σ α tree) perm single r hr;
+      step = pos-step N (tourNext σ α tree) perm single r hr;
     }
 
   -- ---- one edge more
 
-  onward-in : (tree : ℕ → Bool) (d : ℕ) → tree d ≡ true → onward σ α tree d ≡ σ (α d)
+  onward-in : (tree : ℕ → Bool) (d : ℕ) → tree d ≡ true → tourNext σ α tree d ≡ σ (α d)
   onward-in tree d e = ap (λ (c : Bool). cond c (σ (α d)) (σ d)) e
 
-  onward-out : (tree : ℕ → Bool) (d : ℕ) → tree d ≡ false → onward σ α tree d ≡ σ d
+  onward-out : (tree : ℕ → Bool) (d : ℕ) → tree d ≡ false → tourNext σ α tree d ≡ σ d
   onward-out tree d e = ap (λ (c : Bool). cond c (σ (α d)) (σ d)) e
 
   -- the edge of a joins the tree
@@ -73,12 +73,12 @@ module _ (N : ℕ) (σ α : ℕ → ℕ) (turn : Perm N σ) (cross : Involution 
   -- a set of edges, whole, whose tour is a permutation and has both darts of each edge of the set in one cycle
   pub record Edges (tree : ℕ → Bool) : Type 0 where
     pub whole : (d : ℕ) → d < N → tree (α d) ≡ tree d
-    pub perm : Perm N (onward σ α tree)
-    pub inner : (d : ℕ) → d < N → tree d ≡ true → least (onward σ α tree) N (α d) ≡ least (onward σ α tree) N d
+    pub perm : Perm N (tourNext σ α tree)
+    pub inner : (d : ℕ) → d < N → tree d ≡ true → least (tourNext σ α tree) N (α d) ≡ least (tourNext σ α tree) N d
 
   module _ (tree : ℕ → Bool) (g : Edges tree) where
     abbrev τ : ℕ → ℕ
-    τ = onward σ α tree
+    τ = tourNext σ α tree
 
     -- the turn about a vertex is a step of the tour, from d or from the other dart of its edge
     turn-tour : (b : Bool) (d : ℕ) → d < N → tree d ≡ b → σ d ≡ τ (cond b (α d) d)
@@ -111,7 +111,7 @@ module _ (N : ℕ) (σ α : ℕ → ℕ) (turn : Perm N σ) (cross : Involution 
       outside true e = absurd (apart (g .inner a ha e))
       outside false e = e
 
-      added : (d : ℕ) → d < N → onward σ α (more tree a) d ≡ τ (swap a (α a) d)
+      added : (d : ℕ) → d < N → tourNext σ α (more tree a) d ≡ τ (swap a (α a) d)
       added d h =
           let out : tree a ≡ false = outside (tree a) refl in
           swap-split a (α a) d
@@ -129,7 +129,7 @@ module _ (N : ℕ) (σ α : ℕ → ℕ) (turn : Perm N σ) (cross : Involution 
 
       -- the tour with the edge, as the tour without it after an exchange
       abbrev τ′ : ℕ → ℕ
-      τ′ = onward σ α (more tree a)
+      τ′ = tourNext σ α (more tree a)
 
       abbrev ρ : ℕ → ℕ
       ρ x = τ (swap a (α a) x)
@@ -178,12 +178,12 @@ module _ (N : ℕ) (σ α : ℕ → ℕ) (turn : Perm N σ) (cross : Involution 
   pub record Spanning : Type 0 where
     pub tree : ℕ → Bool
     pub edges : Edges tree
-    pub single : cycles (onward σ α tree) N ≡ 1
+    pub single : cycles (tourNext σ α tree) N ≡ 1
 
-  grow : Connected N σ α → zero < N → (n : ℕ) (tree : ℕ → Bool) → Edges tree → cycles (onward σ α tree) N ≤ suc n → Spanning
+  grow : Connected N σ α → zero < N → (n : ℕ) (tree : ℕ → Bool) → Edges tree → cycles (tourNext σ α tree) N ≤ suc n → Spanning
   grow connected h zero tree g l = record { tree = tree; edges = g; single = omega (arith, some-cycle tree g h) }
   grow connected h (suc n) tree g l =
-      let L : ℕ → ℕ = least (onward σ α tree) N in
+      let L : ℕ → ℕ = least (tourNext σ α tree) N in
       ⊎-elim
       (λ f. grow connected h n (more tree (f .0)) (more-edges tree g (f .0) (f .1) (f .2)) (omega (arith, fewer tree g (f .0) (f .1) (f .2))))
       (λ none.

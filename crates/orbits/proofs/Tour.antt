@@ -18,7 +18,7 @@ use borrow.Author.Tests.{le-ltb}
 use Rattle.model.specs.Numbers.{cycles}
 use Rattle.orbits.specs.Permutation.{Perm}
 use Rattle.orbits.specs.Chord.{Involution, opener, chords, next, φ, faces, Nested}
-use Rattle.orbits.specs.Tour.{face, onward, chord, Tour, diagram, rest}
+use Rattle.orbits.specs.Tour.{face, tourNext, chord, Tour, diagram, rest}
 use Rattle.orbits.proofs.Chord.{φ-perm, crossed-perm, faces-le, nested-of-faces, faces-of-nested}
 use Rattle.orbits.proofs.Tally.{count-ext, count-either}
 use Rattle.orbits.proofs.Transversal.{cycles-conj, cycles-ext}
@@ -42,7 +42,7 @@ module _ (N : ℕ) (σ α : ℕ → ℕ) (turn : Perm N σ) (cross : Involution 
   crossed-on true d = refl
   crossed-on false d = refl
 
-  pub tour-perm : Perm N (onward σ α t)
+  pub tour-perm : Perm N (tourNext σ α t)
   tour-perm = record {
     bound = λ d h. subst (λ (x : ℕ). x < N) (sym (crossed-on (t d) d)) (turn .bound (ψ d) (crossed-bound (t d) d h));
     inj = λ d e hd he q.
@@ -70,7 +70,7 @@ module _ (N : ℕ) (σ α : ℕ → ℕ) (tree : ℕ → Bool) (pos dart : ℕ �
   chord-back false d h e = ap (λ (c : Bool). cond c (α d) (α (α d))) (t .whole d h ∙ e) ∙ t .cross .back d h
 
   -- the face's step is the tour's step from the chord's other end
-  face-step : (b : Bool) (d : ℕ) → d < N → tree d ≡ b → face σ α d ≡ onward σ α tree (cond b d (α d))
+  face-step : (b : Bool) (d : ℕ) → d < N → tree d ≡ b → face σ α d ≡ tourNext σ α tree (cond b d (α d))
   face-step true d h e = ap (λ (c : Bool). cond c (σ (α d)) (σ d)) (sym e)
   face-step false d h e = ap (λ (c : Bool). cond c (σ (α (α d))) (σ (α d))) (sym (t .whole d h ∙ e))
 

@@ -2,7 +2,7 @@
 -- goes through all the darts: `pos d` is when dart d comes, `dart` its inverse. Assumes nothing.
 --
 --   face σ α         the face permutation of the map
---   onward           one step of the tour
+--   tourNext         one step of the tour
 --   chord α tree d   the other dart of an edge outside the tree; d itself where its edge is in the tree
 --   Tour             the tour crosses just the tree's edges and goes through all the darts
 --   diagram          the chord diagram that it makes of the edges outside the tree
@@ -18,8 +18,8 @@ abbrev pub face : (ℕ → ℕ) → (ℕ → ℕ) → ℕ → ℕ
 face σ α d = σ (α d)
 
 -- one step of the tour: across a tree edge and about the vertex there, or about this vertex
-abbrev pub onward : (ℕ → ℕ) → (ℕ → ℕ) → (ℕ → Bool) → ℕ → ℕ
-onward σ α tree d = cond (tree d) (σ (α d)) (σ d)
+abbrev pub tourNext : (ℕ → ℕ) → (ℕ → ℕ) → (ℕ → Bool) → ℕ → ℕ
+tourNext σ α tree d = cond (tree d) (σ (α d)) (σ d)
 
 -- the other dart of an edge that is not in the tree; a dart of the tree itself
 abbrev pub chord : (ℕ → ℕ) → (ℕ → Bool) → ℕ → ℕ
@@ -33,7 +33,7 @@ pub record Tour (N : ℕ) (σ α : ℕ → ℕ) (tree : ℕ → Bool) (pos dart 
   pub dart-bound : (i : ℕ) → i < N → dart i < N
   pub dart-pos : (d : ℕ) → d < N → dart (pos d) ≡ d
   pub pos-dart : (i : ℕ) → i < N → pos (dart i) ≡ i
-  pub step : (d : ℕ) → d < N → pos (onward σ α tree d) ≡ next N (pos d)
+  pub step : (d : ℕ) → d < N → pos (tourNext σ α tree d) ≡ next N (pos d)
 
 -- the chord diagram that the tour makes of the edges outside the tree
 abbrev pub diagram : (α : ℕ → ℕ) (tree : ℕ → Bool) (pos dart : ℕ → ℕ) → ℕ → ℕ

@@ -18,7 +18,7 @@ use Rattle.words.specs.Word.{closes, nested}
 use Rattle.words.specs.Toured.{letterOf, mateOf, isChord, Toured, Bracketed}
 use Rattle.words.specs.Brackets.{letter, treeStack}
 use Rattle.words.specs.Entered.{isDown, enteredAt}
-use Rattle.words.specs.Position.{entered, vertexTop, vertexNo, Balance, Ends}
+use Rattle.words.specs.Position.{vertexCount, vertexTop, vertexNo, Balance, Closes}
 use Rattle.words.proofs.Positions.{word-length}
 use Rattle.words.proofs.OpenEdges.{chord-whole, part-top, tour-balance}
 use Rattle.words.proofs.Mates.{stack-down}
@@ -32,7 +32,7 @@ module _ (p : Plan) (t : Toured p) (b : Bracketed p) (fits : dartCountFits (dart
 
   module _ (i j : ℕ) (hi : i ≤ darts p) where
     number-rises : enteredAt p i < enteredAt p j → vertexNo ℓ i < vertexNo ℓ j
-    unfolding enteredAt vertexNo entered
+    unfolding enteredAt vertexNo vertexCount
     number-rises = go (treeStack ℓ i) (treeStack ℓ j) refl
       where
         go : (s u : List ℕ) → treeStack ℓ i ≡ s → top s < top u → vertexTop ℓ s < vertexTop ℓ u
@@ -42,7 +42,7 @@ module _ (p : Plan) (t : Toured p) (b : Bracketed p) (fits : dartCountFits (dart
             omega (arith, count-below (λ k. isDown (ℓ k)) a c (omega arith) (ap isDown (stack-down ℓ (darts p) (tour-balance p t fits b) i hi a s e .1)))
 
     number-grows : enteredAt p i ≤ enteredAt p j → vertexNo ℓ i ≤ vertexNo ℓ j
-    unfolding enteredAt vertexNo entered
+    unfolding enteredAt vertexNo vertexCount
     number-grows = go (treeStack ℓ i) (treeStack ℓ j)
       where
         go : (s u : List ℕ) → top s ≤ top u → vertexTop ℓ s ≤ vertexTop ℓ u
@@ -53,7 +53,7 @@ module _ (p : Plan) (t : Toured p) (b : Bracketed p) (fits : dartCountFits (dart
   -- ---- where edges outside the tree end
 
   module _ (loops : Bool) (low : (i : ℕ) → i < darts p → letterOf p i ≡ second → closes loops (vertexNo ℓ i) (vertexNo ℓ (mateOf p i)) ≡ true) where
-    word-ends : Ends loops (letterOf p) (darts p)
+    word-ends : Closes loops (letterOf p) (darts p)
     word-ends i h e a s f =
         let mate = part-top isChord chord-whole p t fits (b .chords) i h (ap isChord e) (ap opens e) in
         let same : mateOf p i ≡ a = cc in
@@ -62,7 +62,7 @@ module _ (p : Plan) (t : Toured p) (b : Bracketed p) (fits : dartCountFits (dart
     word-nests : nested loops 1 0 [] [] (word p) ≡ true
     unfolding letterOf
     word-nests = nests loops (word p)
-        (subst (Balance (letter (word p))) (sym (word-length p t)) (tour-balance p t fits b)) (subst (Ends loops (letter (word p))) (sym (word-length p t)) word-ends)
+        (subst (Balance (letter (word p))) (sym (word-length p t)) (tour-balance p t fits b)) (subst (Closes loops (letter (word p))) (sym (word-length p t)) word-ends)
 
   pub word-nested : ((j : ℕ) → j < darts p → letterOf p j ≡ second → enteredAt p j < enteredAt p (mateOf p j)) → nested false 1 0 [] [] (word p) ≡ true
   word-nested descends = word-nests false (λ i h e. lt-ltb _ _ (number-rises i (mateOf p i) (le-of-lt h) (descends i h e)))

@@ -25,13 +25,13 @@ use Rattle.model.specs.Traversal.{Letter, down, up, first, second, code}
 use Rattle.model.proofs.Opposite.{opposite-opposite, opposite-ne}
 use Rattle.orbits.specs.Permutation.{Perm}
 use Rattle.orbits.specs.Chord.{Involution}
-use Rattle.orbits.specs.Tour.{onward}
+use Rattle.orbits.specs.Tour.{tourNext}
 use Rattle.orbits.proofs.Order.{eq-split, lt-suc-split}
 use Rattle.orbits.proofs.Cycle.{iter-out, iter-inj}
 use Rattle.orbits.proofs.Tour.{tour-perm}
 use Rattle.words.specs.Toured.{isTree}
 use Rattle.words.proofs.Letters.{onward-is}
-use Rattle.traversal.specs.Steps.{at, start, dart, letterOf, mark, tree}
+use Rattle.traversal.specs.Steps.{at, start, dart, letterAfter, mark, tree}
 use Rattle.traversal.proofs.Steps.{Case, new, old, back, noted, case, down-case, code-some, dart-step, mark-here, mark-other, mark-met}
 
 or-comm : (a b : Bool) → (a || b) ≡ (b || a)
@@ -68,10 +68,10 @@ module _ (rot : List ℕ) (r : ℕ) (turn : Perm (length rot) (next rot)) (cross
   M = mark rot r
 
   abbrev l : ℕ → Letter
-  l = letterOf rot r
+  l = letterAfter rot r
 
   abbrev pub tour : ℕ → ℕ → ℕ
-  tour k = onward (next rot) opposite (tree rot r k)
+  tour k = tourNext (next rot) opposite (tree rot r k)
 
   pub whole : (k d : ℕ) → d < N → tree rot r k (opposite d) ≡ tree rot r k d
   unfolding tree

@@ -25,7 +25,7 @@ use Rattle.orbits.proofs.Order.{eq-split}
 use Rattle.orbits.proofs.Cycle.{least-in, least-step, least-ext}
 use Rattle.orbits.proofs.Merge.{swap-perm, swap-a, swap-b, swap-split, joined, together}
 use Rattle.words.specs.Toured.{isTree}
-use Rattle.traversal.specs.Steps.{at, start, dart, letterOf, mark, seenMark, tree}
+use Rattle.traversal.specs.Steps.{at, start, dart, letterAfter, mark, seenMark, tree}
 use Rattle.traversal.proofs.Marks.{zeros-at}
 use Rattle.traversal.proofs.Steps.{case, down-case, letter-split, dart-bound, across-bound, mark-met}
 use Rattle.traversal.proofs.Steps.{seen-here, seen-across, seen-some, seen-same, seen-other, seen-turn}
@@ -135,7 +135,7 @@ module _ (rot : List ℕ) (r : ℕ) (turn : Perm (length rot) (next rot)) (cross
     f = follows rot r turn cross hr k (away-less rot r turn cross hr k away)
 
     -- no edge goes down
-    merged-same : letterOf rot r k ≢ down → Merged (suc k)
+    merged-same : letterAfter rot r k ≢ down → Merged (suc k)
     merged-same n x h s = label x h ∙ m x h (λ z. s (seen-same rot r k x n ∙ z)) ∙ sym (label r hr)
       where
         label : (z : ℕ) → z < N → L (suc k) z ≡ L k z
@@ -143,7 +143,7 @@ module _ (rot : List ℕ) (r : ℕ) (turn : Perm (length rot) (next rot)) (cross
             ap (λ (b : Bool). cond b (next rot (opposite z)) (next rot z)) (tree-same rot r turn cross hr k f away z (λ d. absurd (n d)))) N
 
     -- the edge of a goes down to b
-    module _ (d : letterOf rot r k ≡ down) where
+    module _ (d : letterAfter rot r k ≡ down) where
       abbrev a : ℕ
       a = D k
 
@@ -207,7 +207,7 @@ module _ (rot : List ℕ) (r : ℕ) (turn : Perm (length rot) (next rot)) (cross
           (λ o. stay x r h hr (m x h (λ z. s (seen-other rot r k x o ∙ z))))
 
     next-merged : Merged (suc k)
-    next-merged = letter-split (letterOf rot r k) merged-down merged-same
+    next-merged = letter-split (letterAfter rot r k) merged-down merged-same
 
   pub merges : (k : ℕ) → Away rot r turn cross hr k → Merged k
   merges zero away = merged-start

@@ -21,7 +21,7 @@ use Rattle.orbits.specs.Permutation.{Perm}
 use Rattle.orbits.specs.Chord.{Involution}
 use Rattle.orbits.proofs.Order.{eq-split, lt-suc-split}
 use Rattle.orbits.proofs.Cycle.{iter-out, comes-back, same-reach, Back, On, on-self, on-step}
-use Rattle.traversal.specs.Steps.{dart, letterOf, mark, seenMark}
+use Rattle.traversal.specs.Steps.{dart, letterAfter, mark, seenMark}
 use Rattle.traversal.proofs.Steps.{Case, new, old, back, noted, case, dart-bound, across-bound, mark-met, seen-here, seen-across, seen-turn}
 use Rattle.traversal.proofs.Follow.{tour, perm, Away, Followed, follows, dart-iter, apart}
 use Rattle.traversal.proofs.Merged.{merges}
@@ -60,7 +60,7 @@ module _ (rot : List ℕ) (r : ℕ) (turn : Perm (length rot) (next rot)) (cross
   D = dart rot r
 
   abbrev l : ℕ → Letter
-  l = letterOf rot r
+  l = letterAfter rot r
 
   abbrev away-from : ℕ → Type 0
   away-from = Away rot r turn cross hr

@@ -34,7 +34,7 @@ use Rattle.orbits.specs.Chord.{Involution}
 use Rattle.orbits.proofs.Order.{eq-split, le-split}
 use Rattle.orbits.proofs.Maps.{vertex-turn, vertex-bound}
 use Rattle.words.specs.Toured.{isTree}
-use Rattle.traversal.specs.Steps.{letter, step, start, at, dart, letterOf, mark, seenMark}
+use Rattle.traversal.specs.Steps.{letter, step, start, at, dart, letterAfter, mark, seenMark}
 use Rattle.traversal.proofs.Marks.{zeros-at, set-here, set-still}
 
 -- ---- the letter
@@ -89,14 +89,14 @@ module _ (rot : List ℕ) (r : ℕ) where
   S = seenMark rot r
 
   abbrev l : ℕ → Letter
-  l = letterOf rot r
+  l = letterAfter rot r
 
   pub case : (k : ℕ) → Case (M k (opposite (D k))) (S k (opposite (D k))) (l k)
-  unfolding dart mark seenMark letterOf letter letterAt
+  unfolding dart mark seenMark letterAfter letter letterAt
   case k = letter-case (M k (opposite (D k))) (S k (opposite (D k))) _ _ _ refl refl refl
 
   pub dart-step : (k : ℕ) → D (suc k) ≡ onward rot (l k) (D k)
-  unfolding dart letterOf at step
+  unfolding dart letterAfter at step
   dart-step k = refl
 
   -- ---- codes
@@ -140,7 +140,7 @@ module _ (rot : List ℕ) (r : ℕ) where
   after-other second n d seen = refl
 
   pub seen-same : (k x : ℕ) → l k ≢ down → S (suc k) x ≡ S k x
-  unfolding seenMark at step letterOf
+  unfolding seenMark at step letterAfter
   seen-same k x n = ap (λ (s : List ℕ). getD s (vertexOf rot x) 0) (after-other (l k) n (at rot r k .dart) (at rot r k .seen))
 
   -- the vertex that down marks
@@ -148,7 +148,7 @@ module _ (rot : List ℕ) (r : ℕ) where
   far k = vertexOf rot (opposite (D k))
 
   seen-set : (k x : ℕ) → l k ≡ down → S (suc k) x ≡ getD (set (at rot r k .seen) (far k) 1) (vertexOf rot x) 0
-  unfolding seenMark at step letterOf dart seenAfter
+  unfolding seenMark at step letterAfter dart seenAfter
   seen-set k x e = ap (λ (a : Letter). getD (seenAfter rot a (at rot r k .dart) (at rot r k .seen)) (vertexOf rot x) 0) e
 
   pub seen-other : (k x : ℕ) → vertexOf rot x ≢ far k → S (suc k) x ≡ S k x
@@ -179,7 +179,7 @@ module _ (rot : List ℕ) (r : ℕ) where
     across-bound k = cross .bound (D k) (dart-bound k)
 
     pub mark-here : (k : ℕ) → M (suc k) (D k) ≡ code (l k)
-    unfolding dart mark at step letterOf
+    unfolding dart mark at step letterAfter
     mark-here k =
         getD-set-same (at rot r k .met) (D k) (code (l k)) 0 (subst (λ (n : ℕ). D k < n) (sym (length-met k)) (dart-bound k))
 

@@ -21,7 +21,7 @@ use Rattle.orbits.specs.Chord.{Involution}
 use Rattle.orbits.proofs.Maps.{next-perm, opposite-inv}
 use Rattle.words.specs.Toured.{dartsMet, dartAt, letterOf}
 use Rattle.traversal.specs.Reach.{Closed}
-use Rattle.traversal.specs.Steps.{at, start, step, letter, dart, letterOf as letterAfter, seenMark}
+use Rattle.traversal.specs.Steps.{at, start, step, letter, dart, letterAfter, seenMark}
 use Rattle.traversal.specs.Walked.{Ruled, Among, Walked}
 use Rattle.traversal.proofs.Steps.{case, down-case, first-case, dart-step, dart-bound, seen-here, seen-some}
 use Rattle.traversal.proofs.Round.{Round, round, different, met-across, met-turn, pair}

@@ -5,7 +5,7 @@
 --   step rot s           the state after it is met
 --   start rot r          the state at the root r, whose vertex is marked
 --   at rot r k           the state after k steps from there
---   dart, letterOf, mark, seenMark   its dart, that dart's letter, the code at a dart x, the mark at x's vertex
+--   dart, letterAfter, mark, seenMark   its dart, that dart's letter, the code at a dart x, the mark at x's vertex
 --   tree rot r k x       the edge of x went down within k steps
 use Prim.Native.Nat.{ℕ, zero, suc}
 use mathlib.Core.Bool.{Bool, _||_}
@@ -40,8 +40,8 @@ at rot r (suc k) = step rot (at rot r k)
 unfoldable pub dart : List ℕ → ℕ → ℕ → ℕ
 dart rot r k = at rot r k .dart
 
-unfoldable pub letterOf : List ℕ → ℕ → ℕ → Letter
-letterOf rot r k = letter rot (at rot r k)
+unfoldable pub letterAfter : List ℕ → ℕ → ℕ → Letter
+letterAfter rot r k = letter rot (at rot r k)
 
 unfoldable pub mark : List ℕ → ℕ → ℕ → ℕ → ℕ
 mark rot r k x = getD (at rot r k .met) x 0

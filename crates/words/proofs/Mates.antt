@@ -10,7 +10,7 @@
 --   vertex-turn     the traversal stands after i where it stands at τ i
 --   stack-down      the position on top of the stack of tree edges
 --   vertex-new      down enters a new vertex
---   vertex-ends     an edge outside the tree ends where it may
+--   vertex-closes   an edge outside the tree ends where it may
 --   vertex-entered  the present vertex has been entered
 use Prim.Native.Nat.{ℕ, suc, _≤_, _<_}
 use native.Mathlib.Omega.{arith}
@@ -28,7 +28,7 @@ use Rattle.words.specs.Toured.{fellow, isTree}
 use Rattle.words.specs.Entered.{isDown}
 use Rattle.words.proofs.Letters.{tree-fellow}
 use Rattle.words.specs.Brackets.{treeKind, chordKind, treeWord, chordWord, treeStack}
-use Rattle.words.specs.Position.{entered, vertexTop, vertexNo, Balance, Ends}
+use Rattle.words.specs.Position.{vertexCount, vertexTop, vertexNo, Balance, Closes}
 use Rattle.words.proofs.Bracketing.{is-down, is-up, is-first, is-second, flat-chord}
 
 -- ---- the fellow of a position
@@ -116,25 +116,25 @@ module _ (ℓ : ℕ → Letter) (N : ℕ) (b : Balance ℓ N) where
   unfolding vertexNo
   vertex-turn i h = ap (vertexTop ℓ) (stack-turn (treeWord ℓ) N (b .trees) i h)
 
-  pub vertex-new : (i : ℕ) → i < N → ℓ i ≡ down → vertexNo ℓ (mate i) ≡ entered ℓ i
+  pub vertex-new : (i : ℕ) → i < N → ℓ i ≡ down → vertexNo ℓ (mate i) ≡ vertexCount ℓ i
   unfolding vertexNo stack
   vertex-new i h e =
       ap (vertexNo ℓ) (sym (τ-tree i (ap isTree e))) ∙ sym (vertex-turn i h)
       ∙ ap (λ (l : Letter). vertexTop ℓ (push (treeKind l) i (treeStack ℓ i))) e
 
-  pub vertex-ends : (loops : Bool) → Ends loops ℓ N → (i : ℕ) → i < N → ℓ i ≡ second → closes loops (vertexNo ℓ i) (vertexNo ℓ (mate i)) ≡ true
-  vertex-ends loops low i h e =
+  pub vertex-closes : (loops : Bool) → Closes loops ℓ N → (i : ℕ) → i < N → ℓ i ≡ second → closes loops (vertexNo ℓ i) (vertexNo ℓ (mate i)) ≡ true
+  vertex-closes loops low i h e =
       subst (λ (k : ℕ). closes loops (vertexNo ℓ i) (vertexNo ℓ k) ≡ true) (χ-chord i (ap isTree e))
       (low i h e (χ i) _ (close-top (chordWord ℓ) N (b .chords) i h (ap chordKind e)))
 
   pub stack-down : (i : ℕ) → i ≤ N → (a : ℕ) (s : List ℕ) → treeStack ℓ i ≡ a ∷ s → (a < i) × (ℓ a ≡ down)
   stack-down i h a s e = (stack-below (treeWord ℓ) N (b .trees) i h a s e, is-down (ℓ a) (stack-kind (treeWord ℓ) N (b .trees) i h a s e))
 
-  pub vertex-entered : (i : ℕ) → i ≤ N → vertexNo ℓ i < entered ℓ i
-  unfolding vertexNo entered
+  pub vertex-entered : (i : ℕ) → i ≤ N → vertexNo ℓ i < vertexCount ℓ i
+  unfolding vertexNo vertexCount
   vertex-entered i h = go (treeStack ℓ i) refl
     where
-      go : (s : List ℕ) → treeStack ℓ i ≡ s → vertexTop ℓ s < entered ℓ i
+      go : (s : List ℕ) → treeStack ℓ i ≡ s → vertexTop ℓ s < vertexCount ℓ i
       go [] e = omega arith
       go (a ∷ s) e =
           let (l, d) = stack-down i h a s e in

@@ -1,7 +1,7 @@
 -- The machine `nested` accepts a word exactly where its brackets match and each edge outside the tree ends where it may.
 --
---   balance, nested-ends   the brackets of an accepted word match, and each edge outside the tree ends where it may
---   ends-low        then it ends where it may if loops are taken, too
+--   balance, nested-closes   the brackets of an accepted word match, and each edge outside the tree ends where it may
+--   closes-low      then it ends where it may if loops are taken, too
 --   nests           a word is accepted if both hold
 --   entered-by      one vertex more is entered by down
 use Prim.Native.Nat.{ℕ, zero, suc, _≤_, _<_}
@@ -22,7 +22,7 @@ use Rattle.orbits.proofs.Tally.{tick-suc}
 use Rattle.words.specs.Word.{closes, nested}
 use Rattle.words.specs.Brackets.{letter, treeKind, chordKind, treeStack, chordStack}
 use Rattle.words.specs.Entered.{isDown}
-use Rattle.words.specs.Position.{entered, vertexTop, vertexNo, belowOf, Balance, Ends}
+use Rattle.words.specs.Position.{vertexCount, vertexTop, vertexNo, belowOf, Balance, Closes}
 use Rattle.words.proofs.Bracketing.{is-up, is-second}
 
 -- the machine accepts `rest` where the stacks are s and t
@@ -36,20 +36,20 @@ vertex-top : (ℓ : ℕ → Letter) (i : ℕ) → vertexNo ℓ i ≡ vertexTop �
 unfolding vertexNo
 vertex-top ℓ i = refl
 
-pub ends-low : (loops : Bool) (ℓ : ℕ → Letter) (N : ℕ) → Ends loops ℓ N → Ends true ℓ N
-ends-low true ℓ N low = low
-ends-low false ℓ N low = λ i h e a s t. le-leb (vertexNo ℓ i) (vertexNo ℓ a) (le-of-lt (ltb-true (vertexNo ℓ i) (vertexNo ℓ a) (low i h e a s t)))
+pub closes-low : (loops : Bool) (ℓ : ℕ → Letter) (N : ℕ) → Closes loops ℓ N → Closes true ℓ N
+closes-low true ℓ N low = low
+closes-low false ℓ N low = λ i h e a s t. le-leb (vertexNo ℓ i) (vertexNo ℓ a) (le-of-lt (ltb-true (vertexNo ℓ i) (vertexNo ℓ a) (low i h e a s t)))
 
 -- ---- one letter
 
-pub entered-by : (ℓ : ℕ → Letter) (i : ℕ) (l : Letter) → ℓ i ≡ l → entered ℓ (suc i) ≡ tick (isDown l) (entered ℓ i)
-unfolding entered count
+pub entered-by : (ℓ : ℕ → Letter) (i : ℕ) (l : Letter) → ℓ i ≡ l → vertexCount ℓ (suc i) ≡ tick (isDown l) (vertexCount ℓ i)
+unfolding vertexCount count
 entered-by ℓ i l e =
     ap (λ (c : Letter). suc (tick (isDown c) (count (λ j. isDown (ℓ j)) i))) e ∙ sym (tick-suc (isDown l) (count (λ j. isDown (ℓ j)) i))
 
 module _ (loops : Bool) (ℓ : ℕ → Letter) where
-  accepts-on : (i : ℕ) (l : Letter) (s t : List ℕ) (rest : List Letter) → vertexNo ℓ i ≡ vertexTop ℓ s → Accepts loops ℓ (entered ℓ i) s t (l ∷ rest)
-      → Accepts loops ℓ (tick (isDown l) (entered ℓ i)) (push (treeKind l) i s) (push (chordKind l) i t) rest
+  accepts-on : (i : ℕ) (l : Letter) (s t : List ℕ) (rest : List Letter) → vertexNo ℓ i ≡ vertexTop ℓ s → Accepts loops ℓ (vertexCount ℓ i) s t (l ∷ rest)
+      → Accepts loops ℓ (tick (isDown l) (vertexCount ℓ i)) (push (treeKind l) i s) (push (chordKind l) i t) rest
   unfolding nested
   accepts-on i down s t rest e h = h
   accepts-on i up [] t rest e h = absurd (false≢true h)
@@ -76,8 +76,8 @@ module _ (loops : Bool) (ℓ : ℕ → Letter) where
   -- and back
   accepts-from : (i : ℕ) (l : Letter) (s t : List ℕ) (rest : List Letter) → vertexNo ℓ i ≡ vertexTop ℓ s → (l ≡ up → s ≡ [] → ⊥)
       → (l ≡ second → t ≡ [] → ⊥) → ((a : ℕ) (t′ : List ℕ) → l ≡ second → t ≡ a ∷ t′ → closes loops (vertexTop ℓ s) (vertexNo ℓ a) ≡ true)
-      → Accepts loops ℓ (tick (isDown l) (entered ℓ i)) (push (treeKind l) i s) (push (chordKind l) i t) rest
-      → Accepts loops ℓ (entered ℓ i) s t (l ∷ rest)
+      → Accepts loops ℓ (tick (isDown l) (vertexCount ℓ i)) (push (treeKind l) i s) (push (chordKind l) i t) rest
+      → Accepts loops ℓ (vertexCount ℓ i) s t (l ∷ rest)
   unfolding nested
   accepts-from i down s t rest e u v c h = h
   accepts-from i up [] t rest e u v c h = absurd (u refl refl)
@@ -98,45 +98,45 @@ module _ (loops : Bool) (w : List Letter) (good : nested loops 1 0 [] [] w ≡ t
   abbrev ℓ : ℕ → Letter
   ℓ = letter w
 
-  accepts : (i : ℕ) → i ≤ length w → Accepts loops ℓ (entered ℓ i) (treeStack ℓ i) (chordStack ℓ i) (drop i w)
-  unfolding stack entered count
+  accepts : (i : ℕ) → i ≤ length w → Accepts loops ℓ (vertexCount ℓ i) (treeStack ℓ i) (chordStack ℓ i) (drop i w)
+  unfolding stack vertexCount count
   accepts zero h = good
   accepts (suc i) h =
       subst (λ (n : ℕ). Accepts loops ℓ n (treeStack ℓ (suc i)) (chordStack ℓ (suc i)) (drop (suc i) w)) (sym (entered-by ℓ i (ℓ i) refl))
       (accepts-on loops ℓ i (ℓ i) (treeStack ℓ i) (chordStack ℓ i) (drop (suc i) w) (vertex-top ℓ i)
       (rw (drop-cons w i second h) at (accepts i (le-of-lt h))))
 
-  at-letter : (i : ℕ) → i < length w → Accepts loops ℓ (entered ℓ i) (treeStack ℓ i) (chordStack ℓ i) (ℓ i ∷ drop (suc i) w)
+  at-letter : (i : ℕ) → i < length w → Accepts loops ℓ (vertexCount ℓ i) (treeStack ℓ i) (chordStack ℓ i) (ℓ i ∷ drop (suc i) w)
   at-letter i h = rw (drop-cons w i second h) at (accepts i (le-of-lt h))
 
   at-end : (treeStack ℓ (length w) ≡ []) × (chordStack ℓ (length w) ≡ [])
-  at-end = accepts-end loops ℓ (entered ℓ (length w)) _ _ (rw drop-length at (accepts (length w) (le-refl (length w))))
+  at-end = accepts-end loops ℓ (vertexCount ℓ (length w)) _ _ (rw drop-length at (accepts (length w) (le-refl (length w))))
 
-  pub nested-ends : Ends loops ℓ (length w)
+  pub nested-closes : Closes loops ℓ (length w)
   unfolding vertexNo
-  nested-ends i h e a s t = accepts-lower loops ℓ (entered ℓ i) a (treeStack ℓ i) s (drop (suc i) w) (rw (t, e) at (at-letter i h))
+  nested-closes i h e a s t = accepts-lower loops ℓ (vertexCount ℓ i) a (treeStack ℓ i) s (drop (suc i) w) (rw (t, e) at (at-letter i h))
 
   pub balance : Balance ℓ (length w)
   unfolding vertexNo
   balance = record {
     trees = record {
       served = λ i h c.
-          accepts-up loops ℓ (entered ℓ i) (treeStack ℓ i) (chordStack ℓ i) (drop (suc i) w) (rw (is-up (ℓ i) c) at (at-letter i h));
+          accepts-up loops ℓ (vertexCount ℓ i) (treeStack ℓ i) (chordStack ℓ i) (drop (suc i) w) (rw (is-up (ℓ i) c) at (at-letter i h));
       ended = at-end .0;
     };
     chords = record {
       served = λ i h c.
-          accepts-second loops ℓ (entered ℓ i) (treeStack ℓ i) (chordStack ℓ i) (drop (suc i) w) (rw (is-second (ℓ i) c) at (at-letter i h));
+          accepts-second loops ℓ (vertexCount ℓ i) (treeStack ℓ i) (chordStack ℓ i) (drop (suc i) w) (rw (is-second (ℓ i) c) at (at-letter i h));
       ended = at-end .1;
     };
   }
 
-module _ (loops : Bool) (w : List Letter) (b : Balance (letter w) (length w)) (low : Ends loops (letter w) (length w)) where
+module _ (loops : Bool) (w : List Letter) (b : Balance (letter w) (length w)) (low : Closes loops (letter w) (length w)) where
   abbrev ℓ′ : ℕ → Letter
   ℓ′ = letter w
 
   abbrev Nests : ℕ → Type 0
-  Nests i = Accepts loops ℓ′ (entered ℓ′ i) (treeStack ℓ′ i) (chordStack ℓ′ i) (drop i w)
+  Nests i = Accepts loops ℓ′ (vertexCount ℓ′ i) (treeStack ℓ′ i) (chordStack ℓ′ i) (drop i w)
 
   nests-at : (i : ℕ) → i < length w → Nests (suc i) → Nests i
   unfolding stack vertexNo
@@ -146,5 +146,5 @@ module _ (loops : Bool) (w : List Letter) (b : Balance (letter w) (length w)) (l
       (rw (entered-by ℓ′ i (ℓ′ i) refl) at n))
 
   pub nests : nested loops 1 0 [] [] w ≡ true
-  unfolding stack entered count nested
+  unfolding stack vertexCount count nested
   nests = from-end Nests (length w) (rw (b .trees .ended, b .chords .ended, drop-length)) nests-at 0 (omega arith)
