@@ -9,7 +9,7 @@
 --   least-ext, perm-ext   a function that agrees with p below N has the same labels, and is a permutation
 --   iter-out, iter-bound, iter-inj   iterates: the last step, their bound, different ones before the period
 --   iter-fixed         a fixed point has itself only
---   Back, On, on-self, on-step   x is back after q + 1 steps; what it then runs through
+--   Back, On, on-iter  x is back after q + 1 steps; what it then runs through, its iterates
 --   comes-back         every number comes back
 --   Reach, same-reach  two numbers with one label reach each other
 use Prim.Native.Nat.{ℕ, zero, suc, min, _≤_, _<_, zero-le}
@@ -63,16 +63,21 @@ module _ (p : ℕ → ℕ) where
   abbrev pub On : ℕ → ℕ → ℕ → Type 0
   On q x z = (r : ℕ) × (r ≤ q) × (iter p r x ≡ z)
 
-  pub on-self : (q x : ℕ) → On q x x
+  on-self : (q x : ℕ) → On q x x
   unfolding iter
   on-self q x = (zero, zero-le, refl)
 
-  pub on-step : (q x : ℕ) → Back q x → (z : ℕ) → On q x z → On q x (p z)
+  on-step : (q x : ℕ) → Back q x → (z : ℕ) → On q x z → On q x (p z)
   unfolding iter
   on-step q x back z (r, h, e) =
       le-split h
       (λ (last : r ≡ q). (zero, zero-le, sym back ∙ iter-out q x ∙ ap (λ (k : ℕ). p (iter p k x)) (sym last) ∙ ap p e))
       (λ more. (suc r, more, iter-out r x ∙ ap p e))
+
+  pub on-iter : (q x : ℕ) → Back q x → (j : ℕ) → On q x (iter p j x)
+  unfolding iter
+  on-iter q x back zero = on-self q x
+  on-iter q x back (suc j) = subst (On q x) (sym (iter-out j x)) (on-step q x back (iter p j x) (on-iter q x back j))
 
   -- the image of x comes back too, and x is on its cycle
   back-step : (q x : ℕ) → Back q x → Back q (p x)

@@ -1,15 +1,20 @@
 -- The inverse of a permutation of the numbers below N, as a function.
 --
---   inverse          it
+--   onto             a permutation below N has every number below N as a value
+--   inverse          its inverse
 --   inverse-bound, there-back, back-there   it stays below N and undoes the permutation, on both sides
 use Prim.Native.Nat.{ℕ, _<_}
 use native.Mathlib.Decide.{decLt}
-use mathlib.Core.Path.{_≡_}
+use mathlib.Core.Path.{_≡_, sym, _∙_}
+use Rattle.model.specs.Numbers.{iter}
 use Rattle.orbits.specs.Permutation.{Perm}
-use Rattle.orbits.proofs.Maps.{onto}
+use Rattle.orbits.proofs.Cycle.{comes-back, iter-bound, iter-out}
+
+-- a number is its own last iterate's value
+pub onto : (N : ℕ) (p : ℕ → ℕ) → Perm N p → (y : ℕ) → y < N → (x : ℕ) × (x < N) × (p x ≡ y)
+onto N p perm y h = let (q, hq, back) = comes-back N p perm y h in (iter p q y, iter-bound N p perm q y h, sym (iter-out p q y) ∙ back)
 
 module _ (N : ℕ) (p : ℕ → ℕ) (perm : Perm N p) where
-  -- a number comes back to itself, so it is the image of the last one before
   pick : (y : ℕ) → Dec (y < N) → ℕ
   pick y (yes h) = onto N p perm y h .0
   pick y (no h) = 0

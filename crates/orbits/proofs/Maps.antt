@@ -1,7 +1,6 @@
 -- The permutations of a map: a list of entries, the rotation, opposites, the steps of the faces.
 --
 --   list-perm, perm-list   a list passes isPermutation exactly when its entries are a permutation
---   onto                   a permutation below N has every number below N as a value
 --   next-perm              the rotation is a permutation
 --   position-next          the place of an entry is its dart
 --   opposite-inv, opposite-free   opposites are an involution without fixed points, below an even number
@@ -14,14 +13,14 @@ use mathlib.Core.Path.{_≡_, sym, _∙_}
 use mathlib.Core.Bool.{true}
 use mathlib.Core.List.{List}
 use lib.ListN.{length, getD}
-use Rattle.model.specs.Numbers.{iter, distinct, allBelow, isPermutation, position}
+use Rattle.model.specs.Numbers.{distinct, allBelow, isPermutation, position}
 use Rattle.model.specs.Map.{opposite, next, vertexOf, faceNext}
 use Rattle.model.proofs.Booleans.{and-right}
 use Rattle.model.proofs.Permutations.{permutation-below, permutation-inj, permutation-of, position-entry}
 use Rattle.model.proofs.Opposite.{opposite-opposite, opposite-ne, opposite-bound}
 use Rattle.orbits.specs.Permutation.{Perm}
 use Rattle.orbits.specs.Chord.{Involution}
-use Rattle.orbits.proofs.Cycle.{comes-back, iter-bound, iter-out, iter-fixed, least-step, least-bound, same-reach}
+use Rattle.orbits.proofs.Cycle.{iter-fixed, least-step, least-bound, same-reach}
 use Rattle.orbits.proofs.Chord.{crossed-perm}
 use Rattle.orbits.proofs.Euler.{Free}
 
@@ -30,10 +29,6 @@ list-perm xs e = record { bound = permutation-below xs e; inj = permutation-inj 
 
 pub perm-list : (xs : List ℕ) → Perm (length xs) (λ d. getD xs d 0) → isPermutation xs ≡ true
 perm-list xs perm = permutation-of xs (perm .bound) (perm .inj)
-
--- a number is its own last iterate's value
-pub onto : (N : ℕ) (p : ℕ → ℕ) → Perm N p → (y : ℕ) → y < N → (x : ℕ) × (x < N) × (p x ≡ y)
-onto N p perm y h = let (q, hq, back) = comes-back N p perm y h in (iter p q y, iter-bound N p perm q y h, sym (iter-out p q y) ∙ back)
 
 pub next-perm : (rot : List ℕ) → isPermutation rot ≡ true → Perm (length rot) (next rot)
 unfolding next

@@ -4,19 +4,19 @@
 --   dart, dart-bound   the i-th iterate of r
 --   pos, pos-bound, dart-pos, pos-dart   its inverse
 --   pos-step           the permutation is the step to the next number
-use Prim.Native.Nat.{ℕ, zero, suc, pred, _≤_, _<_, zero-le}
-use native.Mathlib.Decide.{ℕ-discrete}
+use Prim.Native.Nat.{ℕ, zero, suc, pred, _≤_, _<_}
 use native.Mathlib.Omega.{arith}
-use mathlib.Core.Path.{_≡_, refl, sym, ap, subst, _∙_}
-use mathlib.Core.Logic.{_⊎_, inl, inr, ⊎-elim}
+use mathlib.Core.Path.{_≡_, sym, ap, subst, _∙_}
+use mathlib.Core.Logic.{⊎-elim}
 use mathlib.Core.Bool.{true}
 use lib.Dec.{T}
 use Rattle.model.specs.Numbers.{iter, least, isLeast, cycles}
 use Rattle.orbits.specs.Permutation.{Perm}
 use Rattle.orbits.specs.Chord.{next}
-use Rattle.orbits.proofs.Order.{eq-split, eq→eqb, find-below}
+use Rattle.orbits.proofs.Order.{eq-split, eq→eqb}
 use Rattle.orbits.proofs.Tally.{count-all, except, except-in, count-except, count-inj}
-use Rattle.orbits.proofs.Cycle.{least-bound, least-idem, iter-bound, iter-inj, iter-out, comes-back, same-reach, Back, On, on-step}
+use Rattle.orbits.proofs.Cycle.{least-bound, least-idem, iter-bound, iter-inj, iter-out, comes-back, same-reach, Back, On, on-iter}
+use Rattle.orbits.proofs.Inverse.{inverse, inverse-bound, back-there, there-back}
 use Rattle.orbits.proofs.Chord.{next-cases}
 
 module _ (N : ℕ) (p : ℕ → ℕ) (perm : Perm N p) (single : cycles p N ≡ 1) where
@@ -36,12 +36,7 @@ module _ (N : ℕ) (p : ℕ → ℕ) (perm : Perm N p) (single : cycles p N ≡ 
 
     -- where r comes back after suc q steps, all are within the first q
     within : (q : ℕ) → Back p q r → (d : ℕ) → d < N → On p q r d
-    unfolding iter
-    within q back d hd = let (j, e) = same-reach N p perm r d hd (one-label r d hr hd) in subst (On p q r) e (walk j)
-      where
-        walk : (j : ℕ) → On p q r (iter p j r)
-        walk zero = (zero, zero-le, refl)
-        walk (suc j) = subst (On p q r) (sym (iter-out p j r)) (on-step p q r back (iter p j r) (walk j))
+    within q back d hd = let (j, e) = same-reach N p perm r d hd (one-label r d hr hd) in subst (On p q r) e (on-iter p q r back j)
 
     -- so r does not come back before all N are met
     long : (q : ℕ) → Back p q r → N ≤ suc q
@@ -64,36 +59,29 @@ module _ (N : ℕ) (p : ℕ → ℕ) (perm : Perm N p) (single : cycles p N ≡ 
     dart-inj : (i j : ℕ) → i < N → j < N → dart i ≡ dart j → i ≡ j
     dart-inj i j hi hj = iter-inj N p perm (pred N) r hr (λ q h back. omega (arith, long q back)) i j (omega arith) (omega arith)
 
-    -- when d comes: found by search
-    found : (d : ℕ) → ((i : ℕ) × (i < N) × (dart i ≡ d)) ⊎ ((i : ℕ) → i < N → dart i ≡ d → ⊥)
-    found d = find-below (λ i. dart i ≡ d) (λ i. ℕ-discrete (dart i) d) N
+    met : Perm N dart
+    met = record { bound = dart-bound; inj = dart-inj }
 
     pub pos : ℕ → ℕ
-    pos d = ⊎-elim (λ f. f .0) (λ f. zero) (found d)
-
-    pos-is : (d : ℕ) → d < N → (pos d < N) × (dart (pos d) ≡ d)
-    unfolding pos
-    pos-is d h = go (found d)
-      where
-        go : (f : ((i : ℕ) × (i < N) × (dart i ≡ d)) ⊎ ((i : ℕ) → i < N → dart i ≡ d → ⊥))
-            → (⊎-elim (λ f. f .0) (λ f. zero) f < N) × (dart (⊎-elim (λ f. f .0) (λ f. zero) f) ≡ d)
-        go (inl f) = (f .1, f .2)
-        go (inr f) = let (q, hq, back) = comes-back N p perm r hr in let (i, hi, e) = within q back d h in absurd (f i (omega arith) e)
+    pos d = inverse N dart met d
 
     pub pos-bound : (d : ℕ) → d < N → pos d < N
-    pos-bound d h = pos-is d h .0
+    unfolding pos
+    pos-bound = inverse-bound N dart met
 
     pub dart-pos : (d : ℕ) → d < N → dart (pos d) ≡ d
-    dart-pos d h = pos-is d h .1
+    unfolding pos
+    dart-pos = back-there N dart met
 
     pub pos-dart : (i : ℕ) → i < N → pos (dart i) ≡ i
-    pos-dart i h = let (b, e) = pos-is (dart i) (dart-bound i h) in dart-inj (pos (dart i)) i b h e
+    unfolding pos
+    pos-dart = there-back N dart met
 
     pub pos-step : (d : ℕ) → d < N → pos (p d) ≡ next N (pos d)
     unfolding iter
     pos-step d h =
-        let (b, e) = pos-is d h in
-        let on : p d ≡ dart (suc (pos d)) = ap p (sym e) ∙ sym (iter-out p (pos d) r) in
+        let b = pos-bound d h in
+        let on : p d ≡ dart (suc (pos d)) = ap p (sym (dart-pos d h)) ∙ sym (iter-out p (pos d) r) in
         ⊎-elim
         (λ k. ap pos on ∙ pos-dart (suc (pos d)) (k .0) ∙ sym (k .1))
         (λ k. ap pos (on ∙ ap dart (k .0) ∙ round) ∙ pos-dart zero (omega arith) ∙ sym (k .1))

@@ -16,7 +16,8 @@ use Rattle.model.proofs.Permutations.{position-bound}
 use Rattle.orbits.specs.Permutation.{Perm}
 use Rattle.orbits.specs.Table.{tabulate}
 use Rattle.orbits.proofs.Table.{length-tabulate, tabulate-at}
-use Rattle.orbits.proofs.Maps.{list-perm, perm-list, onto}
+use Rattle.orbits.proofs.Inverse.{onto}
+use Rattle.orbits.proofs.Maps.{list-perm, perm-list}
 use Rattle.renumbering.specs.Isomorphism.{inverseOf, composed}
 
 abbrev pub of-list : List ℕ → ℕ → ℕ

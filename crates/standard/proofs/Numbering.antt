@@ -24,7 +24,7 @@ use Rattle.model.proofs.Opposite.{opposite-opposite, opposite-edge}
 use Rattle.model.proofs.Permutations.{permutation-of}
 use Rattle.model.proofs.Standard.{standard-size}
 use Rattle.orbits.specs.Permutation.{Perm}
-use Rattle.orbits.proofs.Maps.{onto}
+use Rattle.orbits.proofs.Inverse.{onto}
 use Rattle.words.specs.Toured.{dartAt, letterOf, posOf, mateOf, Toured}
 use Rattle.words.specs.Position.{opened}
 use Rattle.words.proofs.Positions.{no-visit, visit-dart, visit-letter, mate-dart, mate-bound, mate-opens, mate-inv, opposite-at, edge-inj}

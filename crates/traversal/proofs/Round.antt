@@ -9,18 +9,17 @@
 use Prim.Native.Nat.{ℕ, zero, suc, _<_}
 use native.Mathlib.Nat.{le-of-lt, le-refl, le-step, le-of-suc-le-suc}
 use native.Mathlib.Omega.{arith}
-use mathlib.Core.Path.{_≡_, sym, ap, subst, _∙_}
+use mathlib.Core.Path.{_≡_, sym, ap, _∙_}
 use mathlib.Core.Logic.{_≢_, _⊎_, inl, inr, ⊎-elim}
 use mathlib.Core.List.{List}
 use lib.ListN.{length}
-use Rattle.model.specs.Numbers.{iter}
 use Rattle.model.specs.Map.{opposite, next}
 use Rattle.model.specs.Traversal.{Letter, down, up, first, second, code}
 use Rattle.model.proofs.Opposite.{opposite-opposite}
 use Rattle.orbits.specs.Permutation.{Perm}
 use Rattle.orbits.specs.Chord.{Involution}
 use Rattle.orbits.proofs.Order.{eq-split, lt-suc-split}
-use Rattle.orbits.proofs.Cycle.{iter-out, comes-back, same-reach, Back, On, on-self, on-step}
+use Rattle.orbits.proofs.Cycle.{comes-back, same-reach, Back, on-iter}
 use Rattle.traversal.specs.Steps.{dart, letterAfter, mark, seenMark}
 use Rattle.traversal.proofs.Steps.{Case, new, old, back, noted, case, dart-bound, across-bound, mark-met, seen-here, seen-across, seen-turn}
 use Rattle.traversal.proofs.Follow.{tour, perm, Away, Followed, follows, dart-iter, apart}
@@ -45,12 +44,6 @@ later-second (new m s e) z = absurd (omega arith)
 later-second (old m s e) z = absurd (omega arith)
 later-second (back m e) z = absurd (omega arith)
 later-second (noted m n e) z = e
-
--- the iterates of a number that comes back are those on its cycle
-on-iter : (p : ℕ → ℕ) (q x : ℕ) → Back p q x → (j : ℕ) → On p q x (iter p j x)
-unfolding iter
-on-iter p q x b zero = on-self p q x
-on-iter p q x b (suc j) = subst (On p q x) (sym (iter-out p j x)) (on-step p q x b (iter p j x) (on-iter p q x b j))
 
 module _ (rot : List ℕ) (r : ℕ) (turn : Perm (length rot) (next rot)) (cross : Involution (length rot) opposite) (hr : r < length rot) where
   abbrev N : ℕ
