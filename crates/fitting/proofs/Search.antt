@@ -16,10 +16,10 @@ use mathlib.Core.Bool.{Bool, true, false, not, _&&_}
 use mathlib.Core.List.{List}
 use lib.Dec.{eqb}
 use lib.ListN.{length, getD}
-use borrow.Author.Tests.{eq-eqb, ne-eqb, eqb-true, eqb-false, not-false}
+use borrow.Author.Tests.{eq-eqb, ne-eqb, eqb-true, eqb-false, not-false, not-true}
 use Rattle.model.specs.Numbers.{isPermutation}
 use Rattle.model.specs.Map.{Plan, darts, opposite, next, vertexOf, degreeOne, hasLoop, hasDeadEnd}
-use Rattle.model.proofs.Booleans.{some-in, no-some, both, not-left}
+use Rattle.model.proofs.Booleans.{some-in, no-some, both}
 use Rattle.orbits.proofs.Maps.{next-perm, vertex-alone}
 use Rattle.contour.specs.Steps.{VerticesNamed}
 use Rattle.contour.proofs.Steps.{name-at}
@@ -82,7 +82,7 @@ module _ (p : Plan) (d : ℕ) where
   unfolding hasDeadEnd degreeOne next
   dead-end-here entries low h own other =
       let alone = vertex-alone (p .rotation) (next-perm (p .rotation) entries) d (p .root) low own in
-      let apart : vertexOf (p .rotation) d ≢ vertexOf (p .rotation) (p .root) = λ same. eqb-false d (p .root) (not-left _ other) (alone same) in
+      let apart : vertexOf (p .rotation) d ≢ vertexOf (p .rotation) (p .root) = λ same. eqb-false d (p .root) (not-true _ other) (alone same) in
       sym (some-in (deadEndAt p) (darts p) d h (both (eq-eqb _ d own) (ap not (ne-eqb _ _ apart))))
 
   pub root-alone : getD (p .rotation) d 0 ≡ d → not (eqb d (p .root)) ≡ false → deadEndAt p d ≡ false

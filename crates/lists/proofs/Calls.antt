@@ -31,7 +31,7 @@ unfolding isAccepted
 accepted-where c h e = eq-eqb (numberOfWritten (c .answer)) 0 (refused-exactly c h ∙ e)
 
 pub accepted-fit : (c : Writing) → MeetsContract c → isAccepted c ≡ true → fit (c .kind) (c .plan) ≡ true
-accepted-fit c h a = not-refused (c .kind) (c .plan) (length (c .work)) (length (c .output)) (accepted-refusal c h a) .is-fit
+accepted-fit c h a = not-refused (c .kind) (c .plan) (length (c .work)) (length (c .output)) (accepted-refusal c h a)
 
 pub answer-length : (c : Writing) → MeetsContract c → isAccepted c ≡ true → lengthOfWritten (c .answer) ≡ recordLength (c .kind) (edges (c .plan .rotation))
 unfolding writeAnswer

@@ -1,7 +1,7 @@
 -- Tests: what a computed test shows.
 --
 --   and-left, and-right, both    the two sides of a test by `&&`
---   not-left, not-intro          a test by `not`
+--   not-intro                    a test that does not pass fails
 --   or-none                      a test by `||` that fails
 --   or-split, or-left, or-right  a test by `||` that passes
 --   bool-ext                     two tests that pass together are equal
@@ -10,7 +10,7 @@
 --   some-at, some-in             some number below n passes a test
 --   some-no, no-some             none does
 use mathlib.Core.Path.{_≡_, refl, sym}
-use mathlib.Core.Bool.{Bool, true, false, not, _&&_, _||_, false≢true, true≢false}
+use mathlib.Core.Bool.{Bool, true, false, _&&_, _||_, false≢true, true≢false}
 use Prim.Native.Nat.{ℕ, zero, suc, _<_}
 use native.Mathlib.Nat.{not-suc-le-zero, lt-suc-self, le-step}
 use native.Mathlib.Decide.{ℕ-discrete}
@@ -28,10 +28,6 @@ and-right false b e = absurd (false≢true e)
 
 pub both : {a b : Bool} → a ≡ true → b ≡ true → (a && b) ≡ true
 both p q = rw p q
-
-pub not-left : (a : Bool) → not a ≡ true → a ≡ false
-not-left true e = absurd (false≢true e)
-not-left false e = refl
 
 pub not-intro : (a : Bool) → (a ≡ true → ⊥) → a ≡ false
 not-intro true f = absurd (f refl)

@@ -16,10 +16,10 @@ use native.Mathlib.Omega.{arith}
 use mathlib.Core.List.{List}
 use lib.Dec.{eqb, ltb}
 use lib.ListN.{length, getD}
-use borrow.Author.Tests.{ltb-true, eqb-true, eqb-false, leb-true, lt-ltb, eq-eqb, ne-eqb, le-leb}
+use borrow.Author.Tests.{ltb-true, eqb-true, eqb-false, leb-true, lt-ltb, eq-eqb, ne-eqb, le-leb, not-true}
 use Rattle.model.specs.Numbers.{isPermutation}
 use Rattle.model.specs.Map.{Plan, darts, opposite, next, vertexOf, edges, isKind, edgeCountFits, dartCountFits, degreeOne, reached, connected, planar, hasLoop, hasDeadEnd, degreeRefused, fit}
-use Rattle.model.proofs.Booleans.{and-left, and-right, both, not-left, not-intro, some-at, some-in, some-no, no-some}
+use Rattle.model.proofs.Booleans.{and-left, and-right, both, not-intro, some-at, some-in, some-no, no-some}
 pub use Rattle.model.proofs.Opposite.{opposite-opposite, opposite-ne, opposite-bound, opposite-edge}
 pub use Rattle.model.proofs.Permutations.{below-all, distinct-at, position-entry}
 
@@ -50,8 +50,8 @@ module _ (k : ℕ) (p : Plan) where
         entries = and-left (isPermutation (p .rotation)) _ e6;
         joined = and-left (connected (p .rotation)) _ e9;
         flat = and-left (planar (p .rotation)) _ e10;
-        loopless = not-left (hasLoop (p .rotation)) (and-left (not (hasLoop (p .rotation))) _ e11);
-        degrees = not-left (degreeRefused k p) (and-right (not (hasLoop (p .rotation))) _ e11);
+        loopless = not-true (hasLoop (p .rotation)) (and-left (not (hasLoop (p .rotation))) _ e11);
+        degrees = not-true (degreeRefused k p) (and-right (not (hasLoop (p .rotation))) _ e11);
       }
 
   pub parts-fit : Fit k p → fit k p ≡ true
@@ -96,7 +96,7 @@ even-darts p e = let c = count-parts (darts p) e in omega arith
 module _ (rot : List ℕ) where
   pub connected-at : connected rot ≡ true → (d : ℕ) → d < length rot → getD (reached rot) d 0 ≢ 0
   unfolding connected
-  connected-at e d h = eqb-false (getD (reached rot) d 0) 0 (some-no (λ d. eqb (getD (reached rot) d 0) 0) (length rot) (not-left _ e) d h)
+  connected-at e d h = eqb-false (getD (reached rot) d 0) 0 (some-no (λ d. eqb (getD (reached rot) d 0) 0) (length rot) (not-true _ e) d h)
 
   pub at-connected : ((d : ℕ) → d < length rot → getD (reached rot) d 0 ≢ 0) → connected rot ≡ true
   unfolding connected
@@ -124,7 +124,7 @@ module _ (p : Plan) where
   dead-end-at e =
       let (d, h, a) = some-at ends-at (darts p) e in
       let alone = eqb-true (next (p .rotation) d) d (and-left (degreeOne (p .rotation) d) _ a) in
-      (d, h, alone, eqb-false (vertex d) (vertex (p .root)) (not-left _ (and-right (degreeOne (p .rotation) d) _ a)))
+      (d, h, alone, eqb-false (vertex d) (vertex (p .root)) (not-true _ (and-right (degreeOne (p .rotation) d) _ a)))
 
   pub at-dead-end : (d : ℕ) → d < darts p → next (p .rotation) d ≡ d → vertex d ≢ vertex (p .root) → hasDeadEnd p ≡ true
   unfolding hasDeadEnd degreeOne

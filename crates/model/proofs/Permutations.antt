@@ -16,9 +16,9 @@ use native.Mathlib.Nat.{not-suc-le-zero, le-of-suc-le-suc, suc-inj, suc-ne-zero}
 use native.Mathlib.Omega.{arith}
 use lib.Dec.{eqb, ltb}
 use lib.ListN.{length, getD}
-use borrow.Author.Tests.{ltb-true, lt-ltb, eqb-true, eq-eqb}
+use borrow.Author.Tests.{ltb-true, lt-ltb, eqb-true, eq-eqb, not-true}
 use Rattle.model.specs.Numbers.{elem, distinct, allBelow, isPermutation, position}
-use Rattle.model.proofs.Booleans.{and-left, and-right, both, not-left}
+use Rattle.model.proofs.Booleans.{and-left, and-right, both}
 
 pub below-all : (n : ℕ) (xs : List ℕ) → allBelow n xs ≡ true → (k : ℕ) → k < length xs → getD xs k 0 < n
 unfolding allBelow
@@ -59,7 +59,7 @@ Different xs = (j k : ℕ) → j < length xs → k < length xs → getD xs j 0 �
 not-again : (x : ℕ) (xs : List ℕ) (k : ℕ) → distinct (x ∷ xs) ≡ true → k < length xs → getD xs k 0 ≡ x → ⊥
 unfolding distinct
 not-again x xs k d h e =
-    false≢true (sym (not-left (elem x xs) (and-left (not (elem x xs)) (distinct xs) d)) ∙ at-elem x xs k h e)
+    false≢true (sym (not-true (elem x xs) (and-left (not (elem x xs)) (distinct xs) d)) ∙ at-elem x xs k h e)
 
 pub distinct-at : (xs : List ℕ) → distinct xs ≡ true → Different xs
 unfolding distinct

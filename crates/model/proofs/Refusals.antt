@@ -5,16 +5,15 @@
 --   first-lacks          the first has no number that none of them has
 --   first-append         the first of two lists, one after the other
 --   append-none          if it is 0, it is 0 in both
---   NotRefused, not-refused      where no refusal of writing holds: the plan is fit, and the output has room for the record
-use Prim.Native.Nat.{ℕ, _≤_}
+--   not-refused          where no refusal of writing holds, the plan is fit
+use Prim.Native.Nat.{ℕ}
 use mathlib.Core.Path.{_≡_, refl, sym, _∙_}
 use mathlib.Core.Bool.{Bool, true, false, not, _&&_, cond}
 use mathlib.Core.List.{List, [], _∷_, _++_}
 use lib.Dec.{eqb}
-use borrow.Author.Tests.{eqb-true, eqb-false, ltb-true, ltb-false, not-true, not-false}
+use borrow.Author.Tests.{eqb-true, eqb-false, ltb-true, not-true, not-false}
 use Rattle.model.specs.Numbers.{Refusal, firstRefusal}
-use Rattle.model.specs.Map.{Plan, edges, fit}
-use Rattle.model.specs.Record.{recordLength}
+use Rattle.model.specs.Map.{Plan, fit}
 use Rattle.model.specs.Calls.{earlyRefusals, lateRefusals, writeRefusal}
 use Rattle.model.proofs.Booleans.{and-left, and-right}
 use Rattle.model.proofs.Fitness.{parts-fit}
@@ -72,24 +71,17 @@ append-none rs ss l e = go (eqb (firstRefusal rs) 0) refl (sym (first-append rs 
 
 -- ---- writing
 
-pub record NotRefused (k : ℕ) (p : Plan) (workLength outLength : ℕ) : Type 0 where
-  pub is-fit : fit k p ≡ true
-  pub room : recordLength k (edges (p .rotation)) ≤ outLength
-
-pub not-refused : (k : ℕ) (p : Plan) (w o : ℕ) → writeRefusal k p w o ≡ 0 → NotRefused k p w o
+pub not-refused : (k : ℕ) (p : Plan) (w o : ℕ) → writeRefusal k p w o ≡ 0 → fit k p ≡ true
 unfolding writeRefusal earlyRefusals lateRefusals
 not-refused k p w o e =
     let no = none-holds (earlyRefusals k p w o ++ lateRefusals k p) refl e in
-    record {
-      is-fit = parts-fit k p (record {
-        kind = not-false _ (no 2);
-        count = not-false _ (no 3);
-        root = ltb-true _ _ (not-false _ (no 4));
-        entries = not-false _ (no 6);
-        joined = not-false _ (no 9);
-        flat = not-false _ (no 10);
-        loopless = no 11;
-        degrees = no 12;
-      });
-      room = ltb-false _ _ (no 8);
-    }
+    parts-fit k p (record {
+      kind = not-false _ (no 2);
+      count = not-false _ (no 3);
+      root = ltb-true _ _ (not-false _ (no 4));
+      entries = not-false _ (no 6);
+      joined = not-false _ (no 9);
+      flat = not-false _ (no 10);
+      loopless = no 11;
+      degrees = no 12;
+    })

@@ -11,7 +11,7 @@ use mathlib.Core.List.{List, [], _∷_}
 use Prim.Native.Nat.{ℕ, _*_, _/_, _%_, _≤_, _<_}
 use native.Mathlib.Omega.{arith}
 use lib.ListN.{length, getD}
-use borrow.Author.Tests.{le-ltb}
+use borrow.Author.Tests.{le-ltb, not-true}
 use Rattle.model.specs.declared.ReadBack.{ReadBack}
 use Rattle.model.specs.declared.ReadBack.the-variants as readback
 use Rattle.model.specs.Numbers.{distinct, allBelow, isPermutation, firstRefusal}
@@ -19,7 +19,7 @@ use Rattle.model.specs.Map.{Plan, darts, edges, isKind, fit}
 use Rattle.model.specs.Record.{le16, recordLength, headed, recordOf}
 use Rattle.model.specs.Shelf.{same, word16, edgesOf, headRefusals, headRefusal}
 use Rattle.model.specs.Calls.{readRefusal, HasRecord, Reads, refused, read, unreadable}
-use Rattle.model.proofs.Booleans.{and-left, not-left, all, at}
+use Rattle.model.proofs.Booleans.{and-left, all, at}
 use Rattle.model.proofs.Heads.{head-first}
 use Rattle.model.proofs.Line.{on-reading, Holds}
 use Rattle.model.proofs.Opened.{record-opened}
@@ -114,7 +114,7 @@ none : (x : ℕ) → (p : Plan) → (same (two-edges x) (two-edges 0xCC) || same
 unfolding without word16
 none x p hit (f, e) =
     let w = tried p (fit-parts 1 p f) (two p x (f, e)) in
-    let z = not-left (fit 1 p && (same (recordOf 1 p) (two-edges 0xCC) || same (recordOf 1 p) (two-edges 0xC9))) w in
+    let z = not-true (fit 1 p && (same (recordOf 1 p) (two-edges 0xCC) || same (recordOf 1 p) (two-edges 0xC9))) w in
     true≢false (sym (rw (f, e) hit) ∙ z)
 
 pub unreadable-CC : (p : Plan) → HasRecord (two-edges 0xCC) p → ⊥

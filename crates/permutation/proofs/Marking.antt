@@ -15,9 +15,9 @@ use native.Mathlib.Numerals.{add-one}
 use lib.Dec.{eqb, ltb}
 use lib.ListN.{length, getD, set, drop, replicate, length-set, getD-replicate, length-replicate}
 use lib.Seq.{getD-set-same, getD-set-other, drop-cons, drop-length}
-use borrow.Author.Tests.{ltb-true, lt-ltb, le-ltb, eqb-true, eq-eqb, ne-eqb}
+use borrow.Author.Tests.{ltb-true, lt-ltb, le-ltb, eqb-true, eq-eqb, ne-eqb, not-true}
 use Rattle.model.specs.Numbers.{elem, distinct, allBelow, isPermutation}
-use Rattle.model.proofs.Booleans.{and-left, and-right, both, not-left, not-intro, bool-ext}
+use Rattle.model.proofs.Booleans.{and-left, and-right, both, not-intro, bool-ext}
 use Rattle.model.proofs.Fitness.{below-all}
 use Rattle.model.proofs.Permutations.{elem-at, at-elem}
 
@@ -68,7 +68,7 @@ complete n (x ∷ xs) w g =
       below = and-right (ltb x n) _ (g .below);
       differ = and-right (not (elem x xs)) _ (g .differ);
       fresh = λ y i.
-          let new = not-left (elem x xs) (and-left (not (elem x xs)) (distinct xs) (g .differ)) in
+          let new = not-true (elem x xs) (and-left (not (elem x xs)) (distinct xs) (g .differ)) in
           getD-set-other w x y 1 0 (λ s. true≢false (sym (rw s at i) ∙ new)) ∙ g .fresh y (elem-tail y x xs i);
     })))
 

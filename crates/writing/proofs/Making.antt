@@ -107,7 +107,7 @@ module _ {k : ℕ} {p : Plan} {w out : List ℕ} {v : Verdict} {w₁ : List ℕ}
     unrefused = whole ∙ late
 
     fits : fit k p ≡ true
-    fits = not-refused k p (length w) (length out) unrefused .is-fit
+    fits = not-refused k p (length w) (length out) unrefused
 
     letters : lettersIn (darts p) w₁ ≡ word p
     letters = letters-code (darts p) w₁ (word p) (t .judged .letters late)
