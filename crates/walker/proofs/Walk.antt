@@ -29,7 +29,7 @@ use denote.Laws.{Ises, Are, Spells, valss, Tells, Tellss, shows}
 use denote.Signature.{Slot, typeAt, typesAt}
 use denote.Steps.{peeks, heard}
 use denote.Triple.Call.{calls-at}
-use denote.Triple.Entry.{Args, Res, alive}
+use denote.Triple.Entry.{Args, alive}
 use denote.Triple.End.{Kepts}
 use denote.Triple.Table.{entered}
 use denote.Triple.Clauses.{Ended, Clauses, Lasts, atExit, lasts, closing}
@@ -85,39 +85,39 @@ module _ {M : Type 1} {𝓤 : URA M} {H : Heap 𝓤} {A : Atoms 𝓤} {K : Type 
       move t (n ∷ []) $ rewrite t 0 (λ (i : Item 𝓤). i) cell refl $ forget t 0 {τ = τ} {b = b} {o = zero} {v = v} refl $
       move t (suc n ∷ []) $ rewrite t 0 (λ (i : Item 𝓤). i) dies refl $ move t (1 ∷ 0 ∷ []) $ free1 t $ s)
 
-  module _ {E : Env 𝓤 H} {C : Calls 𝓤 H} {Λ : Loops 𝓤 H} {q : Post 𝓤 H} {d : Place} {rest : Body} {f : Name} {xs : List Operand} where
-    pub calls : K → FmC 𝓤 H (W .laws) C → (T : Ended) (c : Clauses 𝓤 T) (y : tripleOf 𝓤 H A (T .signature) (closing 𝓤 H A T c) .Ghost)
-        → Triple 𝓤 (C f) (tripleOf 𝓤 H A (T .signature) (closing 𝓤 H A T c))
-        → {vals : Res (T .signature) (y .0 .0) → List Val}
-        → Tells (typeAt (T .signature .result) (y .0 .0)) (Is (typeAt (T .signature .result) (y .0 .0))) vals
-        → (φ : Res (T .signature) (y .0 .0) → Lasts T (y .0 .0) (y .0 .3) → Type 0)
-        → ((r : Res (T .signature) (y .0 .0)) (ws : Lasts T (y .0 .0) (y .0 .3))
-        → c (y .0 .0) (y .0 .3) .ensures (y .1) r (atExit T (y .0 .0) (y .0 .3) ws) ≡ fact 𝓤 (φ r ws))
-        → Opds K W (raw (tripleOf 𝓤 H A (T .signature) (closing 𝓤 H A T c) .pre y) ∷ Γ) E xs (tripleOf 𝓤 H A (T .signature) (closing 𝓤 H A T c) .args y)
-        → ((r : Res (T .signature) (y .0 .0)) (ws : Lasts T (y .0 .0) (y .0 .3)) → φ r ws → Is (typeAt (T .signature .result) (y .0 .0)) r (vals r)
-        → Seq K W (‵ (typeAt (T .signature .result) (y .0 .0) .own r (vals r)) ∷ raw (alive 𝓤 H A (T .signature) (y .0 .0) (y .0 .1))
-        ∷ ‵ (lasts T (y .0 .0) (y .0 .3) ws) ∷ Γ) (lands C Λ E d (only (vals r)) rest q))
-        → Seq K W (raw (tripleOf 𝓤 H A (T .signature) (closing 𝓤 H A T c) .pre y) ∷ Γ) (runs C Λ E (seq (call f xs d) rest) q)
-    calls t fm T c y known {vals} tells φ is-fact os k = calls-at t fm (tripleOf 𝓤 H A (T .signature) (closing 𝓤 H A T c)) known y os (λ u.
-        use1 W (later (some (λ (r : Res (T .signature) (y .0 .0)). (raw (alive 𝓤 H A (T .signature) (y .0 .0) (y .0 .1)) ⊛ ‵ (R .own r (u ∷ [])))
-        ⊛ some (λ (ws : Lasts T (y .0 .0) (y .0 .3)). ‵ (lasts T (y .0 .0) (y .0 .3) ws) ⊛ raw (Said r ws))))) (id⊢ 𝓤 _) $ await t tt $ pick t (λ r.
+-- a call of a function with the signature T and the clauses c, at y, what its contract binds
+module _ {M : Type 1} {𝓤 : URA M} {H : Heap 𝓤} {A : Atoms 𝓤} (W : Given 𝓤 H A) (T : Ended) (c : Clauses 𝓤 T)
+    (y : tripleOf 𝓤 H A (T .signature) (closing 𝓤 H A T c) .Ghost) where
+  abbrev Callee : Contract 𝓤
+  Callee = tripleOf 𝓤 H A (T .signature) (closing 𝓤 H A T c)
+
+  -- the result's type, and what is bound for last values
+  abbrev R : RattleType
+  R = typeAt (T .signature .result) (y .0 .0)
+
+  abbrev Ws : Type 0
+  Ws = Lasts T (y .0 .0) (y .0 .3)
+
+  abbrev Said : R .Denot → Ws → SProp 𝓤
+  Said r ws = c (y .0 .0) (y .0 .3) .ensures (y .1) r (atExit T (y .0 .0) (y .0 .3) ws)
+
+  -- what is had once it has returned r at the machine values us: the result, the tokens, and what is said of the last values
+  abbrev Back : R .Denot → Ws → List Val → List (Item 𝓤) → List (Item 𝓤)
+  Back r ws us Γ = ‵ (R .own r us) ∷ raw (alive 𝓤 H A (T .signature) (y .0 .0) (y .0 .1)) ∷ ‵ (lasts T (y .0 .0) (y .0 .3) ws) ∷ Γ
+
+  module _ {K : Type 0} {Γ : List (Item 𝓤)} {E : Env 𝓤 H} {C : Calls 𝓤 H} {Λ : Loops 𝓤 H} {q : Post 𝓤 H} {d : Place} {rest : Body}
+      {f : Name} {xs : List Operand} where
+    pub calls : K → FmC 𝓤 H (W .laws) C → Triple 𝓤 (C f) Callee → {vals : R .Denot → List Val} → Tells R (Is R) vals
+        → (φ : R .Denot → Ws → Type 0) → ((r : R .Denot) (ws : Ws) → Said r ws ≡ fact 𝓤 (φ r ws)) → Opds K W (raw (Callee .pre y) ∷ Γ) E xs (Callee .args y)
+        → ((r : R .Denot) (ws : Ws) → φ r ws → Is R r (vals r) → Seq K W (Back r ws (vals r) Γ) (lands C Λ E d (only (vals r)) rest q))
+        → Seq K W (raw (Callee .pre y) ∷ Γ) (runs C Λ E (seq (call f xs d) rest) q)
+    calls t fm known {vals} tells φ is-fact os k = calls-at t fm Callee known y os (λ u.
+        use1 W (later (some (λ (r : R .Denot). (raw (alive 𝓤 H A (T .signature) (y .0 .0) (y .0 .1)) ⊛ ‵ (R .own r (u ∷ [])))
+        ⊛ some (λ (ws : Ws). ‵ (lasts T (y .0 .0) (y .0 .3) ws) ⊛ raw (Said r ws))))) (id⊢ 𝓤 _) $ await t tt $ pick t (λ r.
         split t $ move t (1 ∷ []) $ pick t (λ ws. split t $ move t (1 ∷ []) $ rewrite t 0 (λ (P : SProp 𝓤). raw P) (is-fact r ws) refl $
         heard t (φ r ws) (λ e. move t (1 ∷ []) $ split t $ move t (1 ∷ []) $ peeks t R (Is R) (shows 𝓤 H A R) r (u ∷ []) (λ is.
-        spelt r ws u (tells r (u ∷ []) is) is e)))))
-      where
-        R : RattleType
-        R = typeAt (T .signature .result) (y .0 .0)
-
-        Said : Res (T .signature) (y .0 .0) → Lasts T (y .0 .0) (y .0 .3) → SProp 𝓤
-        Said r ws = c (y .0 .0) (y .0 .3) .ensures (y .1) r (atExit T (y .0 .0) (y .0 .3) ws)
-
-        Rest : (r : Res (T .signature) (y .0 .0)) → Lasts T (y .0 .0) (y .0 .3) → List Val → Type 1
-        Rest r ws us = Seq K W (‵ (R .own r us) ∷ raw (alive 𝓤 H A (T .signature) (y .0 .0) (y .0 .1)) ∷ ‵ (lasts T (y .0 .0) (y .0 .3) ws) ∷ Γ)
-            (lands C Λ E d (only us) rest q)
-
-        spelt : (r : Res (T .signature) (y .0 .0)) (ws : Lasts T (y .0 .0) (y .0 .3)) (u : Val) → u ∷ [] ≡ vals r → Is R r (u ∷ []) → φ r ws
-            → Rest r ws (u ∷ [])
-        spelt r ws u p is e = subst (Rest r ws) (sym p) (k r ws e (subst (Is R r) p is))
+        let p = tells r (u ∷ []) is in
+        subst (λ (us : List Val). Seq K W (Back r ws us Γ) (lands C Λ E d (only us) rest q)) (sym p) (k r ws e (subst (Is R r) p is)))))))
 
 -- of parameters at these slots: what is had of each at exit, with its law, and the machine values that spell them
 pub record Params {n : ℕ} (ss : List (Slot n)) (ks : Kepts ss) : Type 3 where

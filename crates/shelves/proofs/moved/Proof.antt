@@ -52,7 +52,7 @@ module _ {M : Type 1} (𝓤 : URA M) (H : Heap 𝓤) (A : Atoms 𝓤) (mem : Mem
         sets ! (agg ! (opds2 ! (of-local ! 6 refl) (of-local ! 4 refl)))
         (init ! 0 refl (tt, ((tt, (record { fits = s-is .0 .1 .0 }, tt)), (record { fits = fits }, tt)))) $
         move ! (10 ∷ []) $ use1 W (raw (Onward .pre to) ⊛ ‵ (own-slice κ s)) (makes κ 𝓤 H A W q s n fits) $ split ! $
-        calls ! fm onward.ended (onward.clauses 𝓤 H A mem run) to known (walker-params .tells (κ, tt) .0)
+        calls W onward.ended (onward.clauses 𝓤 H A mem run) to ! fm known (walker-params .tells (κ, tt) .0)
         (λ r ws. (r .src ≡ s) × (r .at ≡ nextPlace (now s) n)) (λ r ws. refl)
         (opds1 ! (of-local ! 2 refl)) (λ r ws e r-is. drop ! $ move ! (1 ∷ []) $ drop ! $
         -- [the token; what s owns; _4; …; room for _3; …; _2; …; _1; …; room for _0; …]

@@ -50,7 +50,7 @@ module _ {M : Type 1} (𝓤 : URA M) (H : Heap 𝓤) (A : Atoms 𝓤) (mem : Mem
         sets ! (agg ! (opds2 ! (of-local ! 4 refl) (of-local ! 2 refl)))
         (init ! 0 refl (tt, ((tt, (record { fits = s-is .0 .1 .0 }, tt)), (record { fits = fits }, tt)))) $
         move ! (8 ∷ []) $ use1 W (raw (Here .pre to) ⊛ ‵ (own-slice κ s)) (makes κ 𝓤 H A W q s n fits) $ split ! $
-        calls ! fm here.ended (here.clauses 𝓤 H A mem run) to known (shr-slice-tells (named 0) κ u8)
+        calls W here.ended (here.clauses 𝓤 H A mem run) to ! fm known (shr-slice-tells (named 0) κ u8)
         (λ t ws. CutOut s n t) (λ t ws. refl) (opds1 ! (of-local ! 2 refl)) (λ t ws e t-is. move ! (2 ∷ []) $ drop ! $
         -- [the part; the token; what s owns; _3; …; _2; …; _1; …; room for _0; …]
         land ! (from ! (stop !)) (init ! 9 refl (shr-slice-lawful 𝓤 H A W (named 0) κ u8 .typed t _ t-is .0)) $

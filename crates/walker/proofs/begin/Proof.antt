@@ -57,14 +57,14 @@ module _ {M : Type 1} (𝓤 : URA M) (H : Heap 𝓤) (A : Atoms 𝓤) (mem : Mem
         pass1 ! (init ! 8 refl (tt, record { fits = n-fits })) $ pass1 ! (init ! 6 refl (tt, tt)) $ pass0 ! $
         sets ! (addr ! (from ! (hop ! (look ! 6 refl) (stop !)))) (init ! 0 refl (tt, tt)) $
         move ! (16 ∷ []) $ use1 W (raw (WalkBegin .pre on) ⊛ ‵ (own-slice κ s)) (lent-on κ κ′ s u n x 𝓤 H A W q q′) $ split ! $
-        calls ! fm walk-begin.ended (walk-begin.clauses 𝓤 H A mem run) on known-begin (uint-tells w64)
+        calls W walk-begin.ended (walk-begin.clauses 𝓤 H A mem run) on ! fm known-begin (uint-tells w64)
         (λ r ws. Begun (now s) u n r (ws .1 .1 .1 .0)) (λ r ws. refl)
         (and-then ! (of-local ! 14 refl) (and-then ! (of-local ! 12 refl) (opds2 ! (of-local ! 10 refl) (of-local ! 2 refl)))) (λ r ws e r-is. drop ! $
         -- [the tokens; the lent number's last value; what s owns; _7; …; room for _6; …; room for _5; …; _4; …; _3; …; _2; …; _1; …; room for _0; …]
         land ! (from ! (stop !)) (init ! 7 refl (tt, record { fits = r-is .1 })) $
         use1 W (‵ (flft κ q) ⊛ ‵ (flft κ′ q′) ⊛ ‵ ftrue) (id⊢ 𝓤 _) $ split ! $ move ! (3 ∷ 0 ∷ []) $
         use2 W (raw (UsedPart .pre to-part) ⊛ ‵ (own-slice κ s)) (passes-fields κ 𝓤 H A W q s u u-fits) $ split ! $
-        calls ! fm used-part.ended (used-part.clauses 𝓤 H A mem run) to-part known-part (shr-slice-tells (named 0) κ u8)
+        calls W used-part.ended (used-part.clauses 𝓤 H A mem run) to-part ! fm known-part (shr-slice-tells (named 0) κ u8)
         (λ t ws. Used t) (λ t ws. refl) (opds2 ! (of-local ! 16 refl) (of-local ! 14 refl)) (λ t ws₂ e₂ t-is. move ! (2 ∷ []) $ drop ! $
         -- [what the part owns; the token of 'a; what s owns; the other token; the lent number's last value; _7; …; room for _6; …; _5; …; _4; …; _3; …; _2; …; _1; …; room for _0; …]
         land ! (from ! (stop !)) (init ! 7 refl (shr-slice-lawful 𝓤 H A W erased κ u8 .typed t _ t-is .0)) $

@@ -60,14 +60,14 @@ module _ {M : Type 1} (𝓤 : URA M) (H : Heap 𝓤) (A : Atoms 𝓤) (mem : Mem
         pass1 ! (init ! 6 refl (tt, record { fits = n-fits })) $ pass1 ! (init ! 4 refl (tt, tt)) $ pass0 ! $
         sets ! (addr ! (from ! (hop ! (look ! 4 refl) (stop !)))) (init ! 0 refl (tt, tt)) $
         move ! (14 ∷ []) $ use1 W (raw (Begin .pre on) ⊛ ‵ (own-slice κ s)) (lent-on κ κ′ s u n x 𝓤 H A W q q′) $ split ! $
-        calls ! fm begin.ended (begin.clauses 𝓤 H A mem run) on known-begin (walker-params .tells (κ, tt) .0)
+        calls W begin.ended (begin.clauses 𝓤 H A mem run) on ! fm known-begin (walker-params .tells (κ, tt) .0)
         (λ d ws. Begins d (ws .1 .1 .1 .0)) (λ d ws. refl)
         (and-then ! (of-local ! 12 refl) (and-then ! (of-local ! 10 refl) (opds2 ! (of-local ! 8 refl) (of-local ! 2 refl)))) (λ d ws e d-is.
         -- [what the walker owns; the tokens; the lent number's last value; what s owns; _6; …; room for _5; …; _4; …; _3; …; _2; …; _1; …; room for _0; …]
         land ! (from ! (stop !)) (init ! 6 refl (typed κ 𝓤 H A W erased d d-is)) $
         move ! (1 ∷ []) $ use1 W (‵ (flft κ q) ⊛ ‵ (flft κ′ q′) ⊛ ‵ ftrue) (id⊢ 𝓤 _) $ split ! $ move ! (2 ∷ 0 ∷ []) $
         use2 W (raw (Here .pre (to-here d))) (passes-walker κ 𝓤 H A W q d) $
-        calls ! fm here.ended (here.clauses 𝓤 H A mem run) (to-here d) known-here (shr-slice-tells (named 0) κ u8)
+        calls W here.ended (here.clauses 𝓤 H A mem run) (to-here d) ! fm known-here (shr-slice-tells (named 0) κ u8)
         (λ t ws. CutOut (d .src) (d .at) t) (λ t ws. refl) (opds1 ! (of-local ! 6 refl)) (λ t ws₂ e₂ t-is. move ! (2 ∷ []) $ drop ! $
         -- [the part; the token of 'a; the other token; the lent number's last value; what s owns; _6; …; _5; …; _4; …; _3; …; _2; …; _1; …; room for _0; …]
         land ! (from ! (stop !)) (init ! 17 refl (shr-slice-lawful 𝓤 H A W (named 0) κ u8 .typed t _ t-is .0)) $
@@ -78,8 +78,7 @@ module _ {M : Type 1} (𝓤 : URA M) (H : Heap 𝓤) (A : Atoms 𝓤) (mem : Mem
         move ! (1 ∷ []) $ use1 W (‵ (flft κ q) ⊛ ‵ ftrue) (id⊢ 𝓤 _) $ split ! $ move ! (0 ∷ 3 ∷ []) $ join ! $ frame ! $
         -- [nothing; the part; the lent number's last value; what s owns]
         move ! (2 ∷ 3 ∷ []) $ use2 W (‵ (Had κ κ′ s u n x (ws .1 .1 .1 .0))) (had κ κ′ s u n x 𝓤 H A W (ws .1 .1 .1 .0) u-fits n-fits) $ frame ! $
-        drop ! $
-        done !)))))))))
+        drop ! $ done !)))))))))
 
 pub first-spec : {M : Type 1} → stated.statement M
 unfolding code.routine tablesOf

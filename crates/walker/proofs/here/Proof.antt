@@ -43,7 +43,7 @@ module _ {M : Type 1} (𝓤 : URA M) (H : Heap 𝓤) (A : Atoms 𝓤) (mem : Mem
         sets ! (of-opd ! (of-field ! refl (look-in ! 4 (sub ! 0 refl (whole !))))) (init ! 2 refl (tt, wt .1 .0)) $
         sets ! (of-opd ! (of-field ! refl (look-in ! 4 (sub ! 1 refl (whole !))))) (init ! 0 refl (tt, wt .1 .1 .0)) $
         move ! (8 ∷ []) $ use1 W (raw (RecordAt .pre to) ⊛ ‵ (own-walker κ d)) (lends κ 𝓤 H A W q d (wt .1 .1 .0 .fits)) $ split ! $
-        calls ! fm record-at.ended (record-at.clauses 𝓤 H A mem run) to known (shr-slice-tells (named 0) κ u8)
+        calls W record-at.ended (record-at.clauses 𝓤 H A mem run) to ! fm known (shr-slice-tells (named 0) κ u8)
         (λ r ws. CutOut (d .src) (d .at) r) (λ r ws. refl) (opds2 ! (of-local ! 4 refl) (of-local ! 2 refl)) (λ r ws e r-is. move ! (2 ∷ []) $ drop ! $
         -- [the result; the token; what the walker owns; _3; …; _2; …; _1; …; room for _0; …]
         land ! (from ! (stop !)) (init ! 9 refl (shr-slice-lawful 𝓤 H A W (named 0) κ u8 .typed r _ r-is .0)) $

@@ -45,7 +45,7 @@ module _ {M : Type 1} (𝓤 : URA M) (H : Heap 𝓤) (A : Atoms 𝓤) (mem : Mem
         sets ! (of-opd ! (of-field ! refl (look-in ! 8 (sub ! 0 refl (whole !))))) (init ! 4 refl (tt, wt .1 .0)) $
         sets ! (of-opd ! (of-field ! refl (look-in ! 8 (sub ! 1 refl (whole !))))) (init ! 2 refl (tt, wt .1 .1 .0)) $
         move ! (12 ∷ []) $ use1 W (raw (NextPlace .pre to) ⊛ ‵ (own-walker κ d)) (lends κ 𝓤 H A W q d (wt .1 .1 .0 .fits)) $ split ! $
-        calls ! fm next-place.ended (next-place.clauses 𝓤 H A mem run) to known (uint-tells w64)
+        calls W next-place.ended (next-place.clauses 𝓤 H A mem run) to ! fm known (uint-tells w64)
         (λ r ws. r ≡ nextPlace (now (d .src)) (d .at)) (λ r ws. refl) (opds2 ! (of-local ! 6 refl) (of-local ! 4 refl)) (λ r ws e r-is. drop ! $
         move ! (1 ∷ []) $ drop ! $
         -- [the token; what the walker owns; _5; …; _4; …; _3; …; room for _2; …; _1; …; room for _0; …]
