@@ -8,10 +8,10 @@ use mathlib.Core.Bool.{Bool, true, false, cond}
 use Prim.Native.Nat.{ℕ, _+_, _*_, _/_, _≤_, _<_}
 use native.Mathlib.Omega.{arith}
 use lib.Dec.{eqb}
-use borrow.Author.Tests.{lt-ltb, le-ltb, eq-eqb, ne-eqb}
 use Rattle.model.specs.Map.{isKind}
 use Rattle.model.specs.Record.{recordLength}
 use Rattle.model.specs.Exports.{lengthFor}
+use Rattle.model.proofs.Fitness.{parts-edges, edges-unfit}
 
 module _ (k m : ℕ) where
   pub no-kind : isKind k ≡ false → 0 ≡ lengthFor k m
@@ -29,13 +29,13 @@ module _ (k m : ℕ) where
   module _ (kind : isKind k ≡ true) where
     pub no-edges : m ≡ 0 → 0 ≡ lengthFor k m
     unfolding lengthFor
-    no-edges e = rw (kind, eq-eqb _ _ e)
+    no-edges e = rw (kind, edges-unfit m (λ h. omega arith))
 
     module _ (some : m ≡ 0 → ⊥) where
       pub too-many : 4096 < m → 0 ≡ lengthFor k m
       unfolding lengthFor
-      too-many h = rw (kind, ne-eqb _ _ some, lt-ltb _ _ h)
+      too-many h = rw (kind, edges-unfit m (λ p. omega arith))
 
       pub length-there : m ≤ 4096 → recordLength k m ≡ lengthFor k m
       unfolding lengthFor
-      length-there h = rw (kind, ne-eqb _ _ some, le-ltb _ _ h)
+      length-there h = rw (kind, parts-edges m (omega arith) h)

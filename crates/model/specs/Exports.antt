@@ -7,13 +7,12 @@
 --   FetchExport           all that jurnadel_fetch promises
 use Prim.Native.Nat.{ℕ}
 use mathlib.Core.Path.{_≡_}
-use mathlib.Core.Bool.{not, _||_, cond}
+use mathlib.Core.Bool.{_&&_, cond}
 use mathlib.Core.List.{List}
-use lib.Dec.{eqb, ltb}
 use lib.IntN.{ℤ}
 use lib.ListN.{length, take, drop}
 use Rattle.model.specs.declared.ReadBack.{ReadBack}
-use Rattle.model.specs.Map.{Plan, isKind}
+use Rattle.model.specs.Map.{Plan, isKind, edgeCountFits}
 use Rattle.model.specs.Record.{recordLength}
 use Rattle.model.specs.Calls.{zeros, writeAnswer, writtenOutput, numberOfWritten, lengthOfWritten, characteristicOfWritten}
 use Rattle.model.specs.Calls.{Reads, numberOfRead, edgesOfRead}
@@ -58,4 +57,4 @@ pub record FetchExport (shelf : List ℕ) (used n : ℕ) (r at l : ℕ) : Type 0
 
 -- the 0 is left free by the papers
 unfoldable pub lengthFor : ℕ → ℕ → ℕ
-lengthFor k m = cond (not (isKind k) || (eqb m 0 || ltb 4096 m)) 0 (recordLength k m)
+lengthFor k m = cond (isKind k && edgeCountFits m) (recordLength k m) 0
