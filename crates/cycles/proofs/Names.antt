@@ -1,6 +1,6 @@
 -- What callers use of `Named`: n names stand from place a on, and the rest is as it was.
 --
---   named-length      the work area is as long
+--   named-length       the work area is as long
 --   named-beside       parts beside the names are as they were
 use mathlib.Core.Path.{_≡_, ap, _∙_}
 use mathlib.Core.List.{List}

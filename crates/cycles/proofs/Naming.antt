@@ -1,7 +1,6 @@
 -- Naming in ascending order gives each cycle the name of its least dart. f is a permutation below n, and d a dart that is its own least.
 --
---   name-in, name-out      a name below d, and none
---   getD-names, length-names                the entries and the length of the names below d
+--   length-names           there are as many names below d as darts
 --   Naming                 the names b while the cycle of d is followed: x is the dart to be named next
 --   naming-start, naming-step, naming-end   before the first step, one step, and when x has a name already
 --   names-none, names-skip, names-all       no name yet; d is no least dart, so its turn changes nothing; all names
@@ -41,15 +40,15 @@ free-set (x ∷ xs) (suc i) v h e d = let ih = free-set xs i v (le-of-suc-le-suc
 -- ---- names below d
 
 module _ (f : ℕ → ℕ) (n : ℕ) where
-  pub name-in : (d x : ℕ) → least f n x < d → nameBelow f n d x ≡ least f n x
+  name-in : (d x : ℕ) → least f n x < d → nameBelow f n d x ≡ least f n x
   unfolding nameBelow
   name-in d x h = simp (lt-ltb _ _ h)
 
-  pub name-out : (d x : ℕ) → d ≤ least f n x → nameBelow f n d x ≡ unnamed
+  name-out : (d x : ℕ) → d ≤ least f n x → nameBelow f n d x ≡ unnamed
   unfolding nameBelow
   name-out d x h = simp (le-ltb _ _ h)
 
-  pub getD-names : (d x : ℕ) → x < n → getD (namesBelow f n d) x 0 ≡ nameBelow f n d x
+  getD-names : (d x : ℕ) → x < n → getD (namesBelow f n d) x 0 ≡ nameBelow f n d x
   unfolding namesBelow
   getD-names d x h = tabulate-at (nameBelow f n d) n x h
 

@@ -1,7 +1,6 @@
 -- Small signed numbers: each has a bound on `mag`, sums add bounds, and what fits goes to its bits and back.
 --
 --   small                a small number is its own signed value
---   mag-add, mag-neg     bounds of a sum and of a negative
 --   sfits                a number with a small bound fits 32 bits
 --   less                 the bound of v - e
 --   fits-less, back-less, fits-all   v - e and v - e + f fit 32 bits
@@ -30,13 +29,13 @@ mag-subℕ a b k ha hb = go (ltb a b)
     go false = omega arith
 
 -- |x + y| is below the sum of the bounds
-pub mag-add : (x y : ℤ) (j k : ℕ) → mag x < j → mag y < k → mag (x +ℤ y) < j + k
+mag-add : (x y : ℤ) (j k : ℕ) → mag x < j → mag y < k → mag (x +ℤ y) < j + k
 mag-add (pos a) (pos b) j k p q = omega arith
 mag-add (pos a) (negsuc b) j k p q = mag-subℕ a (suc b) (j + k) (omega arith) (omega arith)
 mag-add (negsuc a) (pos b) j k p q = mag-subℕ b (suc a) (j + k) (omega arith) (omega arith)
 mag-add (negsuc a) (negsuc b) j k p q = omega arith
 
-pub mag-neg : (n k : ℕ) → n < k → mag (negℤ (pos n)) < k
+mag-neg : (n k : ℕ) → n < k → mag (negℤ (pos n)) < k
 mag-neg zero k h = omega arith
 mag-neg (suc n) k h = omega arith
 
