@@ -26,11 +26,11 @@ use Rattle.machine.proofs.Decoding.{encode-decode}
 use Rattle.machine.proofs.Sizes.{bits-length, letters-length, labels-bound}
 use Rattle.machine.proofs.Bounds.{bits-below}
 use Rattle.building.proofs.Built.{built-word, built-fit}
-use Rattle.packing.specs.Unlay.{Sized, payloadBits, payloadLabels, payloadClean}
+use Rattle.packing.specs.Payload.{Sized, payloadBits, payloadLabels, payloadClean}
 use Rattle.packing.proofs.Payload.{payload-length, Parts, payload-bits, payload-labels, payload-clean, payload-bytes, unpayload-parts, payload-unpayload}
 use Rattle.renumbering.proofs.Walk.{carries-word}
 use Rattle.lists.specs.Coder.{Coder}
-use Rattle.coding.specs.Decode.{encodePayload, decodePayload}
+use Rattle.coding.specs.Payloads.{encodePayload, decodePayload}
 use Rattle.coding.proofs.FitPlans.{fit-toured, of-fit, same-word-renumbering}
 
 -- ---- from words to payloads

@@ -18,7 +18,7 @@ use Rattle.words.specs.Word.{found, none, planOf}
 use Rattle.packing.proofs.Headed.{passes-sized}
 use Rattle.lists.specs.Coder.{Coder}
 use Rattle.lists.proofs.Records as generic
-use Rattle.coding.specs.Decode.{decodeRecord}
+use Rattle.coding.specs.Payloads.{decodeRecord}
 use Rattle.coding.proofs.Coders.{coders}
 
 pub coderOf : (k : ℕ) (p : Plan) → fit k p ≡ true → Coder k

@@ -18,7 +18,7 @@ use mathlib.Core.List.{List, [], _∷_, _++_, append-nil, append-assoc}
 use lib.ListN.{length, set, replicate, length-append, length-drop, length-replicate}
 use Rattle.model.specs.Numbers.{allBelow}
 use Rattle.model.specs.Traversal.{Letter}
-use Rattle.packing.specs.Unlay.{payloadBits, payloadLabels, payloadClean}
+use Rattle.packing.specs.Payload.{Sized, payloadBits, payloadLabels, payloadClean}
 use Rattle.words.specs.Word.{Machine, Found, found, none, after, done, stuck, turn, start, head, wordDarts, rotationOf, decodeWord}
 use Rattle.machine.specs.Reading.{left, run}
 use Rattle.machine.proofs.Decoding.{wordIn}
@@ -31,8 +31,8 @@ use Rattle.decoder.specs.declared.Cursor.{Cursor}
 use Rattle.decoder.specs.declared.State.{State}
 use Rattle.decoder.specs.declared.Outcome.{Outcome}
 use Rattle.decoder.specs.declared.Outcome.the-variants.{Goes, Done, Stuck}
-use Rattle.coding.specs.Decode.{decodePayload}
-use Rattle.unpacker.specs.Unpacked.{Sized, labelsAt}
+use Rattle.coding.specs.Payloads.{decodePayload}
+use Rattle.unpacker.specs.Unpacked.{labelsAt}
 use Rattle.unpacker.proofs.Payload.{bits-room}
 use Rattle.decoder.specs.Decoded.{Answered}
 use Rattle.decoder.specs.States.{Parts, partsOf, labelsOf, machineOf, machineAt, outcome, outcomeAt, Fits, Moved, Turned}
@@ -184,7 +184,7 @@ pub record Prepared (k m : ℕ) (ps w : List ℕ) : Type 0 where
   pub blank : region 0 (2 * m) w ≡ replicate (2 * m) 0
 
 module _ (k m : ℕ) (ps : List ℕ) where
-  pub prepared : Sized ps k m → payloadClean k m ps ≡ true → (w w′ : List ℕ) → 32 * m ≤ length w → labelsAt m w ≡ payloadLabels k m ps
+  pub prepared : Sized k m ps → payloadClean k m ps ≡ true → (w w′ : List ℕ) → 32 * m ≤ length w → labelsAt m w ≡ payloadLabels k m ps
       → w′ ≡ placed 0 (replicate (2 * m) 0) w → Prepared k m ps w′
   prepared h e w w′ r l f =
       let none : List ℕ = replicate (2 * m) 0 in

@@ -5,10 +5,10 @@ ghost use mathlib.Core.Logic.{_≢_};
 ghost use Prim.Native.Nat.{_*_, _≤_, _<_};
 ghost use lib.ListN.{length, replicate};
 ghost use Rattle.words.specs.Word.{decodeWord};
-ghost use Rattle.packing.specs.Unlay.{payloadBits};
+ghost use Rattle.packing.specs.Payload.{Sized, payloadBits};
 ghost use Rattle.work.specs.Area.{region};
-ghost use Rattle.coding.specs.Decode.{decodePayload};
-ghost use Rattle.unpacker.specs.Unpacked.{Sized, labelsAt};
+ghost use Rattle.coding.specs.Payloads.{decodePayload};
+ghost use Rattle.unpacker.specs.Unpacked.{labelsAt};
 ghost use Rattle.decoder.specs.Decoded.{Answered};
 ghost use Rattle.decoder.specs.States.{nextBit, nextLabel, unread, Standing, Fits, Room, OneRead, Turned, TurnedUnread};
 ghost use Rattle.decoder.specs.States.{risenState, leafedState, backedState, enteredState, risenArea, leafedArea, backedArea, enteredArea};
@@ -335,7 +335,7 @@ fn run(payload: &[u8], m: usize, w: &mut [u16]) -> bool
 
 // The standard plan of a payload: whether there is one, and its rotation in the first 2m entries.
 pub fn decode(payload: &[u8], kind: u16, m: usize, w: &mut [u16]) -> bool
-    requires { ⌜ Sized (now payload) kind m ⌝ }
+    requires { ⌜ Sized kind m (now payload) ⌝ }
     requires { ⌜ 32 * m ≤ length (now w) ⌝ }
     ensures { λ r. ⌜ Answered (decodePayload kind m (now (payload .entry))) (2 * m) r (now (w .exit)) ⌝ }
 {

@@ -28,7 +28,7 @@ use Rattle.model.specs.Renumbering.{Renumbering}
 use Rattle.model.proofs.Below.{below-drop}
 use Rattle.words.specs.Word.{Found, found, none}
 use Rattle.words.proofs.Found.{none-found, found-same}
-use Rattle.packing.specs.Unlay.{Sized}
+use Rattle.packing.specs.Payload.{Sized}
 use Rattle.packing.proofs.Headed.{headed-length, headed-payload, headed-bytes, headed-field, headed-kind, headed-edges, headed-passes, headed-injective, passes-sized, passes-headed}
 use Rattle.lists.specs.Coder.{rooted, Coder}
 use Rattle.lists.specs.Framed.{Framed}

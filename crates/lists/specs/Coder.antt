@@ -13,7 +13,7 @@ use Rattle.model.specs.Traversal.{Letter, standardPlan}
 use Rattle.model.specs.Record.{payloadOf}
 use Rattle.model.specs.Renumbering.{Renumbering}
 use Rattle.words.specs.Word.{Found, found}
-use Rattle.packing.specs.Unlay.{Sized}
+use Rattle.packing.specs.Payload.{Sized}
 
 abbrev pub rooted : List ℕ → Plan
 rooted rot = record { rotation = rot; root = 0 }

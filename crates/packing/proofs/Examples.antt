@@ -6,7 +6,7 @@ use mathlib.Core.List.{List, [], _∷_}
 use Rattle.model.specs.Record.{digitsFrom, pack, payload}
 use Rattle.model.specs.Numbers.{allBelow}
 use Rattle.packing.specs.Unpack.{digitsOf, unpack, bits, groups}
-use Rattle.packing.specs.Unlay.{payloadBits, payloadLabels, payloadClean}
+use Rattle.packing.specs.Payload.{payloadBits, payloadLabels, payloadClean}
 
 made : payload 2 1 (1 ∷ 0 ∷ []) (2 ∷ []) ≡ 128 ∷ 162 ∷ []
 unfolding payload pack digitsFrom

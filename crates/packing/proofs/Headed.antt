@@ -21,7 +21,7 @@ use Rattle.model.specs.Map.{isKind}
 use Rattle.model.specs.Record.{le16, recordLength, headed}
 use Rattle.model.specs.Shelf.{word16, kindOf, edgesOf, passes}
 use Rattle.model.proofs.Below.{below-append, below-drop, below-head, below-tail}
-use Rattle.packing.specs.Unlay.{Sized}
+use Rattle.packing.specs.Payload.{Sized}
 use Rattle.model.proofs.Heads.{le16-word16, le16-bytes, kind-cases, recordLength-range, Passes, passes-facts, facts-passes}
 
 module _ (k m : ℕ) (ps : List ℕ) where

@@ -21,7 +21,7 @@ use Rattle.model.specs.Record.{pack, bytesFor, recordLength, payload, labelBase
 use Rattle.model.proofs.Booleans.{and-left, and-right, both}
 use Rattle.model.proofs.Below.{below-append, below-take, below-drop, below-mono, zeros-blank}
 use Rattle.packing.specs.Unpack.{unpack, bits, groups}
-use Rattle.packing.specs.Unlay.{blankFrom, payloadBits, payloadLabels, payloadClean}
+use Rattle.packing.specs.Payload.{blankFrom, payloadBits, payloadLabels, payloadClean}
 use Rattle.packing.proofs.Packed.{pack-length, pack-below, unpack-append, length-unpack, unpack-below, unpack-pack, pack-take}
 use Rattle.model.proofs.Heads.{kind-cases}
 

@@ -1,2 +1,2 @@
 pub mod Unpack
-pub mod Unlay
+pub mod Payload

@@ -18,7 +18,7 @@ use Rattle.model.specs.Map.{Plan}
 use Rattle.model.specs.Shelf.{edgesOf, passes}
 use Rattle.model.specs.Calls.{front, readRefusal, Reads, refused, read, unreadable, edgesOfRead}
 use Rattle.words.specs.Word.{planOf}
-use Rattle.coding.specs.Decode.{decodeRecord}
+use Rattle.coding.specs.Payloads.{decodeRecord}
 use Rattle.coding.proofs.Records.{decodes-has, decodes-standard, none-has}
 use Rattle.work.specs.Area.{region}
 use Rattle.decoder.specs.Decoded.{Answered}

@@ -11,8 +11,9 @@ use lib.ListN.{length, take, drop, length-drop}
 use lib.Seq.{take-all}
 use Rattle.model.specs.Shelf.{kindOf, edgesOf, passes}
 use Rattle.model.proofs.Heads.{passes-facts}
-use Rattle.coding.specs.Decode.{decodePayload, decodeRecord}
-use Rattle.decoder.specs.Decoded.{Sized, Answered}
+use Rattle.coding.specs.Payloads.{decodePayload, decodeRecord}
+use Rattle.packing.specs.Payload.{Sized}
+use Rattle.decoder.specs.Decoded.{Answered}
 
 module _ (r : List ℕ) (k m : ℕ) (passed : passes r ≡ true) (k-is : k ≡ kindOf r) (m-is : m ≡ edgesOf r) where
   abbrev part : List ℕ
@@ -21,7 +22,7 @@ module _ (r : List ℕ) (k m : ℕ) (passed : passes r ≡ true) (k-is : k ≡ k
   part-is : part ≡ drop 6 r
   part-is = take-all (length r - 6) (drop 6 r) (let e = length-drop 6 r in omega arith)
 
-  pub payload-sized : Sized part k m
+  pub payload-sized : Sized k m part
   payload-sized =
       let f = passes-facts r passed in
       let h = f .whole-head in let d = length-drop 6 r in let l = f .right-length in

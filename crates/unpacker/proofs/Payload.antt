@@ -18,11 +18,10 @@ use lib.ListN.{length, getD, take, drop}
 use lib.Seq.{length-take-le, getD-take, getD-drop}
 use Rattle.model.specs.Record.{recordLength}
 use Rattle.packing.specs.Unpack.{bits, groups}
-use Rattle.packing.specs.Unlay.{payloadBits, payloadLabels}
+use Rattle.packing.specs.Payload.{Sized, payloadBits, payloadLabels}
 use Rattle.model.proofs.Heads.{kind-cases}
 use Rattle.packing.proofs.Packed.{length-unpack}
 use Rattle.packing.proofs.Payload.{unpayload-parts}
-use Rattle.unpacker.specs.Unpacked.{Sized}
 
 -- ---- tree bits
 
@@ -53,7 +52,7 @@ pub record KindTwo (ps : List ℕ) (m : ℕ) : Type 0 where
   pub bytes : length ps ≡ (2 * m + 7) / 8 + (m + 4) / 5
 
 module _ (ps : List ℕ) (m : ℕ) where
-  pub one : Sized ps 1 m → KindOne ps m
+  pub one : Sized 1 m ps → KindOne ps m
   unfolding recordLength
   one h =
       let l = h .long in
@@ -64,20 +63,20 @@ module _ (ps : List ℕ) (m : ℕ) where
         label-count = unpayload-parts 1 m ps (h .kind) (omega arith) .label-count;
       }
 
-  pub two : Sized ps 2 m → KindTwo ps m
+  pub two : Sized 2 m ps → KindTwo ps m
   unfolding recordLength
   two h = let l = h .long in record { few-edges = h .few-edges; some-edge = h .some-edge; bytes = omega arith }
 
-  pub bits-room : (k : ℕ) → Sized ps k m → 2 * m ≤ 8 * length ps
+  pub bits-room : (k : ℕ) → Sized k m ps → 2 * m ≤ 8 * length ps
   bits-room k h =
-      kind-cases (λ (j : ℕ). Sized ps j m → 2 * m ≤ 8 * length ps)
+      kind-cases (λ (j : ℕ). Sized j m ps → 2 * m ≤ 8 * length ps)
       (λ g. let z = one g in omega arith) (λ g. let z = two g in omega arith) k (h .kind) h
 
-  pub other-kind : (k : ℕ) → Sized ps k m → k ≢ 1 → k ≡ 2
+  pub other-kind : (k : ℕ) → Sized k m ps → k ≢ 1 → k ≡ 2
   other-kind k h = kind-cases (λ (j : ℕ). j ≢ 1 → j ≡ 2) (λ e. absurd (e refl)) (λ e. refl) k (h .kind)
 
-  pub of-kind : (k j : ℕ) → k ≡ j → Sized ps k m → Sized ps j m
-  of-kind k j e h = subst (λ (i : ℕ). Sized ps i m) e h
+  pub of-kind : (k j : ℕ) → k ≡ j → Sized k m ps → Sized j m ps
+  of-kind k j e h = subst (λ (i : ℕ). Sized i m ps) e h
 
   pub labels-of-kind : (k j : ℕ) → k ≡ j → payloadLabels j m ps ≡ payloadLabels k m ps
   labels-of-kind k j e = ap (λ (i : ℕ). payloadLabels i m ps) (sym e)

@@ -5,8 +5,8 @@ ghost use Prim.Native.Nat.{_+_, _*_, _^_, _≤_, _<_};
 ghost use lib.ListN.{length, take, drop};
 ghost use Rattle.model.specs.Numbers.{allBelow};
 ghost use Rattle.packing.specs.Unpack.{bits, groups};
-ghost use Rattle.packing.specs.Unlay.{payloadLabels, payloadClean};
-ghost use Rattle.unpacker.specs.Unpacked.{Sized, labelsAt, grouped};
+ghost use Rattle.packing.specs.Payload.{Sized, payloadLabels, payloadClean};
+ghost use Rattle.unpacker.specs.Unpacked.{labelsAt, grouped};
 
 // ---- padding bits, fill labels and groups
 
@@ -60,7 +60,7 @@ fn groups_fit(bytes: &[u8], from: usize) -> bool
 
 // "unused low bits are 0", "the last group filled with 0", and five labels make no more than 242.
 pub fn clean(payload: &[u8], kind: u16, m: usize) -> bool
-    requires { ⌜ Sized (now payload) kind m ⌝ }
+    requires { ⌜ Sized kind m (now payload) ⌝ }
     ensures { λ r. ⌜ r ≡ payloadClean kind m (now (payload .entry)) ⌝ }
 {
     if kind == 1 {
@@ -82,7 +82,7 @@ pub fn clean(payload: &[u8], kind: u16, m: usize) -> bool
 
 // The labels of kind 1.
 fn spread_bits(payload: &[u8], m: usize, w: &mut [u16])
-    requires { ⌜ Sized (now payload) 1 m ⌝ }
+    requires { ⌜ Sized 1 m (now payload) ⌝ }
     requires { ⌜ 32 * m ≤ length (now w) ⌝ }
     ensures { λ _. ⌜ labelsAt m (now (w .exit)) ≡ payloadLabels 1 m (now (payload .entry)) ⌝ }
 {
@@ -109,7 +109,7 @@ fn put_group(w: &mut [u16], at: usize, group: u8)
 
 // The labels of kind 2, and those that fill the last group.
 fn spread_groups(payload: &[u8], m: usize, w: &mut [u16])
-    requires { ⌜ Sized (now payload) 2 m ⌝ }
+    requires { ⌜ Sized 2 m (now payload) ⌝ }
     requires { ⌜ 32 * m ≤ length (now w) ⌝ }
     ensures { λ _. ⌜ labelsAt m (now (w .exit)) ≡ payloadLabels 2 m (now (payload .entry)) ⌝ }
 {
@@ -125,7 +125,7 @@ fn spread_groups(payload: &[u8], m: usize, w: &mut [u16])
 
 // The labels by number, so that whoever reads them one by one needs no division.
 pub fn spread(payload: &[u8], kind: u16, m: usize, w: &mut [u16])
-    requires { ⌜ Sized (now payload) kind m ⌝ }
+    requires { ⌜ Sized kind m (now payload) ⌝ }
     requires { ⌜ 32 * m ≤ length (now w) ⌝ }
     ensures { λ _. ⌜ labelsAt m (now (w .exit)) ≡ payloadLabels kind m (now (payload .entry)) ⌝ }
 {

@@ -19,7 +19,7 @@ use Rattle.words.specs.Word.{valid}
 use Rattle.words.proofs.Validity.{valid-fits, valid-nested, valid-of}
 use Rattle.machine.proofs.Sizes.{labels-bound}
 use Rattle.machine.proofs.Bounds.{bits-below}
-use Rattle.coding.specs.Decode.{encodePayload}
+use Rattle.coding.specs.Payloads.{encodePayload}
 use Rattle.work.proofs.Letters.{length-letters}
 use Rattle.work.specs.Letters.{lettersIn, workBits, workLabels}
 use Rattle.encoder.specs.Encoded.{Encoded}

@@ -15,7 +15,7 @@ use Rattle.model.specs.Map.{Plan, isKind}
 use Rattle.model.specs.Record.{recordLength, headed}
 use Rattle.model.specs.Calls.{front, earlyRefusals, writeAnswer, writtenOutput}
 use Rattle.words.specs.Word.{valid}
-use Rattle.coding.specs.Decode.{encodePayload}
+use Rattle.coding.specs.Payloads.{encodePayload}
 use Rattle.work.specs.Letters.{lettersIn}
 
 unfoldable pub earlyRefusal : ℕ → Plan → ℕ → ℕ → ℕ

@@ -1,7 +1,7 @@
 use Prim.Native.Nat.{_*_}
 use mathlib.Core.Path.{_≡_, refl}
 use lib.ListN.{length}
-use Rattle.packing.specs.Unlay.{payloadBits}
+use Rattle.packing.specs.Payload.{payloadBits}
 use Rattle.unpacker.proofs.Payload.{bit-count}
 use Rattle.decoder.specs.States.{Turned}
 use Rattle.decoder.proofs.Cursors.{bit-end, both-read, label-missing}

@@ -3,7 +3,7 @@ use native.Mathlib.Omega.{arith}
 use mathlib.Core.Path.{ap, _∙_}
 use mathlib.Core.List.{List}
 use lib.ListN.{length, set, length-set}
-use Rattle.packing.specs.Unlay.{payloadBits}
+use Rattle.packing.specs.Payload.{payloadBits}
 use Rattle.unpacker.proofs.Payload.{bit-count}
 use Rattle.decoder.specs.States.{Moved}
 use Rattle.decoder.proofs.Runs.{Running, running-start, running-on, running-less, turned-goes, turned-done, turned-stuck}

@@ -1,7 +1,7 @@
 use mathlib.Core.Path.{_≡_, sym, _∙_}
 use native.Mathlib.Omega.{arith}
 use borrow.Author.Tests.{not-true, not-false}
-use Rattle.packing.specs.Unlay.{payloadClean}
+use Rattle.packing.specs.Payload.{payloadClean}
 use Rattle.unpacker.proofs.Payload.{KindOne, one, KindTwo, two, other-kind, of-kind}
 use Rattle.unpacker.proofs.Padding.{cleanParts, clean-one, clean-two}
 use borrow.Author.Needs.{needs}

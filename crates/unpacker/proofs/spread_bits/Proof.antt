@@ -2,7 +2,7 @@ use Prim.Native.Nat.{_-_, _*_, _≤_}
 use mathlib.Core.Path.{_≡_, refl, _∙_}
 use native.Mathlib.Omega.{arith}
 use lib.ListN.{length, take, length-set}
-use Rattle.packing.specs.Unlay.{payloadLabels}
+use Rattle.packing.specs.Payload.{payloadLabels}
 use Rattle.work.specs.Map.{LABELS}
 use Rattle.work.specs.Area.{region}
 use Rattle.unpacker.proofs.Payload.{KindOne, one, label-one}

@@ -2,7 +2,7 @@ use Prim.Native.Nat.{_*_}
 use mathlib.Core.Path.{_≡_, _∙_}
 use native.Mathlib.Omega.{arith}
 use lib.ListN.{length}
-use Rattle.packing.specs.Unlay.{payloadBits}
+use Rattle.packing.specs.Payload.{payloadBits}
 use Rattle.decoder.proofs.Cursors.{bit-next, bit-none}
 use Rattle.unpacker.proofs.Payload.{bit-count, bit-place}
 use borrow.Author.Needs.{needs}

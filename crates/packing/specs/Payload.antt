@@ -1,14 +1,10 @@
 -- A payload taken apart into its tree bits and labels: the inverse of `payload`.
 --
 --   Sized k m ps          ps is as long as the payload of a record of kind k with m edges
---   Laid k m bits labels  tree bits and labels that a record of kind k with m edges holds
 --   blankFrom l ds        every digit from place l on is 0
 --   payloadBits m ps      the tree bits in the payload ps
 --   payloadLabels k m ps  the labels in the payload ps
 --   payloadClean k m ps   padding bits and fill labels of ps are 0, and no byte of a group is above 242
---   bitsIn r, labelsIn r  the tree bits and the labels in the record r
---   unlay r               both
---   readable r            the payload of r is clean
 use Prim.Native.Nat.{ℕ, _+_, _*_, _≤_}
 use mathlib.Core.Path.{_≡_}
 use mathlib.Core.Bool.{Bool, true, _&&_, cond}
@@ -17,8 +13,7 @@ use lib.Dec.{eqb}
 use lib.ListN.{length, take, drop}
 use Rattle.model.specs.Numbers.{allBelow}
 use Rattle.model.specs.Map.{isKind}
-use Rattle.model.specs.Record.{bytesFor, labelBase, recordLength}
-use Rattle.model.specs.Shelf.{kindOf, edgesOf}
+use Rattle.model.specs.Record.{bytesFor, recordLength}
 use Rattle.packing.specs.Unpack.{bits, groups}
 
 pub record Sized (k m : ℕ) (ps : List ℕ) : Type 0 where
@@ -26,15 +21,6 @@ pub record Sized (k m : ℕ) (ps : List ℕ) : Type 0 where
   pub some-edge : 1 ≤ m
   pub few-edges : m ≤ 4096
   pub long : 6 + length ps ≡ recordLength k m
-
-pub record Laid (k m : ℕ) (bs ls : List ℕ) : Type 0 where
-  pub kind : isKind k ≡ true
-  pub some-edge : 1 ≤ m
-  pub few-edges : m ≤ 4096
-  pub bit-count : length bs ≡ 2 * m
-  pub bits-fit : allBelow 2 bs ≡ true
-  pub label-count : length ls ≡ m
-  pub labels-fit : allBelow (labelBase k) ls ≡ true
 
 abbrev pub blankFrom : ℕ → List ℕ → Bool
 blankFrom l ds = allBelow 1 (drop l ds)
@@ -52,15 +38,3 @@ payloadClean k m ps =
     let n = bytesFor (2 * m) 8 in
     cond (eqb k 1) (blankFrom (3 * m) (bits ps))
     (blankFrom (2 * m) (bits (take n ps)) && (allBelow 243 (drop n ps) && blankFrom m (groups (drop n ps))))
-
-unfoldable pub bitsIn : List ℕ → List ℕ
-bitsIn r = payloadBits (edgesOf r) (drop 6 r)
-
-unfoldable pub labelsIn : List ℕ → List ℕ
-labelsIn r = payloadLabels (kindOf r) (edgesOf r) (drop 6 r)
-
-abbrev pub unlay : List ℕ → List ℕ × List ℕ
-unlay r = (bitsIn r, labelsIn r)
-
-unfoldable pub readable : List ℕ → Bool
-readable r = payloadClean (kindOf r) (edgesOf r) (drop 6 r)

@@ -11,7 +11,7 @@ use Rattle.model.specs.Traversal.{Letter}
 use Rattle.model.specs.Record.{payload}
 use Rattle.model.specs.Shelf.{kindOf, edgesOf}
 use Rattle.words.specs.Word.{Found, none, wordBits, wordLabels, decodeWord}
-use Rattle.packing.specs.Unlay.{payloadBits, payloadLabels, payloadClean}
+use Rattle.packing.specs.Payload.{payloadBits, payloadLabels, payloadClean}
 
 unfoldable pub encodePayload : ℕ → List Letter → List ℕ
 encodePayload k w = payload k (length w / 2) (wordBits false w) (wordLabels w)
