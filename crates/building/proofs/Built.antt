@@ -15,9 +15,9 @@ use Rattle.model.specs.Traversal.{Letter, word, standardPlan}
 use Rattle.model.proofs.Fitness.{parts-fit, count-positive}
 use Rattle.words.specs.Word.{bareLeaf, valid, planOf}
 use Rattle.words.specs.Toured.{Toured, Bracketed}
-use Rattle.words.proofs.Plans.{rotation-length}
 use Rattle.words.specs.Brackets.{letter}
 use Rattle.words.specs.Position.{Balance, Closes}
+use Rattle.words.proofs.Plans.{rotation-length}
 use Rattle.words.proofs.Validity.{valid-kind, valid-fits, valid-nested, valid-plain}
 use Rattle.words.proofs.Nesting.{balance, nested-closes, closes-low}
 use Rattle.words.proofs.Rotation.{rotation-listed}

@@ -14,9 +14,9 @@ use Rattle.model.specs.Traversal.{Letter, down, up, first, second}
 use Rattle.model.proofs.Fitness.{at-loopless}
 use Rattle.words.specs.Word.{rotationOf}
 use Rattle.words.specs.Toured.{fellow}
-use Rattle.words.proofs.Plans.{rotation-length}
 use Rattle.words.specs.Brackets.{letter}
 use Rattle.words.specs.Position.{vertexNo, dartNo, Balance, Closes}
+use Rattle.words.proofs.Plans.{rotation-length}
 use Rattle.words.proofs.Mates.{mate, mate-inv, fellows, vertex-new, vertex-closes, vertex-entered}
 use Rattle.words.proofs.Darts.{dart-mate}
 use Rattle.words.proofs.Rotation.{pos, pos-bound, dart-pos}

@@ -17,9 +17,9 @@ use Rattle.orbits.proofs.Order.{tri}
 use Rattle.orbits.proofs.Tally.{count-below}
 use Rattle.words.specs.Word.{rotationOf}
 use Rattle.words.specs.Entered.{isDown}
-use Rattle.words.proofs.Plans.{rotation-length}
 use Rattle.words.specs.Brackets.{letter, treeStack}
 use Rattle.words.specs.Position.{vertexCount, vertexTop, vertexNo, dartNo, Balance}
+use Rattle.words.proofs.Plans.{rotation-length}
 use Rattle.words.proofs.Mates.{stack-down}
 use Rattle.words.proofs.Darts.{dart-perm}
 use Rattle.words.proofs.Rotation.{turn, pos, pos-bound, dart-pos, pos-dart, next-perm}

@@ -26,9 +26,9 @@ use Rattle.orbits.proofs.Match.{match-open, match-close, match-flat, mate-close
 use Rattle.words.specs.Word.{closes}
 use Rattle.words.specs.Toured.{fellow, isTree}
 use Rattle.words.specs.Entered.{isDown}
-use Rattle.words.proofs.Letters.{tree-fellow}
 use Rattle.words.specs.Brackets.{treeKind, chordKind, treeWord, chordWord, treeStack}
 use Rattle.words.specs.Position.{vertexCount, vertexTop, vertexNo, Balance, Closes}
+use Rattle.words.proofs.Letters.{tree-fellow}
 use Rattle.words.proofs.Bracketing.{is-down, is-up, is-first, is-second, flat-chord}
 
 -- ---- the fellow of a position

@@ -27,9 +27,9 @@ use Rattle.orbits.proofs.Maps.{perm-list}
 use Rattle.orbits.proofs.Inverse.{inverse, inverse-bound, back-there, there-back}
 use Rattle.words.specs.Word.{wordDarts, placeOf, link, rotationOf, head}
 use Rattle.words.specs.Toured.{isTree}
-use Rattle.words.proofs.Plans.{rotation-length}
 use Rattle.words.specs.Brackets.{letter}
 use Rattle.words.specs.Position.{dartNo, Balance}
+use Rattle.words.proofs.Plans.{rotation-length}
 use Rattle.words.proofs.Lists.{filled, filled-at, head-drop}
 use Rattle.words.proofs.WordDarts.{length-wordDarts, wordDarts-at}
 use Rattle.words.proofs.Mates.{τ, τ-inv, τ-tree, τ-chord}
