@@ -5,17 +5,16 @@
 --   decode-encodes        a payload that is decoded is the valid word's
 --   payload-of-word       a fit plan's payload is its word's
 --   coders                the coders
-use Prim.Native.Nat.{ℕ, _+_, _*_, _/_}
+use Prim.Native.Nat.{ℕ, _*_, _/_}
 use native.Mathlib.Omega.{arith}
-use mathlib.Core.Path.{_≡_, refl, sym, ap, _∙_}
+use mathlib.Core.Path.{_≡_, refl, ap, _∙_}
 use mathlib.Core.Bool.{Bool, true, false, cond}
 use mathlib.Core.List.{List}
 use lib.ListN.{length}
 use Rattle.model.specs.Numbers.{allBelow}
-use Rattle.model.specs.Map.{Plan, darts, edges, isKind, fit}
-use Rattle.model.specs.Traversal.{Letter, word, standardPlan}
-use Rattle.model.specs.LabelledTree.{treeBits, labels}
-use Rattle.model.specs.Record.{payload, payloadOf}
+use Rattle.model.specs.Map.{Plan, edges, isKind, fit}
+use Rattle.model.specs.Traversal.{Letter, word}
+use Rattle.model.specs.Record.{payloadOf}
 use Rattle.model.proofs.Fitness.{fit-parts, count-parts, parts-count}
 use Rattle.words.specs.Word.{found, none, valid, wordBits, wordLabels, rotationOf, planOf, decodeWord}
 use Rattle.words.proofs.Found.{none-found}

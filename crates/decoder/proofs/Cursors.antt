@@ -6,7 +6,7 @@
 --   bit-next, bit-none, label-next, label-none   what it has to hand back
 --   BothRead, both-read        a bit and then a label were read
 --   label-missing          a bit was read, and no label is left
-use Prim.Native.Nat.{ℕ, _+_, _≤_, _<_}
+use Prim.Native.Nat.{ℕ, _≤_, _<_}
 use mathlib.Core.Path.{_≡_, refl, sym, ap, _∙_}
 use mathlib.Core.Bool.{Bool, true, false, cond, true≢false, false≢true}
 use mathlib.Core.List.{List}

@@ -13,7 +13,7 @@ use lib.ListN.{length, set, replicate}
 use Rattle.model.specs.Traversal.{Letter, down, up, first}
 use Rattle.words.specs.Word.{head, wordDarts, placeOf, link, rotationOf, Found, found, none, after, Machine}
 use Rattle.machine.specs.Reading.{run}
-use Rattle.machine.proofs.Decoding.{wordIn}
+use Rattle.words.proofs.Found.{wordIn}
 use Rattle.machine.proofs.Runs.{run-goes, run-done, run-stuck}
 use Rattle.machine.proofs.Turns.{Step, closes, rises, leafs, backs, enters, finishes, halts, step, turn-star, turn-back, turn-tree, turn-done}
 use Rattle.decoder.specs.States.{linked}

@@ -21,7 +21,7 @@ use Rattle.model.specs.Traversal.{Letter}
 use Rattle.packing.specs.Payload.{Sized, payloadBits, payloadLabels, payloadClean}
 use Rattle.words.specs.Word.{Machine, Found, found, none, after, done, stuck, turn, start, head, wordDarts, rotationOf, decodeWord}
 use Rattle.machine.specs.Reading.{left, run}
-use Rattle.machine.proofs.Decoding.{wordIn}
+use Rattle.words.proofs.Found.{wordIn}
 use Rattle.machine.proofs.Runs.{turn-left, turn-none, run-on, run-done, run-stuck, decodeWord-run}
 use Rattle.work.specs.Map.{LABELS, BEGUN}
 use Rattle.work.specs.Area.{region, placed, stack}

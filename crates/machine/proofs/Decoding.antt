@@ -1,7 +1,6 @@
 -- What the machine reads is a valid word, and the bits and labels are those of that word (`encode-decode`).
 --
 --   from-close, from-up, from-star, from-back, from-tree, from-done   before a turn its letters are to be read, and then what is to be read after it
---   wordIn, none-found   the word that was found; none is no word
 --   decoded            a word that is read was to be read
 --   decoded-bits, decoded-labels, decoded-length, decoded-valid   so from the start, part by part
 --   encode-decode      the parts together, for a record with m edges
@@ -9,7 +8,7 @@ use Prim.Native.Nat.{ℕ, zero, suc, _*_, _<_}
 use native.Mathlib.Omega.{arith}
 use mathlib.Core.Path.{_≡_, refl, sym, ap, ap₂, _∙_, subst}
 use mathlib.Core.Logic.{_≢_}
-use mathlib.Core.Bool.{Bool, true, false, cond, false≢true}
+use mathlib.Core.Bool.{Bool, true, false, cond}
 use mathlib.Core.List.{List, [], _∷_, _++_}
 use lib.ListN.{length}
 use Rattle.model.specs.Numbers.{allBelow}
@@ -18,6 +17,7 @@ use Rattle.model.specs.Traversal.{Letter, down, up, first, second}
 use Rattle.model.specs.LabelledTree.{star}
 use Rattle.model.specs.Record.{labelBase}
 use Rattle.words.specs.Word.{nested, startsUp, valid, startsSecond, head, tail, endsOne, ends, wordLabels, wordBits, Found, found, none, after, Machine, goes, turn, follow, decode, start, decodeWord, closed, risen, leafed, backed, entered}
+use Rattle.words.proofs.Found.{wordIn, none-found}
 use Rattle.words.proofs.Validity.{valid-of}
 use Rattle.machine.specs.Reading.{Reads}
 use Rattle.machine.proofs.Sizes.{bound-three, bound-two}
@@ -112,17 +112,6 @@ module _ (s : Machine) (k : Held s) where
         }
 
 -- ---- the whole word
-
-abbrev pub wordIn : Found → List Letter
-wordIn none = []
-wordIn (found w) = w
-
-abbrev isFound : Found → Bool
-isFound none = false
-isFound (found w) = true
-
-pub none-found : (w : List Letter) {A : Type 0} → none ≡ found w → A
-none-found w e = absurd (false≢true (ap isFound e))
 
 before-after : (l : Letter) (ls : List Letter) (r : Found) (w : List Letter) → after (l ∷ ls) r ≡ found w
     → (v : List Letter) × (r ≡ found v) × (l ∷ ls ++ v ≡ w)

@@ -1,8 +1,7 @@
 -- Payloads of kind 2 with one edge, made and taken apart by computing: what is clean, and what is not. Assumes nothing.
-use Prim.Native.Nat.{ℕ}
 use mathlib.Core.Path.{_≡_, refl}
 use mathlib.Core.Bool.{true, false}
-use mathlib.Core.List.{List, [], _∷_}
+use mathlib.Core.List.{[], _∷_}
 use Rattle.model.specs.Record.{digitsFrom, pack, payload}
 use Rattle.model.specs.Numbers.{allBelow}
 use Rattle.packing.specs.Unpack.{digitsOf, unpack, bits, groups}

@@ -18,7 +18,7 @@ use lib.Seq.{getD-drop, drop-drop}
 use borrow.Author.Tests.{eq-eqb}
 use Rattle.model.specs.Numbers.{allBelow}
 use Rattle.model.specs.Map.{isKind}
-use Rattle.model.specs.Record.{le16, recordLength, headed}
+use Rattle.model.specs.Record.{le16, headed}
 use Rattle.model.specs.Shelf.{word16, kindOf, edgesOf, passes}
 use Rattle.model.proofs.Below.{below-append, below-drop, below-head, below-tail}
 use Rattle.packing.specs.Payload.{Sized}

@@ -6,16 +6,15 @@ use Prim.Native.Nat.{ℕ, _*_, _≤_, _<_}
 use native.Mathlib.Omega.{arith}
 use mathlib.Core.Path.{_≡_, refl, sym}
 use mathlib.Core.Logic.{_≢_}
-use mathlib.Core.Bool.{Bool, true, false}
+use mathlib.Core.Bool.{true}
 use mathlib.Core.List.{List}
-use lib.Dec.{eqb}
-use borrow.Author.Tests.{lt-ltb, le-ltb, eq-eqb, ne-eqb, eqb-true, eqb-false, ltb-false}
+use borrow.Author.Tests.{lt-ltb, le-ltb, eq-eqb, ne-eqb, eqb-true, ltb-false}
 use Rattle.model.specs.Numbers.{firstRefusal}
 use Rattle.model.specs.Shelf.{edgesOf, headRefusal, passes}
 use Rattle.model.specs.Calls.{readRefusal}
 use Rattle.model.proofs.Unreadable.{room-clear}
 use Rattle.model.proofs.Refusals.{none-holds}
-use Rattle.model.proofs.Heads.{passes-facts, head-first, head-none}
+use Rattle.model.proofs.Heads.{head-first, head-none}
 
 pub record Early (r : List ℕ) (w o : ℕ) : Type 0 where
   pub passed : passes r ≡ true
