@@ -21,7 +21,7 @@
 --   closedArea, risenArea, leafedArea, backedArea, enteredArea   the work area after these
 --   Moved                    a turn that goes on: its letters' darts are entered, and the state after it
 --   Turned                   what one turn hands back, by cases
---   TurnedUnread             the same for a turn that reads no bit, whichever they are
+--   TurnedAnyBits            the same for a turn that reads no bit, whichever they are
 use Prim.Native.Nat.{ℕ, _+_, _-_, _*_, _≤_, _<_}
 use mathlib.Core.Path.{_≡_}
 use mathlib.Core.Logic.{_≢_}
@@ -240,5 +240,5 @@ Turned m bs w s c (Goes t d) w′ = Moved m bs w s c t d w′
 Turned m bs w s c Done w′ = (turn (machineAt m bs w s c) ≡ done) × (w′ ≡ w)
 Turned m bs w s c Stuck w′ = (turn (machineAt m bs w s c) ≡ stuck) × (w′ ≡ w)
 
-abbrev pub TurnedUnread : ℕ → List ℕ → State → Cursor → Outcome → List ℕ → Type 0
-TurnedUnread m w s c r w′ = (bs : List ℕ) → Turned m bs w s c r w′
+abbrev pub TurnedAnyBits : ℕ → List ℕ → State → Cursor → Outcome → List ℕ → Type 0
+TurnedAnyBits m w s c r w′ = (bs : List ℕ) → Turned m bs w s c r w′

@@ -10,7 +10,7 @@ ghost use Rattle.work.specs.Area.{region};
 ghost use Rattle.coding.specs.Payloads.{decodePayload};
 ghost use Rattle.unpacker.specs.Unpacked.{labelsAt};
 ghost use Rattle.decoder.specs.Decoded.{Answered};
-ghost use Rattle.decoder.specs.States.{nextBit, nextLabel, unread, Standing, Fits, Room, OneRead, Turned, TurnedUnread};
+ghost use Rattle.decoder.specs.States.{nextBit, nextLabel, unread, Standing, Fits, Room, OneRead, Turned, TurnedAnyBits};
 ghost use Rattle.decoder.specs.States.{risenState, leafedState, backedState, enteredState, risenArea, leafedArea, backedArea, enteredArea};
 
 // Where the next tree bit and the next label stand.
@@ -92,7 +92,7 @@ impl Cursor {
 // The last open edge outside the tree ends here, if this is a proper ancestor of where it began.
 fn close_last(w: &mut [u16], m: usize, s: State, c: Cursor) -> Outcome
     requires { ⌜ Fits m (now w) s c × (s .label ≡ 1) × (0 < s .opens) ⌝ }
-    ensures { λ r. ⌜ TurnedUnread m (now (w .entry)) s c r (now (w .exit)) ⌝ }
+    ensures { λ r. ⌜ TurnedAnyBits m (now (w .entry)) s c r (now (w .exit)) ⌝ }
 {
     let n = s.n;
     let here = s.here;
@@ -123,7 +123,7 @@ fn close_last(w: &mut [u16], m: usize, s: State, c: Cursor) -> Outcome
 // An edge of label 1 has ended: another must end here too.
 fn close(w: &mut [u16], m: usize, s: State, c: Cursor) -> Outcome
     requires { ⌜ Fits m (now w) s c × (s .label ≡ 1) ⌝ }
-    ensures { λ r. ⌜ TurnedUnread m (now (w .entry)) s c r (now (w .exit)) ⌝ }
+    ensures { λ r. ⌜ TurnedAnyBits m (now (w .entry)) s c r (now (w .exit)) ⌝ }
 {
     let opens = s.opens;
     if opens == 0 {

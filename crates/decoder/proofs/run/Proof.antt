@@ -26,13 +26,10 @@ moved : (c : tie.After-known-told Inv-loop μ-loop) →
     Moved (a .m) (payloadBits (a .m) (a .payload .now)) (at .w) (at .s) (at .c) (t .0) (t .1 .0) w
 moved c =
     let v = c .before .before .before .before .before .turn in
-    let i = c .before .before .before .before .before .before .before .loop .inv in
     turned-goes _ _ _ _ _ (v .result) _ (v .ensures) _ _ (c .before .t .given .1)
 
 loop-holds : tie.Need-loop-holds Inv-loop μ-loop
-loop-holds c =
-    let p = c .before .before .pre in
-    running-start _ _ _ (p .0 .0) (p .0 .1) (p .1 .0)
+loop-holds c = let p = c .before .before .pre in running-start _ _ _ (p .0 .0) (p .0 .1) (p .1 .0)
 
 turn-requires : tie.Need-turn-requires Inv-loop μ-loop
 turn-requires c κs = let h = c .before .before .before .before .pre .0 in (h .2, c .before .loop .inv .fits)
