@@ -14,30 +14,30 @@ ghost use Rattle.decoder.specs.States.{nextBit, nextLabel, unread, Stand
 ghost use Rattle.decoder.specs.States.{risenState, leafedState, backedState, enteredState, risenArea, leafedArea, backedArea, enteredArea};
 
 // Where the next tree bit and the next label stand.
-pub struct Cursor {
-    pub bits: usize,
-    pub labels: usize,
+struct Cursor {
+    bits: usize,
+    labels: usize,
 }
 
 // A bit or a label, with the cursor moved on.
-pub enum Next {
+enum Next {
     Value(u16, Cursor),
     End,
 }
 
 // The state of the machine: vertices entered, the present one, how many tree edges and how many others are open, the label of the edge that has just
 // ended, and the dart whose entry is the next dart of the traversal.
-pub struct State {
-    pub n: u16,
-    pub here: u16,
-    pub depth: usize,
-    pub opens: usize,
-    pub label: u16,
-    pub place: usize,
+struct State {
+    n: u16,
+    here: u16,
+    depth: usize,
+    opens: usize,
+    label: u16,
+    place: usize,
 }
 
 // What one turn comes to.
-pub enum Outcome {
+enum Outcome {
     Goes(State, Cursor),
     Done,
     Stuck,

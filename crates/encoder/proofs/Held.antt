@@ -18,7 +18,7 @@ use Rattle.work.specs.Map.{UPS, SECONDS, BITS, LABELS}
 use Rattle.work.proofs.Regions.{region-set-other, region-front}
 use Rattle.work.proofs.Stacks.{stack-set, stack-push, stack-pop}
 use Rattle.encoder.specs.declared.Scan.{Scan}
-use Rattle.encoder.specs.Passes.{held, heldBits, Sized, Scanned}
+use Rattle.encoder.specs.Passes.{held, heldBits, InRange, Scanned}
 
 abbrev pub afterDown : Scan → Scan
 afterDown s = record { labels = s .labels - 1; ups = s .ups - 1; seconds = s .seconds; bits = s .bits - 1 }
@@ -32,7 +32,7 @@ afterFirst s = record { labels = s .labels - 1; ups = s .ups; seconds = s .secon
 abbrev pub afterSecond : Scan → Scan
 afterSecond s = record { labels = s .labels; ups = s .ups; seconds = s .seconds + 1; bits = s .bits }
 
-module _ (n i : ℕ) (w : List ℕ) (s : Scan) (fits : Sized n i s) (p x : ℕ) where
+module _ (n i : ℕ) (w : List ℕ) (s : Scan) (fits : InRange n i s) (p x : ℕ) where
   pub held-beside : BITS * n ≤ p → p < LABELS * n → held n (set w p x) s ≡ held n w s
   unfolding held
   held-beside h l = rw (
@@ -50,7 +50,7 @@ module _ (n i : ℕ) (w : List ℕ) (s : Scan) (at : Scanned n w i s) (x : ℕ) 
       → held n (set w (LABELS * n + (s .labels - 1)) x) (afterDown s) ≡ endsOne down rest (held n w s)
   unfolding held endsOne
   held-down o l d = rw (
-    region-front (LABELS * n) (n / 2) (s .labels) x w o (at .sized .labels-left) (omega (arith, at)),
+    region-front (LABELS * n) (n / 2) (s .labels) x w o (at .in-range .labels-left) (omega (arith, at)),
     stack-set (UPS * n) (s .ups - 1) w (LABELS * n + (s .labels - 1)) x (λ k. omega (arith, at)),
     stack-set (SECONDS * n) (s .seconds) w (LABELS * n + (s .labels - 1)) x (λ k. omega (arith, at)),
     stack-pop (UPS * n) (s .ups) w l,
@@ -61,7 +61,7 @@ module _ (n i : ℕ) (w : List ℕ) (s : Scan) (at : Scanned n w i s) (x : ℕ) 
       → held n (set w (LABELS * n + (s .labels - 1)) x) (afterFirst s) ≡ endsOne first rest (held n w s)
   unfolding held endsOne
   held-first o l d = rw (
-    region-front (LABELS * n) (n / 2) (s .labels) x w o (at .sized .labels-left) (omega (arith, at)),
+    region-front (LABELS * n) (n / 2) (s .labels) x w o (at .in-range .labels-left) (omega (arith, at)),
     stack-set (UPS * n) (s .ups) w (LABELS * n + (s .labels - 1)) x (λ k. omega (arith, at)),
     stack-set (SECONDS * n) (s .seconds - 1) w (LABELS * n + (s .labels - 1)) x (λ k. omega (arith, at)),
     stack-pop (SECONDS * n) (s .seconds) w l,

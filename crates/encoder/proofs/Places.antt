@@ -75,7 +75,7 @@ module _ (n : ℕ) (w : List ℕ) (s : Scan) (at : Scanned n w 0 s) where
   labels-end =
       let h = half n 0 w s at in
       let c = labels-are n 0 w s at in
-      let b = at .sized .labels-left in
+      let b = at .in-range .labels-left in
       let z : s .labels ≡ 0 = omega arith in
       rw (z, add-zero, sub-zero) at (ap (λ (x : Ends). x .labels) (at .labelled))
 
@@ -85,7 +85,7 @@ module _ (n : ℕ) (w : List ℕ) (s : Scan) (at : Scanned n w 0 s) where
       let h = whole n 0 w s at in
       let c = bits-are n 0 w s at in
       let d = ap length (at .bitted) in
-      let b = at .sized .bits-left in
+      let b = at .in-range .bits-left in
       let z : s .bits ≡ 0 = omega arith in
       rw (z, add-zero, sub-zero) at (at .bitted)
 
@@ -111,7 +111,7 @@ module _ (n i : ℕ) (w : List ℕ) (s : Scan) (h : i < n) (at : Scanned n w (i 
       let more = ap length (bits-more l e) in
       let sum = length-append (bitsOne (downBefore i (lettersIn n w)) l rest) (heldBits n w s) in
       let put = bits-are n (i + 1) w s at in
-      let b = at .sized .bits-left in
+      let b = at .in-range .bits-left in
       omega arith
 
   goes : (l : Letter) → Stands n w i l → Goes (l ∷ rest)
@@ -129,7 +129,7 @@ module _ (n i : ℕ) (w : List ℕ) (s : Scan) (h : i < n) (at : Scanned n w (i 
       let b = labels-are n (i + 1) w s at in
       let f = down-waits rest (goes down e) in
       let g = ups-are n (i + 1) w s at in
-      let l = at .sized .labels-left in
+      let l = at .in-range .labels-left in
       (omega arith, omega arith)
 
   pub first-room : Stands n w i first → (0 < s .labels) × (0 < s .seconds)
@@ -139,5 +139,5 @@ module _ (n i : ℕ) (w : List ℕ) (s : Scan) (h : i < n) (at : Scanned n w (i 
       let b = labels-are n (i + 1) w s at in
       let f = first-waits rest (goes first e) in
       let g = seconds-are n (i + 1) w s at in
-      let l = at .sized .labels-left in
+      let l = at .in-range .labels-left in
       (omega arith, omega arith)

@@ -20,7 +20,7 @@ use Rattle.work.proofs.Regions.{region-front}
 use Rattle.work.proofs.Letters.{letters-set-behind}
 use Rattle.encoder.specs.declared.Scan.{Scan}
 use Rattle.encoder.specs.Encoded.{Encoded}
-use Rattle.encoder.specs.Passes.{held, heldBits, downBefore, bitsFrom, Sized, Scanned, Stays, Stepped}
+use Rattle.encoder.specs.Passes.{held, heldBits, downBefore, bitsFrom, InRange, Scanned, Stays, Stepped}
 use Rattle.encoder.proofs.Letters.{Stands, letter-is, letters-end, small-word}
 use Rattle.encoder.proofs.Held.{afterDown, afterUp, afterFirst, afterSecond, held-beside, bits-beside}
 use Rattle.encoder.proofs.Held.{held-down, held-up, held-first, held-second}
@@ -48,7 +48,7 @@ scan-start n w v room = record {
   word = v;
   room = room;
   small = small-word n w room v;
-  sized = record { place = omega arith; labels-left = omega arith; bits-left = omega arith; ups-fit = omega arith; seconds-fit = omega arith };
+  in-range = record { place = omega arith; labels-left = omega arith; bits-left = omega arith; ups-fit = omega arith; seconds-fit = omega arith };
   labelled = rw (letters-end n w room n refl, sub-self);
   bitted = rw (letters-end n w room n refl, sub-self);
 }
@@ -56,7 +56,7 @@ scan-start n w v room = record {
 -- a letter is left
 pub scan-next : (n i : ℕ) (w : List ℕ) (s : Scan) → 0 < i → Scanned n w i s → (i - 1 < n) × Scanned n w (i - 1 + 1) s
 scan-next n i w s h at =
-    let p = at .sized .place in
+    let p = at .in-range .place in
     let z : i ≡ i - 1 + 1 = omega arith in
     (omega arith, subst (λ (k : ℕ). Scanned n w k s) z at)
 
@@ -74,7 +74,7 @@ module _ (n i : ℕ) (w : List ℕ) (s : Scan) (h : i < n) (at : Scanned n w (i 
   abbrev before : Bool
   before = downBefore i (lettersIn n w)
 
-  fits : (s′ : Scan) → s′ .labels ≤ s .labels → s′ .bits ≤ s .bits → s′ .ups ≤ s .ups + 1 → s′ .seconds ≤ s .seconds + 1 → Sized n i s′
+  fits : (s′ : Scan) → s′ .labels ≤ s .labels → s′ .bits ≤ s .bits → s′ .ups ≤ s .ups + 1 → s′ .seconds ≤ s .seconds + 1 → InRange n i s′
   fits s′ a b c d = record {
     place = omega arith;
     labels-left = omega (arith, at);
@@ -83,10 +83,10 @@ module _ (n i : ℕ) (w : List ℕ) (s : Scan) (h : i < n) (at : Scanned n w (i 
     seconds-fit = omega (arith, at);
   }
 
-  advance : (l : Letter) (w′ : List ℕ) (s′ : Scan) → Stands n w i l → Stays n w w′ → Sized n i s′
+  advance : (l : Letter) (w′ : List ℕ) (s′ : Scan) → Stands n w i l → Stays n w w′ → InRange n i s′
       → held n w′ s′ ≡ endsOne l rest (held n w s) → heldBits n w′ s′ ≡ bitsOne before l rest ++ heldBits n w s → Stepped n w w′ i s′
   unfolding ends
-  advance l w′ s′ here same sized labels bits =
+  advance l w′ s′ here same in-range labels bits =
       let room = at .room in
       let size = same .kept in
       record {
@@ -94,7 +94,7 @@ module _ (n i : ℕ) (w : List ℕ) (s : Scan) (h : i < n) (at : Scanned n w (i 
           word = ap (valid 2) (same .letters) ∙ at .word;
           room = omega arith;
           small = at .small;
-          sized = sized;
+          in-range = in-range;
           labelled = rw (same .letters, letter-is n w room i h l here, ← at .labelled) labels;
           bitted = rw (same .letters, bits-more n i w s h at l here) bits;
         };
@@ -102,19 +102,19 @@ module _ (n i : ℕ) (w : List ℕ) (s : Scan) (h : i < n) (at : Scanned n w (i 
       }
 
   -- a store among labels or stacks, and one bit
-  one-bit : (l : Letter) (p x b : ℕ) (s′ : Scan) → Stands n w i l → FACES * n ≤ p → (BITS * n ≤ p → LABELS * n ≤ p) → Sized n i s′
+  one-bit : (l : Letter) (p x b : ℕ) (s′ : Scan) → Stands n w i l → FACES * n ≤ p → (BITS * n ≤ p → LABELS * n ≤ p) → InRange n i s′
       → s′ .bits ≡ s .bits - 1 → bitsOne before l rest ≡ b ∷ [] → held n (set w p x) s′ ≡ endsOne l rest (held n w s)
       → Stepped n w (set (set w p x) (BITS * n + (s .bits - 1)) b) i s′
   unfolding heldBits
-  one-bit l p x b s′ here behind beside sized t bit labels =
+  one-bit l p x b s′ here behind beside in-range t bit labels =
       let w₁ = set w p x in
       let q = BITS * n + (s .bits - 1) in
       let size = length-set w p x in
       let place = rw bit at (bits-fit n i w s h at l here) in
-      advance l _ s′ here (stays-then n w w₁ _ (stored n p x w behind) (stored n q b w₁ (omega arith))) sized
-      (held-beside n i w₁ s′ sized q b (omega arith) (omega (arith, at)) ∙ labels)
-      (rw (t, bit, ← bits-beside n (i + 1) w s (at .sized) p x beside)
-      (region-front (BITS * n) n (s .bits) b w₁ place (at .sized .bits-left) (omega (arith, at))))
+      advance l _ s′ here (stays-then n w w₁ _ (stored n p x w behind) (stored n q b w₁ (omega arith))) in-range
+      (held-beside n i w₁ s′ in-range q b (omega arith) (omega (arith, at)) ∙ labels)
+      (rw (t, bit, ← bits-beside n (i + 1) w s (at .in-range) p x beside)
+      (region-front (BITS * n) n (s .bits) b w₁ place (at .in-range .bits-left) (omega (arith, at))))
 
   pub down-letter : (x : ℕ) → Stands n w i down → x ≡ cond (startsUp rest) star (getD w (UPS * n + (s .ups - 1)) 0)
       → Stepped n w (set (set w (LABELS * n + (s .labels - 1)) x) (BITS * n + (s .bits - 1)) 1) i (afterDown s)
@@ -157,8 +157,8 @@ module _ (n i : ℕ) (w : List ℕ) (s : Scan) (h : i < n) (at : Scanned n w (i 
       (held-first n (i + 1) w s at x rest (waits .0) (waits .1) d))
       (rw (
         last,
-        ← bits-beside n (i + 1) w s (at .sized) p x (λ k. omega arith),
-        ← region-front (BITS * n) n (s .bits) 0 w₁ (omega arith) (at .sized .bits-left) (omega (arith, at)),
+        ← bits-beside n (i + 1) w s (at .in-range) p x (λ k. omega arith),
+        ← region-front (BITS * n) n (s .bits) 0 w₁ (omega arith) (at .in-range .bits-left) (omega (arith, at)),
       )
       (region-front (BITS * n) n (s .bits - 1) 1 w₂ (omega arith) (omega (arith, at)) (omega (arith, at)))))
 
@@ -169,4 +169,4 @@ module _ (n i : ℕ) (w : List ℕ) (s : Scan) (h : i < n) (at : Scanned n w (i 
       advance second _ (afterSecond s) here (stored n p x w (omega arith))
       (fits (afterSecond s) (omega arith) (omega arith) (omega arith) (omega arith))
       (held-second n (i + 1) w s at x rest (omega (arith, at)) d)
-      (bits-beside n (i + 1) w s (at .sized) p x (λ k. absurd (omega (arith, at))))
+      (bits-beside n (i + 1) w s (at .in-range) p x (λ k. absurd (omega (arith, at))))

@@ -4,7 +4,7 @@
 --   heldBits n w s         the tree bits that are put
 --   downBefore i v         the letter before position i of the word v is down
 --   bitsFrom i v           the tree bits of the letters from position i on
---   Sized n i s            the numbers of the pass are in range
+--   InRange n i s          the numbers of the pass are in range
 --   Scanned n w i s        the letters from position i on are done
 --   Stays n w w′           the word stays, and the area's length
 --   Stepped n w w′ i s     the letter at position i is done
@@ -38,7 +38,7 @@ downBefore (suc i) v = isDown (getD v i up)
 unfoldable pub bitsFrom : ℕ → List Letter → List ℕ
 bitsFrom i v = wordBits (downBefore i v) (drop i v)
 
-pub record Sized (n i : ℕ) (s : Scan) : Type 0 where
+pub record InRange (n i : ℕ) (s : Scan) : Type 0 where
   pub place : i ≤ n
   pub labels-left : s .labels ≤ n / 2
   pub bits-left : s .bits ≤ n
@@ -49,7 +49,7 @@ pub record Scanned (n : ℕ) (w : List ℕ) (i : ℕ) (s : Scan) : Type 0 where
   pub word : valid 2 (lettersIn n w) ≡ true
   pub room : 16 * n ≤ length w
   pub small : n ≤ 8192
-  pub sized : Sized n i s
+  pub in-range : InRange n i s
   pub labelled : held n w s ≡ ends (drop i (lettersIn n w))
   pub bitted : heldBits n w s ≡ bitsFrom i (lettersIn n w)
 

@@ -68,11 +68,11 @@ fn up_bit(w: &[u16], n: usize, i: usize, x: u16) -> u16
 }
 
 // Where the pass stands: how many labels are still to come, how many wait on each stack, and how many tree bits are still to come.
-pub struct Scan {
-    pub labels: usize,
-    pub ups: usize,
-    pub seconds: usize,
-    pub bits: usize,
+struct Scan {
+    labels: usize,
+    ups: usize,
+    seconds: usize,
+    bits: usize,
 }
 
 // down at position i: the label of its edge, and a bit.
