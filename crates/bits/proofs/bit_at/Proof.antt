@@ -1,4 +1,3 @@
--- `bit_at` reads the bit by a shift. Assumes nothing.
 use Rattle.bits.proofs.Places.{bit-read}
 use borrow.Author.Needs.{needs}
 use Rattle.bits.proofs.bit_at.Statement.{statement}

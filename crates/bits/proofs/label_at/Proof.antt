@@ -1,4 +1,3 @@
--- `label_at` reads the label by dividing. Assumes nothing.
 use native.Mathlib.Nat.{one-le-pow}
 use native.Mathlib.Omega.{arith}
 use Rattle.bits.proofs.Places.{label-read}

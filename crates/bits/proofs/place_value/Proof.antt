@@ -1,4 +1,3 @@
--- `place_value`: each of the five places. Assumes nothing.
 use mathlib.Core.Path.{_≡_}
 use native.Mathlib.Omega.{arith}
 use Rattle.bits.proofs.place_value.Statement.{statement}

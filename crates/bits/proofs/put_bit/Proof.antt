@@ -1,4 +1,3 @@
--- `put_bit` adds the bit at its place. Assumes nothing.
 use Prim.Native.Nat.{_/_}
 use native.Mathlib.Omega.{arith}
 use Rattle.bits.proofs.Places.{bit-fits, bit-put}

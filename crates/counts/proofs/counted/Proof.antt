@@ -1,4 +1,3 @@
--- `counted`: no more plans than payloads.
 use Prim.Native.Nat.{_-_, _≤_}
 use borrow.Author.Needs.{needs}
 use Rattle.counts.proofs.counted.Statement.{statement}

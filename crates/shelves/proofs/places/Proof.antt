@@ -1,4 +1,3 @@
--- `places`: so many steps are left.
 use Prim.Native.Nat.{_≤_}
 use borrow.Author.Needs.{needs}
 use Rattle.shelves.proofs.places.Statement.{statement}

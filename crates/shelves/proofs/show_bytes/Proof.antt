@@ -1,4 +1,3 @@
--- `show_bytes`: no byte is read past the last.
 use Prim.Native.Nat.{_-_, _≤_}
 use lib.ListN.{length}
 use borrow.Author.Needs.{needs}

@@ -1,4 +1,3 @@
--- `steps`: so many steps are left.
 use Prim.Native.Nat.{_≤_}
 use borrow.Author.Needs.{needs}
 use Rattle.shelves.proofs.steps.Statement.{statement}
