@@ -19,7 +19,7 @@ use Rattle.model.specs.Record.{labelBase}
 use Rattle.words.specs.Word.{nested, startsUp, valid, startsSecond, head, tail, endsOne, ends, wordLabels, wordBits, Found, found, none, after, Machine, goes, turn, follow, decode, start, decodeWord, closed, risen, leafed, backed, entered}
 use Rattle.words.proofs.Found.{wordIn, none-found}
 use Rattle.words.proofs.Validity.{valid-of}
-use Rattle.machine.specs.Reading.{Reads}
+use Rattle.machine.specs.Reading.{ToRead}
 use Rattle.machine.proofs.Sizes.{bound-three, bound-two}
 use Rattle.machine.proofs.Bounds.{plain-labels}
 use Rattle.machine.proofs.Nesting.{second-nests, not-up, bits-after}
@@ -36,8 +36,8 @@ module _ (s : Machine) (k : Held s) where
   zero-label : s .label ≢ 1 → s .label ≡ 0
   zero-label t = let h = k .label-low in omega arith
 
-  pub from-close : (w : List Letter) (o : ℕ) (os : List ℕ) → s .label ≡ 1 → s .opens ≡ o ∷ os → s .here < o → Reads (closed s os) w
-      → Reads s (second ∷ w)
+  pub from-close : (w : List Letter) (o : ℕ) (os : List ℕ) → s .label ≡ 1 → s .opens ≡ o ∷ os → s .here < o → ToRead (closed s os) w
+      → ToRead s (second ∷ w)
   unfolding ends endsOne startsSecond wordBits
   from-close w o os t e h r = record {
     nests = rw e (second-nests (s .n) (s .here) (s .below) o os w h (r .nests));
@@ -48,8 +48,8 @@ module _ (s : Machine) (k : Held s) where
     labels-are = r .labels-are;
   }
 
-  pub from-up : (w : List Letter) (v : ℕ) (vs bs : List ℕ) → s .label ≢ 1 → s .bits ≡ 0 ∷ bs → s .below ≡ v ∷ vs → Reads (risen s v vs bs) w
-      → Reads s (up ∷ w)
+  pub from-up : (w : List Letter) (v : ℕ) (vs bs : List ℕ) → s .label ≢ 1 → s .bits ≡ 0 ∷ bs → s .below ≡ v ∷ vs → ToRead (risen s v vs bs) w
+      → ToRead s (up ∷ w)
   unfolding nested ends endsOne startsSecond wordBits
   from-up w v vs bs t e q r = record {
     nests = rw q (r .nests);
@@ -60,7 +60,7 @@ module _ (s : Machine) (k : Held s) where
     labels-are = r .labels-are;
   }
 
-  pub from-done : s .label ≢ 1 → s .bits ≡ [] → s .below ≡ [] → s .opens ≡ [] → s .labels ≡ [] → Reads s []
+  pub from-done : s .label ≢ 1 → s .bits ≡ [] → s .below ≡ [] → s .opens ≡ [] → s .labels ≡ [] → ToRead s []
   unfolding nested ends startsSecond wordBits
   from-done t e p q r = record {
     nests = rw (p, q);
@@ -75,7 +75,7 @@ module _ (s : Machine) (k : Held s) where
     one-bit : s .bits ≡ 1 ∷ c ∷ bs
     one-bit = e ∙ ap (λ (x : ℕ). x ∷ c ∷ bs) (bit-one s k b l c bs ls e q z)
 
-    pub from-star : l ≡ star → Reads (leafed s c bs ls) w → Reads s (down ∷ up ∷ w)
+    pub from-star : l ≡ star → ToRead (leafed s c bs ls) w → ToRead s (down ∷ up ∷ w)
     unfolding nested ends endsOne startsUp startsSecond wordBits
     from-star h r = record {
       nests = r .nests;
@@ -86,7 +86,7 @@ module _ (s : Machine) (k : Held s) where
       labels-are = q ∙ cons-is h (r .labels-are);
     }
 
-    pub from-back : c ≡ 0 → Reads (backed s l bs ls) w → Reads s (first ∷ w)
+    pub from-back : c ≡ 0 → ToRead (backed s l bs ls) w → ToRead s (first ∷ w)
     unfolding nested ends endsOne startsSecond wordBits
     from-back h r = record {
       nests = r .nests;
@@ -97,7 +97,7 @@ module _ (s : Machine) (k : Held s) where
       labels-are = q ∙ cons-is (ap head (r .seconds-are)) (r .labels-are);
     }
 
-    pub from-tree : c ≢ 0 → Reads (entered s l (c ∷ bs) ls) w → Reads s (down ∷ w)
+    pub from-tree : c ≢ 0 → ToRead (entered s l (c ∷ bs) ls) w → ToRead s (down ∷ w)
     unfolding nested ends endsOne startsSecond wordBits
     from-tree h r =
         let u = not-up w c bs h (r .bits-are) in
@@ -118,17 +118,17 @@ before-after : (l : Letter) (ls : List Letter) (r : Found) (w : List Letter) →
 before-after l ls none w e = none-found w e
 before-after l ls (found v) w e = (v, refl, ap wordIn e)
 
-pub decoded : (f : ℕ) (s : Machine) (w : List Letter) → Held s → decode f s ≡ found w → Reads s w
+pub decoded : (f : ℕ) (s : Machine) (w : List Letter) → Held s → decode f s ≡ found w → ToRead s w
 unfolding decode
 decoded zero s w k e = none-found w e
 decoded (suc f) s w k e = go (step s) (λ t v. decoded f t v)
   where
-    back : (l : Letter) (ls : List Letter) (t : Machine) → ((t : Machine) (v : List Letter) → Held t → decode f t ≡ found v → Reads t v)
-        → turn s ≡ goes (l ∷ ls) t → Held t → ((v : List Letter) → Reads t v → Reads s (l ∷ ls ++ v)) → Reads s w
+    back : (l : Letter) (ls : List Letter) (t : Machine) → ((t : Machine) (v : List Letter) → Held t → decode f t ≡ found v → ToRead t v)
+        → turn s ≡ goes (l ∷ ls) t → Held t → ((v : List Letter) → ToRead t v → ToRead s (l ∷ ls ++ v)) → ToRead s w
     back l ls t ih q h from =
-        let z = before-after l ls (decode f t) w (sym (ap (follow (decode f)) q) ∙ e) in subst (Reads s) (z .2) (from (z .0) (ih t (z .0) h (z .1)))
+        let z = before-after l ls (decode f t) w (sym (ap (follow (decode f)) q) ∙ e) in subst (ToRead s) (z .2) (from (z .0) (ih t (z .0) h (z .1)))
 
-    go : Step s → ((t : Machine) (v : List Letter) → Held t → decode f t ≡ found v → Reads t v) → Reads s w
+    go : Step s → ((t : Machine) (v : List Letter) → Held t → decode f t ≡ found v → ToRead t v) → ToRead s w
     go (closes o os t q h) ih =
         back second [] (closed s os) ih (turn-close s o os t q h) (held-close s k o os q) (λ v. from-close s k v o os t q h)
     go (rises v vs bs t q p) ih =
@@ -143,12 +143,12 @@ decoded (suc f) s w k e = go (step s) (λ t v. decoded f t v)
         back down [] (entered s l (c ∷ bs) ls) ih (turn-tree s b l c bs ls t q z p h j) (held-tree s k b l c bs ls q p h)
         (λ x. from-tree s k x b l c bs ls t q z p j)
     go (finishes t q p x y) ih =
-        subst (Reads s) (ap wordIn (sym (ap (follow (decode f)) (turn-done s t q p x y)) ∙ e)) (from-done s k t q p x y)
+        subst (ToRead s) (ap wordIn (sym (ap (follow (decode f)) (turn-done s t q p x y)) ∙ e)) (from-done s k t q p x y)
     go (halts q) ih = none-found w (sym (ap (follow (decode f)) q) ∙ e)
 
 module _ (k : ℕ) (bits labels : List ℕ) (w : List Letter) (low : allBelow 2 bits ≡ true) (bound : allBelow (labelBase k) labels ≡ true)
     (e : decodeWord bits labels ≡ found w) where
-  from-start : Reads (start bits labels) w
+  from-start : ToRead (start bits labels) w
   unfolding decodeWord
   from-start = decoded (suc (length bits)) (start bits labels) w (starts-held bits labels low (bound-three k labels bound)) e
 

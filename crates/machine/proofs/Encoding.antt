@@ -19,7 +19,7 @@ use Rattle.model.specs.LabelledTree.{star}
 use Rattle.model.proofs.Below.{below-head}
 use Rattle.words.specs.Word.{nested, startsUp, valid, startsSecond, head, tail, endsOne, ends, wordLabels, wordBits, found, after, Machine, goes, turn, start, decodeWord, closed, risen, leafed, backed, entered}
 use Rattle.words.proofs.Validity.{valid-nested}
-use Rattle.machine.specs.Reading.{Reads, run}
+use Rattle.machine.specs.Reading.{ToRead, run}
 use Rattle.machine.proofs.Bounds.{head-below, ups-below, seconds-below}
 use Rattle.machine.proofs.Nesting.{nest-end, nest-up, nest-second, no-second, bits-on}
 use Rattle.machine.proofs.Lengths.{head-tail, no-entries, ups-count, seconds-count}
@@ -31,7 +31,7 @@ pub record Onward (s : Machine) (ls w : List Letter) : Type 0 where
   pub next : Machine
   pub turns : turn s ≡ goes ls next
   pub within : Within next
-  pub reads : Reads next w
+  pub reads : ToRead next w
 
 -- ---- small facts
 
@@ -48,7 +48,7 @@ head-low n (x ∷ xs) e = let h = below-head n x xs e in omega arith
 -- ---- each letter
 
 module _ (s : Machine) (w : List Letter) (i : Within s) where
-  pub on-up : Reads s (up ∷ w) → Onward s (up ∷ []) w
+  pub on-up : ToRead s (up ∷ w) → Onward s (up ∷ []) w
   unfolding ends endsOne startsSecond wordBits
   on-up r =
       let z = nest-up (s .n) (s .here) (s .below) (s .opens) w (r .nests) in
@@ -66,7 +66,7 @@ module _ (s : Machine) (w : List Letter) (i : Within s) where
         };
       }
 
-  pub on-second : Reads s (second ∷ w) → Onward s (second ∷ []) w
+  pub on-second : ToRead s (second ∷ w) → Onward s (second ∷ []) w
   unfolding ends endsOne startsSecond wordBits
   on-second r =
       let z = nest-second (s .n) (s .here) (s .below) (s .opens) w (r .nests) in
@@ -84,7 +84,7 @@ module _ (s : Machine) (w : List Letter) (i : Within s) where
         };
       }
 
-  pub on-star : Reads s (down ∷ up ∷ w) → Onward s (down ∷ up ∷ []) w
+  pub on-star : ToRead s (down ∷ up ∷ w) → Onward s (down ∷ up ∷ []) w
   unfolding nested ends endsOne startsUp startsSecond wordBits
   on-star r =
       record {
@@ -102,7 +102,7 @@ module _ (s : Machine) (w : List Letter) (i : Within s) where
         };
       }
 
-  pub on-back : Reads s (first ∷ w) → Onward s (first ∷ []) w
+  pub on-back : ToRead s (first ∷ w) → Onward s (first ∷ []) w
   unfolding nested ends endsOne startsSecond wordBits
   on-back r =
       let e : nested false (s .n) (s .here) (s .below) (s .here ∷ s .opens) w ≡ true = r .nests in
@@ -123,7 +123,7 @@ module _ (s : Machine) (w : List Letter) (i : Within s) where
         };
       }
 
-  pub on-tree : startsUp w ≡ false → Reads s (down ∷ w) → Onward s (down ∷ []) w
+  pub on-tree : startsUp w ≡ false → ToRead s (down ∷ w) → Onward s (down ∷ []) w
   unfolding nested ends endsOne startsSecond wordBits
   on-tree u r =
       let e : nested false (suc (s .n)) (s .n) (s .here ∷ s .below) (s .opens) w ≡ true = r .nests in
@@ -153,7 +153,7 @@ module _ (s : Machine) (w : List Letter) (i : Within s) where
 reads-on : (s : Machine) (ls w : List Letter) (o : Onward s ls w) → run (o .next) ≡ found w → run s ≡ after ls (found w)
 reads-on s ls w o e = run-goes s (o .next) ls (o .turns) ∙ ap (after ls) e
 
-pub encoded : (s : Machine) (w : List Letter) → Within s → Reads s w → run s ≡ found w
+pub encoded : (s : Machine) (w : List Letter) → Within s → ToRead s w → run s ≡ found w
 unfolding nested startsUp ends startsSecond wordBits
 encoded s [] i r =
     let z = nest-end (s .n) (s .here) (s .below) (s .opens) (r .nests) in
@@ -170,7 +170,7 @@ encoded s (up ∷ w) i r = let o = on-up s w i r in reads-on s (up ∷ []) w o (
 encoded s (first ∷ w) i r = let o = on-back s w i r in reads-on s (first ∷ []) w o (encoded (o .next) w (o .within) (o .reads))
 encoded s (second ∷ w) i r = let o = on-second s w i r in reads-on s (second ∷ []) w o (encoded (o .next) w (o .within) (o .reads))
 
-pub starts-reading : (w : List Letter) → nested false 1 0 [] [] w ≡ true → Reads (start (wordBits false w) (wordLabels w)) w
+pub starts-reading : (w : List Letter) → nested false 1 0 [] [] w ≡ true → ToRead (start (wordBits false w) (wordLabels w)) w
 unfolding start wordLabels
 starts-reading w e = record {
   nests = e;
