@@ -13,7 +13,7 @@ use mathlib.Core.List.{List}
 use lib.Dec.{eqb}
 use lib.ListN.{length, getD, set, replicate}
 use Rattle.model.specs.Map.{opposite, vertexOf}
-use Rattle.model.specs.Traversal.{Letter, code, letterAt, onward, seenAfter}
+use Rattle.model.specs.Traversal.{Letter, down, code, letterAt, onward, seenAfter}
 
 pub record State : Type 0 where
   pub dart : ℕ
@@ -50,4 +50,4 @@ unfoldable pub seenMark : List ℕ → ℕ → ℕ → ℕ → ℕ
 seenMark rot r k x = getD (at rot r k .seen) (vertexOf rot x) 0
 
 unfoldable pub tree : List ℕ → ℕ → ℕ → ℕ → Bool
-tree rot r k x = eqb (mark rot r k x) (1) || eqb (mark rot r k (opposite x)) (1)
+tree rot r k x = eqb (mark rot r k x) (code down) || eqb (mark rot r k (opposite x)) (code down)
