@@ -4,16 +4,14 @@
 --   with-root             an isomorphism that sends root to root is a renumbering
 --   inverse, compose      the inverse of a renumbering, two renumberings one after the other
 --   carries-darts, carries-root, carries-permutation   what makes the second plan a plan
---   carries-vertex        two darts are of one vertex exactly when their partners are
 use Prim.Native.Nat.{ℕ, _%_, _<_}
 use native.Mathlib.Omega.{arith}
 use mathlib.Core.Path.{_≡_, sym, ap, subst, _∙_}
-use mathlib.Core.Logic.{_↔_}
 use mathlib.Core.Bool.{true}
 use mathlib.Core.List.{List}
 use lib.ListN.{getD}
 use Rattle.model.specs.Numbers.{isPermutation}
-use Rattle.model.specs.Map.{Plan, darts, vertexOf, dartCountFits}
+use Rattle.model.specs.Map.{Plan, darts, dartCountFits}
 use Rattle.model.specs.Renumbering.{Renumbering}
 use Rattle.model.proofs.Fitness.{count-even}
 use Rattle.renumbering.specs.Isomorphism.{Isomorphism, inverseOf, composed}
@@ -56,7 +54,3 @@ module _ (p : Plan) (fits : dartCountFits (darts p) ≡ true) (root-in : p .root
 
     pub carries-permutation : isPermutation (q .rotation) ≡ true
     carries-permutation = iso-permutation two perm (iso-of r)
-
-    pub carries-vertex : (d e : ℕ) → d < darts p → e < darts p
-        → (vertexOf (p .rotation) d ≡ vertexOf (p .rotation) e) ↔ (vertexOf (q .rotation) (getD f d 0) ≡ vertexOf (q .rotation) (getD f e 0))
-    carries-vertex = iso-vertex two perm (iso-of r)

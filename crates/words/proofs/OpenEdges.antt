@@ -6,7 +6,6 @@
 --   brackets-nested, nested-brackets   it is nested exactly where the edges of the part match like brackets
 -- then, of the stack of the part:
 --   part-top              what ends an edge finds it on top
---   part-after            and leaves what was there before the edge
 --   part-balanced         the brackets of the part are balanced
 --   part-head             what is on top opens an edge that ends at i or later
 --   part-holds            an edge that ends at i or later is no higher than the top
@@ -22,7 +21,7 @@ use Rattle.model.specs.Map.{Plan, darts, next, dartCountFits}
 use Rattle.model.specs.Traversal.{Letter, opens, onward}
 use Rattle.orbits.specs.Chord.{Involution, Nested}
 use Rattle.orbits.specs.Stack.{Kind, flat, open′, close, kind, kindOf, top, stack, matched, Balanced}
-use Rattle.orbits.proofs.Stack.{kind-open, kind-close, kind-flat, stack-top, stack-after, stack-balanced, stack-head, stack-holds}
+use Rattle.orbits.proofs.Stack.{kind-open, kind-close, kind-flat, stack-top, stack-balanced, stack-head, stack-holds}
 use Rattle.orbits.proofs.Match.{matched-is}
 use Rattle.words.specs.Toured.{dartAt, letterOf, mateOf, fellow, isTree, isChord, matching, Brackets, Bracketed, Toured}
 use Rattle.words.specs.Brackets.{bracket}
@@ -102,10 +101,6 @@ module _ (part : Letter → Bool) (whole : (l : Letter) → part (fellow l) ≡ 
     part-top i h u o =
         stack-top (darts p) (matching part p) matching-inv (brackets-nested brackets) K same i h (ends i h u o)
         ∙ ap (λ (k : ℕ). k ∷ stack K (suc i)) (matching-in part p i u)
-
-    pub part-after : (i : ℕ) → i < darts p → part (letterOf p i) ≡ true → opens (letterOf p i) ≡ false → stack K (suc i) ≡ stack K (mateOf p i)
-    part-after i h u o =
-        stack-after (darts p) (matching part p) matching-inv (brackets-nested brackets) K same i h (ends i h u o) ∙ ap (stack K) (matching-in part p i u)
 
     pub part-balanced : Balanced K (darts p)
     part-balanced = stack-balanced (darts p) (matching part p) matching-inv (brackets-nested brackets) K same
