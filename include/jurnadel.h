@@ -54,7 +54,7 @@ extern "C" {
 
 #define JURNADEL_VERSION_MAJOR 0
 #define JURNADEL_VERSION_MINOR 3
-#define JURNADEL_VERSION_PATCH 1
+#define JURNADEL_VERSION_PATCH 2
 #define JURNADEL_VERSION "0.3.2"
 
 /* ---- Sizes ------------------------------------------------------------------------ */
