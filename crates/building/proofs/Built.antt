@@ -10,15 +10,15 @@ use mathlib.Core.List.{List}
 use lib.Dec.{eqb}
 use lib.ListN.{length}
 use Rattle.model.specs.Numbers.{isPermutation}
-use Rattle.model.specs.Map.{darts, dartCountFits, connected, hasDeadEnd, degreeRefused, fit}
+use Rattle.model.specs.Map.{darts, dartCountFits, connected, hasDeadEnd, takesLoops, degreeRefused, fit}
 use Rattle.model.specs.Traversal.{Letter, word, standardPlan}
-use Rattle.model.proofs.Fitness.{parts-fit, count-positive}
-use Rattle.words.specs.Word.{bareLeaf, valid, planOf}
+use Rattle.model.proofs.Fitness.{parts-fit, count-positive, loop-taken}
+use Rattle.words.specs.Word.{bareLeaf, valid, rotationOf, planOf}
 use Rattle.words.specs.Toured.{Toured, Bracketed}
 use Rattle.words.specs.Brackets.{letter}
 use Rattle.words.specs.Position.{Balance, Closes}
 use Rattle.words.proofs.Plans.{rotation-length}
-use Rattle.words.proofs.Validity.{valid-kind, valid-fits, valid-nested, valid-plain}
+use Rattle.words.proofs.Validity.{valid-kind, valid-fits, valid-nested, valid-strict, valid-plain}
 use Rattle.words.proofs.Nesting.{balance, nested-closes, closes-low}
 use Rattle.words.proofs.Rotation.{rotation-listed}
 use Rattle.traversal.specs.Walked.{Walked}
@@ -35,13 +35,13 @@ use Rattle.building.proofs.Connected.{built-connected}
 
 module _ (k : ℕ) (w : List Letter) (v : valid k w ≡ true) where
   brackets : Balance (letter w) (length w)
-  brackets = balance false w (valid-nested k w v)
+  brackets = balance (takesLoops k) w (valid-nested k w v)
 
-  strict : Closes false (letter w) (length w)
-  strict = nested-closes false w (valid-nested k w v)
+  strict : takesLoops k ≡ false → Closes false (letter w) (length w)
+  strict e = nested-closes false w (valid-strict k w v e)
 
   low : Closes true (letter w) (length w)
-  low = closes-low false (letter w) (length w) strict
+  low = closes-low (takesLoops k) (letter w) (length w) (nested-closes (takesLoops k) w (valid-nested k w v))
 
   some : 0 < length w
   some = count-positive (length w) (valid-fits k w v)
@@ -102,6 +102,6 @@ module _ (k : ℕ) (w : List Letter) (v : valid k w ≡ true) where
     entries = entries;
     joined = joined;
     flat = bracketed-planar (planOf w) toured count entries bracketed;
-    loopless = built-no-loop w brackets strict;
+    loops = loop-taken k (rotationOf w) (λ e. built-no-loop w brackets (strict e));
     degrees = degrees;
   })

@@ -1,4 +1,4 @@
--- The machine reads a valid word's tree bits and labels back (`decode-encode`), from any state on its way through the word (`encoded`).
+-- The machine reads a word from its tree bits and labels (`decode-encode`), from any state on its way through the word (`encoded`).
 --
 --   Onward s ls w      a turn from s gives the letters ls and leaves w to be read
 --   on-up, on-second, on-star, on-back, on-tree   it does so, for each letter and for a leaf
@@ -17,8 +17,7 @@ use Rattle.model.specs.Numbers.{allBelow}
 use Rattle.model.specs.Traversal.{Letter, down, up, first, second}
 use Rattle.model.specs.LabelledTree.{star}
 use Rattle.model.proofs.Below.{below-head}
-use Rattle.words.specs.Word.{nested, startsUp, valid, startsSecond, head, tail, endsOne, ends, wordLabels, wordBits, found, after, Machine, goes, turn, start, decodeWord, closed, risen, leafed, backed, entered}
-use Rattle.words.proofs.Validity.{valid-nested}
+use Rattle.words.specs.Word.{nested, startsUp, startsSecond, head, tail, endsOne, ends, wordLabels, wordBits, found, after, Machine, goes, turn, start, decodeWord, closed, risen, leafed, backed, entered}
 use Rattle.machine.specs.Reading.{ToRead, run}
 use Rattle.machine.proofs.Bounds.{head-below, ups-below, seconds-below}
 use Rattle.machine.proofs.Nesting.{nest-end, nest-up, nest-second, no-second, bits-on}
@@ -181,8 +180,8 @@ starts-reading w e = record {
   labels-are = refl;
 }
 
-pub decode-encode : (k : ℕ) (w : List Letter) → valid k w ≡ true → decodeWord (wordBits false w) (wordLabels w) ≡ found w
-decode-encode k w v =
+pub decode-encode : (w : List Letter) → nested false 1 0 [] [] w ≡ true → decodeWord (wordBits false w) (wordLabels w) ≡ found w
+decode-encode w nests =
     let s = start (wordBits false w) (wordLabels w) in
     decodeWord-run (wordBits false w) (wordLabels w)
-    ∙ encoded s w (starts-within (wordBits false w) (wordLabels w)) (starts-reading w (valid-nested k w v))
+    ∙ encoded s w (starts-within (wordBits false w) (wordLabels w)) (starts-reading w nests)

@@ -1,4 +1,4 @@
--- How many tree bits and labels a valid word has, and how large they are.
+-- How many tree bits and labels a word without loops has, and how large they are.
 --
 --   bits-length        as many tree bits as letters
 --   letters-length     two letters for each label
@@ -15,8 +15,7 @@ use Rattle.model.specs.Numbers.{allBelow}
 use Rattle.model.specs.Traversal.{Letter}
 use Rattle.model.specs.Record.{labelBase}
 use Rattle.model.proofs.Below.{below-mono}
-use Rattle.words.specs.Word.{valid, wordLabels, wordBits}
-use Rattle.words.proofs.Validity.{valid-nested, valid-plain}
+use Rattle.words.specs.Word.{nested, bareLeaf, wordLabels, wordBits}
 use Rattle.machine.proofs.Bounds.{labels-below, labels-plain}
 use Rattle.machine.proofs.Lengths.{bits-count, letters-count}
 
@@ -43,14 +42,14 @@ bound-of k labels h e = go (eqb k 1) e
     go true e = e refl
     go false e = h
 
--- ---- a valid word
+-- ---- the word
 
-module _ (k : ℕ) (w : List Letter) (v : valid k w ≡ true) where
+module _ (w : List Letter) (nests : nested false 1 0 [] [] w ≡ true) where
   pub bits-length : length (wordBits false w) ≡ length w
-  bits-length = let h = bits-count 1 0 [] [] w (valid-nested k w v) in omega arith
+  bits-length = let h = bits-count 1 0 [] [] w nests in omega arith
 
   pub letters-length : length w ≡ 2 * length (wordLabels w)
-  letters-length = let h = letters-count 1 0 [] [] w (valid-nested k w v) in omega arith
+  letters-length = let h = letters-count 1 0 [] [] w nests in omega arith
 
-  pub labels-bound : allBelow (labelBase k) (wordLabels w) ≡ true
-  labels-bound = bound-of k (wordLabels w) (labels-below w) (λ e. labels-plain w (valid-plain k w v e))
+pub labels-bound : (k : ℕ) (w : List Letter) → (eqb k 1 ≡ true → bareLeaf w ≡ false) → allBelow (labelBase k) (wordLabels w) ≡ true
+labels-bound k w plain = bound-of k (wordLabels w) (labels-below w) (λ e. labels-plain w (plain e))

@@ -6,9 +6,10 @@
 --   count-positive, count-even   its first two parts
 --   even-darts                   the dart count is twice the number of edges
 --   connected-at, at-connected   every dart is reached
+--   loopless, loop-taken         a kind that takes no loops has a fit plan without loops; in one that does, or where there is none, 11 is not given
 --   loopless-at, at-loopless     no edge has both its darts at one vertex
 --   dead-end-at, at-dead-end     some dart is alone at its vertex, which is not the root's
-use mathlib.Core.Path.{_≡_, ap}
+use mathlib.Core.Path.{_≡_, refl, ap}
 use mathlib.Core.Logic.{_≢_}
 use mathlib.Core.Bool.{Bool, true, false, not, _&&_}
 use Prim.Native.Nat.{ℕ, _*_, _/_, _%_, _≤_, _<_}
@@ -18,7 +19,7 @@ use lib.Dec.{eqb, ltb}
 use lib.ListN.{length, getD}
 use borrow.Author.Tests.{ltb-true, eqb-true, eqb-false, leb-true, lt-ltb, eq-eqb, ne-eqb, le-leb, not-true}
 use Rattle.model.specs.Numbers.{isPermutation}
-use Rattle.model.specs.Map.{Plan, darts, opposite, next, vertexOf, edges, isKind, edgeCountFits, dartCountFits, degreeOne, reached, connected, planar, hasLoop, hasDeadEnd, degreeRefused, fit}
+use Rattle.model.specs.Map.{Plan, darts, opposite, next, vertexOf, edges, isKind, edgeCountFits, dartCountFits, degreeOne, reached, connected, planar, hasLoop, hasDeadEnd, takesLoops, loopRefused, degreeRefused, fit}
 use Rattle.model.proofs.Booleans.{and-left, and-right, both, not-intro, some-at, some-in, some-no, no-some}
 pub use Rattle.model.proofs.Opposite.{opposite-opposite, opposite-ne, opposite-bound, opposite-edge}
 pub use Rattle.model.proofs.Permutations.{below-all, distinct-at, position-entry}
@@ -30,7 +31,7 @@ pub record Fit (k : ℕ) (p : Plan) : Type 0 where
   pub entries : isPermutation (p .rotation) ≡ true
   pub joined : connected (p .rotation) ≡ true
   pub flat : planar (p .rotation) ≡ true
-  pub loopless : hasLoop (p .rotation) ≡ false
+  pub loops : loopRefused k (p .rotation) ≡ false
   pub degrees : degreeRefused k p ≡ false
 
 module _ (k : ℕ) (p : Plan) where
@@ -50,13 +51,27 @@ module _ (k : ℕ) (p : Plan) where
         entries = and-left (isPermutation (p .rotation)) _ e6;
         joined = and-left (connected (p .rotation)) _ e9;
         flat = and-left (planar (p .rotation)) _ e10;
-        loopless = not-true (hasLoop (p .rotation)) (and-left (not (hasLoop (p .rotation))) _ e11);
-        degrees = not-true (degreeRefused k p) (and-right (not (hasLoop (p .rotation))) _ e11);
+        loops = not-true (loopRefused k (p .rotation)) (and-left (not (loopRefused k (p .rotation))) _ e11);
+        degrees = not-true (degreeRefused k p) (and-right (not (loopRefused k (p .rotation))) _ e11);
       }
 
   pub parts-fit : Fit k p → fit k p ≡ true
   unfolding fit
-  parts-fit f = rw (f .kind, f .count, lt-ltb (p .root) (darts p) (f .root), f .entries, f .joined, f .flat, f .loopless, f .degrees)
+  parts-fit f = rw (f .kind, f .count, lt-ltb (p .root) (darts p) (f .root), f .entries, f .joined, f .flat, f .loops, f .degrees)
+
+-- ---- loops, by kind
+
+pub loopless : (k : ℕ) (rot : List ℕ) → loopRefused k rot ≡ false → takesLoops k ≡ false → hasLoop rot ≡ false
+unfolding loopRefused
+loopless k rot e t = rw t at e
+
+pub loop-taken : (k : ℕ) (rot : List ℕ) → (takesLoops k ≡ false → hasLoop rot ≡ false) → loopRefused k rot ≡ false
+unfolding loopRefused
+loop-taken k rot h = go (takesLoops k) h
+  where
+    go : (b : Bool) → (b ≡ false → hasLoop rot ≡ false) → (not b && hasLoop rot) ≡ false
+    go true h = refl
+    go false h = h refl
 
 pub edges-parts : (m : ℕ) → edgeCountFits m ≡ true → (1 ≤ m) × (m ≤ 4096)
 edges-parts m e = (ltb-true 0 m (and-left (ltb 0 m) _ e), leb-true m 4096 (and-right (ltb 0 m) _ e))

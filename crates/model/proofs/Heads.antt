@@ -2,9 +2,9 @@
 --
 --   le16-word16          two bytes are the field of their number
 --   le16-bytes           two bytes
---   kind-cases           what holds of 1 and 2 holds of every kind
---   kind-one, kind-other the length of a record of kind 1, and of another
---   recordLength-range   a record has from 7 to 1850 bytes
+--   kind-cases           what holds of 1, 2 and 4 holds of every kind
+--   kind-one, kind-two, kind-other   the length of a record of kind 1, of kind 2, and of another
+--   recordLength-range   a record has from 7 to 2054 bytes
 --   Whole, Kinded, Counted        what the checks so far have shown: the length, and the kind, and the number of edges
 --   refuse-short, refuse-length, refuse-kind, refuse-count, refuse-size, refuse-nothing   the head refusal, check by check
 --   Passes               what passing says
@@ -17,7 +17,7 @@
 use Prim.Native.Nat.{ℕ, _+_, _*_, _/_, _%_, _≤_, _<_}
 use native.Mathlib.Omega.{arith}
 use mathlib.Core.Path.{_≡_, refl, sym, subst}
-use mathlib.Core.Bool.{Bool, true, false, cond}
+use mathlib.Core.Bool.{Bool, true, false, _||_, cond}
 use mathlib.Core.List.{List, [], _∷_, _++_}
 use lib.Dec.{eqb, ltb}
 use lib.ListN.{length, getD}
@@ -45,26 +45,32 @@ le16-bytes n = below-cons 256 (n % 256) (n / 256 % 256 ∷ []) (omega arith) (be
 
 -- ---- kinds and lengths
 
-pub kind-cases : (P : ℕ → Type 0) → P 1 → P 2 → (k : ℕ) → isKind k ≡ true → P k
+pub kind-cases : (P : ℕ → Type 0) → P 1 → P 2 → P 4 → (k : ℕ) → isKind k ≡ true → P k
 unfolding isKind
-kind-cases P p q k e =
-    or-split (eqb k 1) (eqb k 2) e (λ t. subst P (sym (eqb-true k 1 t)) p) (λ t. subst P (sym (eqb-true k 2 t)) q)
+kind-cases P p q s k e =
+    or-split (eqb k 1) (eqb k 2 || eqb k 4) e (λ t. subst P (sym (eqb-true k 1 t)) p)
+    (λ u. or-split (eqb k 2) (eqb k 4) u (λ t. subst P (sym (eqb-true k 2 t)) q) (λ t. subst P (sym (eqb-true k 4 t)) s))
 
 pub kind-one : (k m : ℕ) → k ≡ 1 → 6 + (3 * m + 7) / 8 ≡ recordLength k m
 unfolding recordLength
 kind-one k m e = rw (eq-eqb _ _ e)
 
-pub kind-other : (k m : ℕ) → (k ≡ 1 → ⊥) → 6 + (2 * m + 7) / 8 + (m + 4) / 5 ≡ recordLength k m
+pub kind-two : (k m : ℕ) → k ≡ 2 → 6 + (2 * m + 7) / 8 + (m + 4) / 5 ≡ recordLength k m
 unfolding recordLength
-kind-other k m d = rw (ne-eqb _ _ d)
+kind-two k m e = rw e
 
-pub recordLength-range : (k m : ℕ) → 1 ≤ m → m ≤ 4096 → (7 ≤ recordLength k m) × (recordLength k m ≤ 1850)
+pub kind-other : (k m : ℕ) → (k ≡ 1 → ⊥) → (k ≡ 2 → ⊥) → 6 + (m + 1) / 2 ≡ recordLength k m
 unfolding recordLength
-recordLength-range k m h l = go (eqb k 1)
+kind-other k m d e = rw (ne-eqb _ _ d, ne-eqb _ _ e)
+
+pub recordLength-range : (k m : ℕ) → 1 ≤ m → m ≤ 4096 → (7 ≤ recordLength k m) × (recordLength k m ≤ 2054)
+unfolding recordLength
+recordLength-range k m h l = go (eqb k 1) (eqb k 2)
   where
-    go : (t : Bool) → let n = cond t (6 + (3 * m + 7) / 8) (6 + (2 * m + 7) / 8 + (m + 4) / 5) in (7 ≤ n) × (n ≤ 1850)
-    go true = (omega arith, omega arith)
-    go false = (omega arith, omega arith)
+    go : (t u : Bool) → let n = cond t (6 + (3 * m + 7) / 8) (cond u (6 + (2 * m + 7) / 8 + (m + 4) / 5) (6 + (m + 1) / 2)) in (7 ≤ n) × (n ≤ 2054)
+    go true u = (omega arith, omega arith)
+    go false true = (omega arith, omega arith)
+    go false false = (omega arith, omega arith)
 
 -- ---- the head refusal, check by check
 

@@ -8,11 +8,11 @@
 --   writing-opened       writing's answer and output, and what a line of a table says of them
 use Rattle.model.specs.Numbers.{count, some, elem, distinct, allBelow, isPermutation, position, least, cycles, firstRefusal}
 use Rattle.model.specs.Map.{opposite, next, vertexOf, faceNext, edges, vertices, faces, degreeOne, spread, spreads, reached, connected}
-use Rattle.model.specs.Map.{characteristic, planar, hasLoop, hasDeadEnd, isKind, dartCountFits, degreeRefused, fit}
+use Rattle.model.specs.Map.{characteristic, planar, hasLoop, hasDeadEnd, isKind, dartCountFits, loopRefused, degreeRefused, fit}
 use Rattle.model.specs.Traversal.{letterAt, onward, seenAfter, walk, visits, number, standardNumbers, renumbered, standardPlan}
 use Rattle.model.specs.LabelledTree.{codesOf, codes, unlabelled, isUpper, gone, before, labelOne, removeCut, takeLeaf, takeOne, takeLeaves}
 use Rattle.model.specs.LabelledTree.{treeLabels, labelOf, bitsOf, along, labels, treeBits}
-use Rattle.model.specs.Record.{digitsFrom, pack, le16, recordLength, payload, headed, payloadOf, recordOf}
+use Rattle.model.specs.Record.{digitsFrom, pack, le16, recordLength, payload, contourBits, headed, payloadOf, recordOf}
 use Rattle.model.specs.Shelf.{same}
 use Rattle.model.specs.Calls.{front, earlyRefusals, lateRefusals, writeRefusal, writeAnswer, writtenOutput}
 use Rattle.model.proofs.Line.{answer, output, writes, refuses, agrees, holds}
@@ -22,7 +22,7 @@ unfolding opposite next vertexOf least faceNext edges vertices faces cycles coun
 map-opened = tt
 
 unfoldable pub fit-opened : Unit {0}
-unfolding map-opened fit isKind dartCountFits isPermutation allBelow distinct elem hasLoop degreeRefused hasDeadEnd
+unfolding map-opened fit isKind dartCountFits isPermutation allBelow distinct elem loopRefused hasLoop degreeRefused hasDeadEnd
 fit-opened = tt
 
 unfoldable pub walk-opened : Unit {0}
@@ -34,7 +34,7 @@ unfolding walk-opened codesOf codes position unlabelled isUpper gone before labe
 labels-opened = tt
 
 unfoldable pub record-opened : Unit {0}
-unfolding fit-opened labels-opened digitsFrom pack le16 recordLength payload headed payloadOf recordOf same
+unfolding fit-opened labels-opened digitsFrom pack le16 recordLength payload contourBits headed payloadOf recordOf same
 record-opened = tt
 
 unfoldable pub writing-opened : Unit {0}

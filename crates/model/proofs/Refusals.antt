@@ -82,6 +82,6 @@ not-refused k p w o e =
       entries = not-false _ (no 6);
       joined = not-false _ (no 9);
       flat = not-false _ (no 10);
-      loopless = no 11;
+      loops = no 11;
       degrees = no 12;
     })

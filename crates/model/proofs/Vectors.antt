@@ -35,7 +35,7 @@ vectors =
     ∷ record { kind = 1; root = 7; rotation = 8 ∷ 3 ∷ 0 ∷ 4 ∷ 6 ∷ 2 ∷ 9 ∷ 5 ∷ 7 ∷ 1 ∷ []; says = standard-is (8 ∷ 0 ∷ 1 ∷ 0 ∷ 5 ∷ 0 ∷ 213 ∷ 46 ∷ []) (9 ∷ 2 ∷ 4 ∷ 0 ∷ 6 ∷ 3 ∷ 8 ∷ 5 ∷ 1 ∷ 7 ∷ []) }
     ∷ record { kind = 2; root = 7; rotation = 7 ∷ 6 ∷ 4 ∷ 9 ∷ 2 ∷ 8 ∷ 3 ∷ 0 ∷ 5 ∷ 1 ∷ []; says = standard-is (9 ∷ 0 ∷ 2 ∷ 0 ∷ 5 ∷ 0 ∷ 241 ∷ 0 ∷ 108 ∷ []) (9 ∷ 2 ∷ 7 ∷ 4 ∷ 3 ∷ 6 ∷ 5 ∷ 8 ∷ 1 ∷ 0 ∷ []) }
     ∷ record { kind = 1; root = 3; rotation = 2 ∷ 9 ∷ 8 ∷ 1 ∷ 3 ∷ 6 ∷ 5 ∷ 4 ∷ 0 ∷ 7 ∷ []; says = standard-is (8 ∷ 0 ∷ 1 ∷ 0 ∷ 5 ∷ 0 ∷ 211 ∷ 44 ∷ []) (5 ∷ 2 ∷ 4 ∷ 6 ∷ 1 ∷ 3 ∷ 9 ∷ 8 ∷ 7 ∷ 0 ∷ []) }
-    ∷ record { kind = 4; root = 65535; rotation = 3 ∷ 6 ∷ 1 ∷ 9 ∷ 7 ∷ 2 ∷ 8 ∷ 0 ∷ 5 ∷ 4 ∷ []; says = refused 2 }
+    ∷ record { kind = 4; root = 65535; rotation = 3 ∷ 6 ∷ 1 ∷ 9 ∷ 7 ∷ 2 ∷ 8 ∷ 0 ∷ 5 ∷ 4 ∷ []; says = refused 4 }
     ∷ record { kind = 1; root = 7; rotation = 6 ∷ 5 ∷ 4 ∷ 3 ∷ 2 ∷ 1 ∷ []; says = refused 4 }
     ∷ record { kind = 2; root = 4; rotation = 5 ∷ 3 ∷ 2 ∷ 7 ∷ 4 ∷ 0 ∷ 6 ∷ 1 ∷ []; says = standard-is (8 ∷ 0 ∷ 2 ∷ 0 ∷ 4 ∷ 0 ∷ 232 ∷ 24 ∷ []) (0 ∷ 2 ∷ 1 ∷ 4 ∷ 6 ∷ 5 ∷ 3 ∷ 7 ∷ []) }
     ∷ record { kind = 2; root = 6; rotation = 9 ∷ 6 ∷ 7 ∷ 5 ∷ 8 ∷ 3 ∷ 1 ∷ 0 ∷ 4 ∷ 2 ∷ []; says = standard-is (9 ∷ 0 ∷ 2 ∷ 0 ∷ 5 ∷ 0 ∷ 220 ∷ 0 ∷ 90 ∷ []) (3 ∷ 2 ∷ 4 ∷ 0 ∷ 9 ∷ 6 ∷ 5 ∷ 8 ∷ 7 ∷ 1 ∷ []) }
@@ -65,7 +65,7 @@ vectors =
     ∷ record { kind = 2; root = 4; rotation = 0 ∷ 5 ∷ 7 ∷ 3 ∷ 4 ∷ 2 ∷ 6 ∷ 1 ∷ []; says = standard-is (8 ∷ 0 ∷ 2 ∷ 0 ∷ 4 ∷ 0 ∷ 212 ∷ 78 ∷ []) (0 ∷ 2 ∷ 4 ∷ 3 ∷ 6 ∷ 5 ∷ 1 ∷ 7 ∷ []) }
     ∷ record { kind = 1; root = 5; rotation = 4 ∷ 3 ∷ 5 ∷ 2 ∷ 0 ∷ 65535 ∷ []; says = refused 6 }
     ∷ record { kind = 1; root = 1; rotation = 9 ∷ 3 ∷ 1 ∷ 10 ∷ 6 ∷ 2 ∷ 4 ∷ 5 ∷ 7 ∷ 0 ∷ []; says = refused 6 }
-    ∷ record { kind = 4; root = 8192; rotation = 0 ∷ 3 ∷ 5 ∷ 4 ∷ 1 ∷ 2 ∷ []; says = refused 2 }
+    ∷ record { kind = 4; root = 8192; rotation = 0 ∷ 3 ∷ 5 ∷ 4 ∷ 1 ∷ 2 ∷ []; says = refused 4 }
     ∷ record { kind = 1; root = 4; rotation = 5 ∷ 3 ∷ 0 ∷ 4 ∷ 7 ∷ 2 ∷ []; says = refused 6 }
     ∷ record { kind = 1; root = 1; rotation = 2 ∷ 6 ∷ 5 ∷ 1 ∷ 3 ∷ 7 ∷ 4 ∷ 0 ∷ []; says = standard-is (8 ∷ 0 ∷ 1 ∷ 0 ∷ 4 ∷ 0 ∷ 212 ∷ 176 ∷ []) (7 ∷ 2 ∷ 4 ∷ 0 ∷ 6 ∷ 3 ∷ 1 ∷ 5 ∷ []) }
     ∷ record { kind = 1; root = 5; rotation = 4 ∷ 6 ∷ 7 ∷ 5 ∷ 0 ∷ 3 ∷ 1 ∷ 2 ∷ []; says = standard-is (8 ∷ 0 ∷ 1 ∷ 0 ∷ 4 ∷ 0 ∷ 240 ∷ 128 ∷ []) (7 ∷ 2 ∷ 1 ∷ 4 ∷ 3 ∷ 6 ∷ 5 ∷ 0 ∷ []) }

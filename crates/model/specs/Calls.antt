@@ -34,7 +34,7 @@ use Rattle.model.specs.declared.ReadBack.the-variants as readback
 use Rattle.model.specs.declared.Shelved.{Shelved}
 use Rattle.model.specs.declared.Shelved.the-variants as shelved
 use Rattle.model.specs.Numbers.{Refusal, firstRefusal, refuse, isPermutation}
-use Rattle.model.specs.Map.{Plan, darts, edges, isKind, dartCountFits, connected, planar, characteristic, hasLoop, degreeRefused, fit}
+use Rattle.model.specs.Map.{Plan, darts, edges, isKind, dartCountFits, connected, planar, characteristic, loopRefused, degreeRefused, fit}
 use Rattle.model.specs.Traversal.{standardPlan}
 use Rattle.model.specs.Record.{recordLength, recordOf}
 use Rattle.model.specs.Shelf.{kindOf, edgesOf, headRefusals, recordsIn, firstEqual, shelfRefused}
@@ -64,7 +64,7 @@ unfoldable pub lateRefusals : ℕ → Plan → List Refusal
 lateRefusals k p =
     refuse 9 (not (connected (p .rotation)))
     ∷ refuse 10 (not (planar (p .rotation)))
-    ∷ refuse 11 (hasLoop (p .rotation))
+    ∷ refuse 11 (loopRefused k (p .rotation))
     ∷ refuse 12 (degreeRefused k p)
     ∷ []
 

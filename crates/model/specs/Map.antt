@@ -15,8 +15,10 @@
 --   planar rot           the characteristic is 2
 --   hasLoop rot          some edge has both darts at one vertex
 --   hasDeadEnd p         some vertex other than the root's has degree one
---   isKind k             k is a kind of record: 1 or 2
+--   isKind k             k is a kind of record: 1, 2 or 4
 --   edgeCountFits m      m is an edge count that a plan may have; dartCountFits n, n is a dart count
+--   takesLoops k         kind k takes plans with loops
+--   loopRefused k rot    kind k does not take a plan with this rotation for its loop
 --   degreeRefused k p    kind k does not take p for its dead end
 --   fit k p              the plan p is fit for kind k
 use Prim.Native.Nat.{ℕ, zero, suc, _-_, _*_, _/_, _%_}
@@ -108,8 +110,9 @@ hasDeadEnd p =
 
 -- ---- fitness
 
+-- 2. "The kind is not 1 or 2"; document 02 (c): "2 now admits" kind 4
 unfoldable pub isKind : ℕ → Bool
-isKind k = eqb k 1 || eqb k 2
+isKind k = eqb k 1 || (eqb k 2 || eqb k 4)
 
 -- "A plan has m trails, m from 1 to 4,096, and 2m darts"
 abbrev pub edgeCountFits : ℕ → Bool
@@ -119,7 +122,13 @@ unfoldable pub dartCountFits : ℕ → Bool
 dartCountFits n = eqb (n % 2) 0 && edgeCountFits (n / 2)
 
 -- "Kind 1 takes connected planar plans with no loop and no junction of degree one", by document 02 (a) none "other than the start's". "Kind 2 takes
--- connected planar plans with no loop."
+-- connected planar plans with no loop." Document 02 (c): "Kind 4 takes any connected planar plan"; "Refusals 11 and 12 never concern this kind".
+abbrev pub takesLoops : ℕ → Bool
+takesLoops k = eqb k 4
+
+unfoldable pub loopRefused : ℕ → List ℕ → Bool
+loopRefused k rot = not (takesLoops k) && hasLoop rot
+
 unfoldable pub degreeRefused : ℕ → Plan → Bool
 degreeRefused k p = eqb k 1 && hasDeadEnd p
 
@@ -127,4 +136,4 @@ degreeRefused k p = eqb k 1 && hasDeadEnd p
 unfoldable pub fit : ℕ → Plan → Bool
 fit k p =
     isKind k && (dartCountFits (darts p) && (ltb (p .root) (darts p) && (isPermutation (p .rotation)
-    && (connected (p .rotation) && (planar (p .rotation) && (not (hasLoop (p .rotation)) && not (degreeRefused k p)))))))
+    && (connected (p .rotation) && (planar (p .rotation) && (not (loopRefused k (p .rotation)) && not (degreeRefused k p)))))))

@@ -7,6 +7,7 @@
 --   recordLength k m      the length of a record of kind k with m edges
 --   payload k m bits labels   tree bits and labels in bytes
 --   labelBase k           labels of kind k are below it
+--   contourBits l d       the two bits of a dart d with the letter l
 --   headed k m rest       the payload rest behind its head
 --   payloadOf k p         the payload of plan p in kind k
 --   recordOf k p          the record of plan p in kind k
@@ -16,7 +17,8 @@ use mathlib.Core.List.{List, [], _∷_, _++_}
 use lib.Dec.{eqb}
 use lib.ListN.{length, drop}
 use Rattle.model.specs.Map.{Plan, edges}
-use Rattle.model.specs.LabelledTree.{labels, treeBits}
+use Rattle.model.specs.Traversal.{Letter, down, up, first, second, visits}
+use Rattle.model.specs.LabelledTree.{along, labels, treeBits}
 
 -- `so-far` is the number that the digits before make
 unfoldable pub digitsFrom : ℕ → ℕ → ℕ → List ℕ → ℕ
@@ -38,9 +40,10 @@ bytesFor n w = (n + (w - 1)) / w
 unfoldable pub le16 : ℕ → List ℕ
 le16 n = n % 256 ∷ n / 256 % 256 ∷ []
 
--- "Kind 1: .. Length 6 plus 3m/8 rounded up"; "Kind 2: .. Length 6 plus 2m/8 rounded up plus m/5 rounded up"
+-- "Kind 1: .. Length 6 plus 3m/8 rounded up"; "Kind 2: .. Length 6 plus 2m/8 rounded up plus m/5 rounded up"; kind 4, document 02 (c): "Its length is 6
+-- plus m/2 rounded up."
 unfoldable pub recordLength : ℕ → ℕ → ℕ
-recordLength k m = cond (eqb k 1) (6 + bytesFor (3 * m) 8) (6 + bytesFor (2 * m) 8 + bytesFor m 5)
+recordLength k m = cond (eqb k 1) (6 + bytesFor (3 * m) 8) (cond (eqb k 2) (6 + bytesFor (2 * m) 8 + bytesFor m 5) (6 + bytesFor m 2))
 
 -- "Kind 1: tree bits, then m label bits, unbroken; padded once." "Kind 2: tree bits padded to a byte, then labels in groups of five (0, 1, star = 2),
 -- first label highest in base 3, one byte a group, the last group filled with 0." "Bits fill a byte from its highest bit; unused low bits are 0."
@@ -52,12 +55,21 @@ payload k m bits labels =
 unfoldable pub labelBase : ℕ → ℕ
 labelBase k = cond (eqb k 1) 2 3
 
--- "length of the whole record (2 bytes), kind (2 bytes, 1 or 2), m (2 bytes), payload"
+-- document 02 (c): "two bits for each dart in contour order, 00 going down, 01 coming up, 10 for the first-met dart of another trail, 11 for its second"
+unfoldable pub contourBits : Letter → ℕ → List ℕ
+contourBits down d = 0 ∷ 0 ∷ []
+contourBits up d = 0 ∷ 1 ∷ []
+contourBits first d = 1 ∷ 0 ∷ []
+contourBits second d = 1 ∷ 1 ∷ []
+
+-- "length of the whole record (2 bytes), kind (2 bytes, ..), m (2 bytes), payload"
 unfoldable pub headed : ℕ → ℕ → List ℕ → List ℕ
 headed k m rest = le16 (6 + length rest) ++ (le16 k ++ (le16 m ++ rest))
 
 unfoldable pub payloadOf : ℕ → Plan → List ℕ
-payloadOf k p = payload k (edges (p .rotation)) (treeBits p) (labels p)
+payloadOf k p =
+    let m = edges (p .rotation) in
+    cond (eqb k 4) (pack 2 8 (bytesFor (4 * m) 8) (along contourBits (visits p))) (payload k m (treeBits p) (labels p))
 
 unfoldable pub recordOf : ℕ → Plan → List ℕ
 recordOf k p = headed k (edges (p .rotation)) (payloadOf k p)

@@ -39,10 +39,10 @@ module _ (k m : ℕ) (ps : List ℕ) where
       (below-append 256 (le16 k) _ (le16-bytes _) (below-append 256 (le16 m) ps (le16-bytes _) e))
 
 kind-small : (k : ℕ) → isKind k ≡ true → k < 65536
-kind-small = kind-cases (λ (x : ℕ). x < 65536) (omega arith) (omega arith)
+kind-small = kind-cases (λ (x : ℕ). x < 65536) (omega arith) (omega arith) (omega arith)
 
 module _ (k m : ℕ) (ps : List ℕ) (s : Sized k m ps) where
-  range : (7 ≤ 6 + length ps) × (6 + length ps ≤ 1850)
+  range : (7 ≤ 6 + length ps) × (6 + length ps ≤ 2054)
   range = let r = recordLength-range k m (s .some-edge) (s .few-edges) in let l = s .long in (omega arith, omega arith)
 
   pub headed-field : word16 (headed k m ps) 0 ≡ length (headed k m ps)

@@ -7,6 +7,7 @@
 --   unpack-pack                   the digits come back, filled up with zeros
 --   pack-unpack                   the numbers come back
 --   pack-take                     numbers whose digits past l are 0 are packed from l digits
+--   unpack-packed, blank-past, pack-front   the same where the number of numbers is a list's length
 use Prim.Native.Nat.{ℕ, zero, suc, _+_, _-_, _*_, _^_, _≤_, _<_}
 use native.Mathlib.Nat.{suc-inj, suc-ne-zero, zero-mul, suc-mul, zero-sub, sub-zero, suc-sub-suc, add-sub-of-le}
 use native.Mathlib.Omega.{arith}
@@ -17,8 +18,9 @@ use lib.ListN.{length, getD, take, drop, replicate, length-append, length-drop, 
 use lib.Seq.{drop-nil, drop-drop, drop-at}
 use Rattle.model.specs.Numbers.{allBelow}
 use Rattle.model.specs.Record.{digits, pack}
-use Rattle.model.proofs.Below.{below-cons, below-head, below-tail, below-append, below-drop, below-replicate, blank-zeros}
+use Rattle.model.proofs.Below.{below-cons, below-head, below-tail, below-append, below-drop, below-replicate, blank-zeros, zeros-blank}
 use Rattle.packing.specs.Unpack.{digitsOf, unpack}
+use Rattle.packing.specs.Payload.{blankFrom}
 use Rattle.packing.proofs.Digits.{digits-below, digits-pad, digits-append, length-digitsOf, digitsOf-below, digitsOf-digits, digits-digitsOf}
 
 drop-zeros : (w k : ℕ) → drop w (replicate {A = ℕ} k 0) ≡ replicate (k - w) 0
@@ -114,3 +116,18 @@ module _ (b w : ℕ) where
       sym (pack-pad n (take l u) (length (drop l u)))
       ∙ ap (λ (r : List ℕ). pack b w n (take l u ++ r)) (sym (blank-zeros (drop l u) z))
       ∙ ap (pack b w n) (take-append-drop l u) ∙ pack-unpack h n xs e k
+
+-- `pack` and `unpack` where the number of numbers is the list's length
+module _ (b w : ℕ) (h : 0 < b) where
+  pub unpack-packed : (n : ℕ) (ds : List ℕ) → allBelow b ds ≡ true → length ds ≤ n * w
+      → unpack b w (length (pack b w n ds)) (pack b w n ds) ≡ ds ++ replicate (n * w - length ds) 0
+  unpack-packed n ds e k = rw (pack-length b w n ds) (unpack-pack b w h n ds e k)
+
+  pub blank-past : (n : ℕ) (ds : List ℕ) (l : ℕ) → length ds ≡ l → allBelow b ds ≡ true → l ≤ n * w
+      → blankFrom l (unpack b w (length (pack b w n ds)) (pack b w n ds)) ≡ true
+  blank-past n ds l q e k =
+      rw (unpack-packed n ds e (omega arith), drop-at ds (replicate (n * w - length ds) 0) l q) (zeros-blank (n * w - length ds))
+
+  pub pack-front : (n l : ℕ) (xs : List ℕ) → allBelow (b ^ w) xs ≡ true → length xs ≡ n → blankFrom l (unpack b w (length xs) xs) ≡ true
+      → pack b w n (take l (unpack b w (length xs) xs)) ≡ xs
+  pack-front n l xs e q z = rw q (pack-take b w h n l xs e q (rw q at z))

@@ -16,43 +16,24 @@ use lib.Dec.{eqb}
 use lib.ListN.{length, take, drop, replicate, length-append, length-drop, take-append-drop}
 use lib.Seq.{take-at, drop-at, take-add, length-take-le, take-append-le}
 use Rattle.model.specs.Numbers.{allBelow}
-use Rattle.model.specs.Map.{isKind}
 use Rattle.model.specs.Record.{pack, bytesFor, recordLength, payload, labelBase}
 use Rattle.model.proofs.Booleans.{and-left, and-right, both}
-use Rattle.model.proofs.Below.{below-append, below-take, below-drop, below-mono, zeros-blank}
+use Rattle.model.proofs.Below.{below-append, below-take, below-drop, below-mono}
 use Rattle.packing.specs.Unpack.{unpack, bits, groups}
-use Rattle.packing.specs.Payload.{blankFrom, payloadBits, payloadLabels, payloadClean}
-use Rattle.packing.proofs.Packed.{pack-length, pack-below, unpack-append, length-unpack, unpack-below, unpack-pack, pack-take}
-use Rattle.model.proofs.Heads.{kind-cases}
+use Rattle.packing.specs.Payload.{hasLabels, blankFrom, payloadBits, payloadLabels, payloadClean}
+use Rattle.packing.proofs.Packed.{pack-length, pack-below, unpack-append, length-unpack, unpack-below, unpack-packed, blank-past, pack-front}
+use Rattle.packing.proofs.Labelled.{labelled-cases}
 
--- `pack` and `unpack` where the number of numbers is the list's length
-module _ (b w : ℕ) (h : 0 < b) where
-  unpack-packed : (n : ℕ) (ds : List ℕ) → allBelow b ds ≡ true → length ds ≤ n * w
-      → unpack b w (length (pack b w n ds)) (pack b w n ds) ≡ ds ++ replicate (n * w - length ds) 0
-  unpack-packed n ds e k = rw (pack-length b w n ds) (unpack-pack b w h n ds e k)
-
-  blank-past : (n : ℕ) (ds : List ℕ) (l : ℕ) → length ds ≡ l → allBelow b ds ≡ true → l ≤ n * w
-      → blankFrom l (unpack b w (length (pack b w n ds)) (pack b w n ds)) ≡ true
-  blank-past n ds l q e k =
-      rw (unpack-packed n ds e (omega arith), drop-at ds (replicate (n * w - length ds) 0) l q) (zeros-blank (n * w - length ds))
-
-  pack-front : (n l : ℕ) (xs : List ℕ) → allBelow (b ^ w) xs ≡ true → length xs ≡ n → blankFrom l (unpack b w (length xs) xs) ≡ true
-      → pack b w n (take l (unpack b w (length xs) xs)) ≡ xs
-  pack-front n l xs e q z = rw q (pack-take b w h n l xs e q (rw q at z))
-
-pub payload-length : (k m : ℕ) (bs ls : List ℕ) → 6 + length (payload k m bs ls) ≡ recordLength k m
+pub payload-length : (k m : ℕ) (bs ls : List ℕ) → hasLabels k ≡ true → 6 + length (payload k m bs ls) ≡ recordLength k m
 unfolding payload recordLength
-payload-length k m bs ls = go (eqb k 1)
-  where
-    go : (t : Bool) → 6 + length (cond t (pack 2 8 (bytesFor (3 * m) 8) (bs ++ ls)) (pack 2 8 (bytesFor (2 * m) 8) bs ++ pack 3 5 (bytesFor m 5) ls))
-        ≡ cond t (6 + bytesFor (3 * m) 8) (6 + bytesFor (2 * m) 8 + bytesFor m 5)
-    go true = rw (pack-length 2 8 (bytesFor (3 * m) 8) (bs ++ ls)) (omega arith)
-    go false =
-        rw (
-          length-append (pack 2 8 (bytesFor (2 * m) 8) bs) (pack 3 5 (bytesFor m 5) ls),
-          pack-length 2 8 (bytesFor (2 * m) 8) bs,
-          pack-length 3 5 (bytesFor m 5) ls,
-        ) (omega arith)
+payload-length k m bs ls =
+    labelled-cases (λ (x : ℕ). 6 + length (payload x m bs ls) ≡ recordLength x m)
+    (rw (pack-length 2 8 (bytesFor (3 * m) 8) (bs ++ ls)) (omega arith))
+    (rw (
+      length-append (pack 2 8 (bytesFor (2 * m) 8) bs) (pack 3 5 (bytesFor m 5) ls),
+      pack-length 2 8 (bytesFor (2 * m) 8) bs,
+      pack-length 3 5 (bytesFor m 5) ls,
+    ) (omega arith)) k
 
 pub record Parts (k m : ℕ) (bs ls : List ℕ) : Type 0 where
   pub bit-count : length bs ≡ 2 * m
@@ -142,22 +123,22 @@ module _ (m : ℕ) (bs ls : List ℕ) (p : Parts 2 m bs ls) where
 
 -- ---- both kinds
 
-module _ (k m : ℕ) (bs ls : List ℕ) (kind : isKind k ≡ true) where
+module _ (k m : ℕ) (bs ls : List ℕ) (kind : hasLabels k ≡ true) where
   pub payload-bits : Parts k m bs ls → payloadBits m (payload k m bs ls) ≡ bs
   payload-bits =
-      kind-cases (λ (x : ℕ). Parts x m bs ls → payloadBits m (payload x m bs ls) ≡ bs) (one-payload-bits m bs ls) (two-payload-bits m bs ls) k kind
+      labelled-cases (λ (x : ℕ). Parts x m bs ls → payloadBits m (payload x m bs ls) ≡ bs) (one-payload-bits m bs ls) (two-payload-bits m bs ls) k kind
 
   pub payload-labels : Parts k m bs ls → payloadLabels k m (payload k m bs ls) ≡ ls
   payload-labels =
-      kind-cases (λ (x : ℕ). Parts x m bs ls → payloadLabels x m (payload x m bs ls) ≡ ls) (one-labels m bs ls) (two-labels m bs ls) k kind
+      labelled-cases (λ (x : ℕ). Parts x m bs ls → payloadLabels x m (payload x m bs ls) ≡ ls) (one-labels m bs ls) (two-labels m bs ls) k kind
 
   pub payload-clean : Parts k m bs ls → payloadClean k m (payload k m bs ls) ≡ true
   payload-clean =
-      kind-cases (λ (x : ℕ). Parts x m bs ls → payloadClean x m (payload x m bs ls) ≡ true) (one-clean m bs ls) (two-clean m bs ls) k kind
+      labelled-cases (λ (x : ℕ). Parts x m bs ls → payloadClean x m (payload x m bs ls) ≡ true) (one-clean m bs ls) (two-clean m bs ls) k kind
 
   pub payload-bytes : Parts k m bs ls → allBelow 256 (payload k m bs ls) ≡ true
   payload-bytes =
-      kind-cases (λ (x : ℕ). Parts x m bs ls → allBelow 256 (payload x m bs ls) ≡ true) (one-bytes m bs ls) (two-bytes m bs ls) k kind
+      labelled-cases (λ (x : ℕ). Parts x m bs ls → allBelow 256 (payload x m bs ls) ≡ true) (one-bytes m bs ls) (two-bytes m bs ls) k kind
 
 -- ---- any payload of the right length
 
@@ -234,14 +215,14 @@ module _ (m : ℕ) (ps : List ℕ) where
           pack-front 3 5 (omega arith) (bytesFor m 5) m back below back-count blank,
         ) (take-append-drop (bytesFor (2 * m) 8) ps)
 
-module _ (k m : ℕ) (ps : List ℕ) (kind : isKind k ≡ true) where
+module _ (k m : ℕ) (ps : List ℕ) (kind : hasLabels k ≡ true) where
   pub unpayload-parts : 6 + length ps ≡ recordLength k m → Parts k m (payloadBits m ps) (payloadLabels k m ps)
   unpayload-parts =
-      kind-cases (λ (x : ℕ). 6 + length ps ≡ recordLength x m → Parts x m (payloadBits m ps) (payloadLabels x m ps))
+      labelled-cases (λ (x : ℕ). 6 + length ps ≡ recordLength x m → Parts x m (payloadBits m ps) (payloadLabels x m ps))
       (one-parts m ps) (two-parts m ps) k kind
 
   pub payload-unpayload : 6 + length ps ≡ recordLength k m → allBelow 256 ps ≡ true → payloadClean k m ps ≡ true
       → payload k m (payloadBits m ps) (payloadLabels k m ps) ≡ ps
   payload-unpayload =
-      kind-cases (λ (x : ℕ). 6 + length ps ≡ recordLength x m → allBelow 256 ps ≡ true → payloadClean x m ps ≡ true
+      labelled-cases (λ (x : ℕ). 6 + length ps ≡ recordLength x m → allBelow 256 ps ≡ true → payloadClean x m ps ≡ true
       → payload x m (payloadBits m ps) (payloadLabels x m ps) ≡ ps) (one-again m ps) (two-again m ps) k kind

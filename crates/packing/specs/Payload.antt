@@ -1,5 +1,6 @@
 -- A payload taken apart into its tree bits and labels: the inverse of `payload`.
 --
+--   hasLabels k           records of kind k hold tree bits and labels
 --   Sized k m ps          ps is as long as the payload of a record of kind k with m edges
 --   blankFrom l ds        every digit from place l on is 0
 --   payloadBits m ps      the tree bits in the payload ps
@@ -7,7 +8,7 @@
 --   payloadClean k m ps   padding bits and fill labels of ps are 0, and no byte of a group is above 242
 use Prim.Native.Nat.{ℕ, _+_, _*_, _≤_}
 use mathlib.Core.Path.{_≡_}
-use mathlib.Core.Bool.{Bool, true, _&&_, cond}
+use mathlib.Core.Bool.{Bool, true, _&&_, _||_, cond}
 use mathlib.Core.List.{List}
 use lib.Dec.{eqb}
 use lib.ListN.{length, take, drop}
@@ -15,6 +16,9 @@ use Rattle.model.specs.Numbers.{allBelow}
 use Rattle.model.specs.Map.{isKind}
 use Rattle.model.specs.Record.{bytesFor, recordLength}
 use Rattle.packing.specs.Unpack.{bits, groups}
+
+unfoldable pub hasLabels : ℕ → Bool
+hasLabels k = eqb k 1 || eqb k 2
 
 pub record Sized (k m : ℕ) (ps : List ℕ) : Type 0 where
   pub kind : isKind k ≡ true

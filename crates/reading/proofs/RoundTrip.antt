@@ -88,7 +88,7 @@ fit-accepted : (k : ℕ) (p : Plan) (w o : ℕ) → fit k p ≡ true → 32 * ed
 unfolding writeRefusal earlyRefusals lateRefusals firstRefusal
 fit-accepted k p w o fits h l =
     let f = fit-parts k p fits in
-    rw (f .kind, f .count, lt-ltb _ _ (f .root), f .entries, le-ltb w _ h, le-ltb o _ l, f .joined, f .flat, f .loopless, f .degrees)
+    rw (f .kind, f .count, lt-ltb _ _ (f .root), f .entries, le-ltb w _ h, le-ltb o _ l, f .joined, f .flat, f .loops, f .degrees)
 
 module _ (k : ℕ) (p : Plan) (fits : fit k p ≡ true) (w o : List ℕ) (answer : Written) (w′ o′ : List ℕ) (wrote : Wrote k p w o answer w′ o′) where
   -- a call with room writes the record

@@ -3,8 +3,9 @@
 --   wordIn r             the word that was found
 --   none-found           none is no word
 --   found-same           words that are found alike are equal
-use mathlib.Core.Path.{_≡_, ap}
-use mathlib.Core.Bool.{Bool, true, false, false≢true}
+--   when-found           a word that is found where a test is passed
+use mathlib.Core.Path.{_≡_, refl, ap}
+use mathlib.Core.Bool.{Bool, true, false, cond, false≢true}
 use mathlib.Core.List.{List, []}
 use Rattle.model.specs.Traversal.{Letter}
 use Rattle.words.specs.Word.{Found, found, none}
@@ -22,3 +23,7 @@ none-found w e = absurd (false≢true (ap isFound e))
 
 pub found-same : (v w : List Letter) → found v ≡ found w → v ≡ w
 found-same v w e = ap wordIn e
+
+pub when-found : (b : Bool) (r : Found) (w : List Letter) → cond b r none ≡ found w → (b ≡ true) × (r ≡ found w)
+when-found true r w e = (refl, e)
+when-found false r w e = none-found w e

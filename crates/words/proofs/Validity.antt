@@ -1,6 +1,7 @@
 -- The parts of `valid k w`.
 --
 --   valid-kind, valid-fits, valid-nested   k is a kind, w has a dart count's length, w is nested from the start
+--   valid-strict       without loops, if the kind takes none
 --   valid-plain        in kind 1 no vertex but the root has degree one
 --   valid-of           these make w valid
 use Prim.Native.Nat.{ℕ}
@@ -9,7 +10,7 @@ use mathlib.Core.Bool.{Bool, true, false, not, _&&_, false≢true, true≢false,
 use mathlib.Core.List.{List, []}
 use lib.Dec.{eqb}
 use lib.ListN.{length}
-use Rattle.model.specs.Map.{isKind, dartCountFits}
+use Rattle.model.specs.Map.{isKind, takesLoops, dartCountFits}
 use Rattle.model.specs.Traversal.{Letter}
 use Rattle.words.specs.Word.{nested, bareLeaf, valid}
 
@@ -28,14 +29,14 @@ module _ (k : ℕ) (w : List Letter) where
   kept = not (eqb k 1 && bareLeaf w)
 
   abbrev Parts : Type 0
-  Parts = (isKind k ≡ true) × (dartCountFits (length w) ≡ true) × (nested false 1 0 [] [] w ≡ true) × (kept ≡ true)
+  Parts = (isKind k ≡ true) × (dartCountFits (length w) ≡ true) × (nested (takesLoops k) 1 0 [] [] w ≡ true) × (kept ≡ true)
 
   parts : valid k w ≡ true → Parts
   unfolding valid
   parts v =
-      let p = and-eq-true-iff (isKind k) (dartCountFits (length w) && (nested false 1 0 [] [] w && kept)) .0 v in
-      let q = and-eq-true-iff (dartCountFits (length w)) (nested false 1 0 [] [] w && kept) .0 (p .1) in
-      let r = and-eq-true-iff (nested false 1 0 [] [] w) kept .0 (q .1) in
+      let p = and-eq-true-iff (isKind k) (dartCountFits (length w) && (nested (takesLoops k) 1 0 [] [] w && kept)) .0 v in
+      let q = and-eq-true-iff (dartCountFits (length w)) (nested (takesLoops k) 1 0 [] [] w && kept) .0 (p .1) in
+      let r = and-eq-true-iff (nested (takesLoops k) 1 0 [] [] w) kept .0 (q .1) in
       (p .0, q .0, r .0, r .1)
 
   pub valid-kind : valid k w ≡ true → isKind k ≡ true
@@ -44,13 +45,16 @@ module _ (k : ℕ) (w : List Letter) where
   pub valid-fits : valid k w ≡ true → dartCountFits (length w) ≡ true
   valid-fits v = parts v .1
 
-  pub valid-nested : valid k w ≡ true → nested false 1 0 [] [] w ≡ true
+  pub valid-nested : valid k w ≡ true → nested (takesLoops k) 1 0 [] [] w ≡ true
   valid-nested v = parts v .2
+
+  pub valid-strict : valid k w ≡ true → takesLoops k ≡ false → nested false 1 0 [] [] w ≡ true
+  valid-strict v e = rw e at (valid-nested v)
 
   pub valid-plain : valid k w ≡ true → eqb k 1 ≡ true → bareLeaf w ≡ false
   valid-plain v = not-both (eqb k 1) (bareLeaf w) (parts v .3)
 
-  pub valid-of : isKind k ≡ true → dartCountFits (length w) ≡ true → nested false 1 0 [] [] w ≡ true → (eqb k 1 ≡ true → bareLeaf w ≡ false)
+  pub valid-of : isKind k ≡ true → dartCountFits (length w) ≡ true → nested (takesLoops k) 1 0 [] [] w ≡ true → (eqb k 1 ≡ true → bareLeaf w ≡ false)
       → valid k w ≡ true
   unfolding valid
   valid-of i f n l = rw (i, f, n) (both-not (eqb k 1) (bareLeaf w) l)

@@ -27,12 +27,13 @@
 --   decode f s            the word that the machine reads in at most f turns
 --   start bits labels     the state at the beginning
 --   decodeWord            the word for these tree bits and labels
+--   nestedWord w          the word w itself, if it is nested with loops taken
 use Prim.Native.Nat.{ℕ, zero, suc, _+_, _*_}
 use mathlib.Core.Bool.{Bool, true, false, not, _&&_, _||_, cond}
 use mathlib.Core.List.{List, [], _∷_, _++_}
 use lib.Dec.{eqb, ltb, leb}
 use lib.ListN.{length, set, replicate}
-use Rattle.model.specs.Map.{Plan, dartCountFits, isKind, opposite}
+use Rattle.model.specs.Map.{Plan, dartCountFits, isKind, takesLoops, opposite}
 use Rattle.model.specs.Traversal.{Letter, down, up, first, second}
 use Rattle.model.specs.LabelledTree.{star}
 
@@ -70,7 +71,7 @@ bareLeaf (first ∷ w) = bareLeaf w
 bareLeaf (second ∷ w) = bareLeaf w
 
 unfoldable pub valid : ℕ → List Letter → Bool
-valid k w = isKind k && (dartCountFits (length w) && (nested false 1 0 [] [] w && not (eqb k 1 && bareLeaf w)))
+valid k w = isKind k && (dartCountFits (length w) && (nested (takesLoops k) 1 0 [] [] w && not (eqb k 1 && bareLeaf w)))
 
 -- ---- labels and bits
 
@@ -302,3 +303,8 @@ start bits labels = record {
 
 unfoldable pub decodeWord : List ℕ → List ℕ → Found
 decodeWord bits labels = decode (suc (length bits)) (start bits labels)
+
+-- ---- reading letters
+
+unfoldable pub nestedWord : List Letter → Found
+nestedWord w = cond (nested true 1 0 [] [] w) (found w) none

@@ -1,0 +1,43 @@
+-- Kinds whose records hold tree bits and labels: 1 and 2. Assumes nothing.
+--
+--   labelled-cases       what holds of 1 and 2 holds of every such kind
+--   labelled-kind, labelled-strict   it is a kind, and takes no loops
+--   labelled-not-four    it is not 4
+--   labelled-other, labelled-or-four   every kind but 4 is such a kind
+use Prim.Native.Nat.{ℕ}
+use mathlib.Core.Path.{_≡_, refl, sym, subst}
+use mathlib.Core.Logic.{_≢_}
+use mathlib.Core.Bool.{Bool, true, false}
+use lib.Dec.{eqb}
+use borrow.Author.Tests.{eqb-true, eqb-false}
+use Rattle.model.specs.Map.{isKind, takesLoops}
+use Rattle.model.proofs.Booleans.{or-split}
+use Rattle.model.proofs.Heads.{kind-cases}
+use Rattle.packing.specs.Payload.{hasLabels}
+
+pub labelled-cases : (P : ℕ → Type 0) → P 1 → P 2 → (k : ℕ) → hasLabels k ≡ true → P k
+unfolding hasLabels
+labelled-cases P p q k e =
+    or-split (eqb k 1) (eqb k 2) e (λ t. subst P (sym (eqb-true k 1 t)) p) (λ t. subst P (sym (eqb-true k 2 t)) q)
+
+pub labelled-kind : (k : ℕ) → hasLabels k ≡ true → isKind k ≡ true
+unfolding isKind
+labelled-kind = labelled-cases (λ (x : ℕ). isKind x ≡ true) refl refl
+
+pub labelled-strict : (k : ℕ) → hasLabels k ≡ true → takesLoops k ≡ false
+labelled-strict = labelled-cases (λ (x : ℕ). takesLoops x ≡ false) refl refl
+
+pub labelled-other : (k : ℕ) → isKind k ≡ true → k ≢ 4 → hasLabels k ≡ true
+unfolding hasLabels
+labelled-other k kind = kind-cases (λ (x : ℕ). x ≢ 4 → hasLabels x ≡ true) (λ d. refl) (λ d. refl) (λ d. absurd (d refl)) k kind
+
+pub labelled-not-four : (k : ℕ) → hasLabels k ≡ true → eqb k 4 ≡ false
+labelled-not-four = labelled-strict
+
+pub labelled-or-four : {P : Type 0} (k : ℕ) → isKind k ≡ true → (hasLabels k ≡ true → P) → (k ≡ 4 → P) → P
+labelled-or-four {P} k kind f g =
+    go (eqb k 4) refl
+  where
+    go : (b : Bool) → eqb k 4 ≡ b → P
+    go true e = g (eqb-true k 4 e)
+    go false e = f (labelled-other k kind (eqb-false k 4 e))
