@@ -1,6 +1,6 @@
 -- The verdict, by the way on which the checks end, at plain values.
 --
---   looped, dead-end, no-dead-end, other-kind   the ways of refusals 11 and 12
+--   takes-all, looped, dead-end, no-dead-end, other-kind   the ways of refusals 11 and 12
 --   vertices-named, surveyed   what naming the vertices and walking leave
 --   Looked               a plan that is judged, and its work area after it is surveyed
 --   parted               not every dart is met
@@ -20,11 +20,11 @@ use lib.Dec.{eqb}
 use borrow.Author.Tests.{eq-eqb, ne-eqb}
 use Rattle.model.specs.Numbers.{least, isLeast, cycles, firstRefusal, isPermutation}
 use Rattle.model.specs.Map.{Plan, darts, edges, next, faceNext, vertexOf, vertices, faces, connected, planar, characteristic, is}
-use Rattle.model.specs.Map.{hasLoop, hasDeadEnd, degreeRefused, dartCountFits}
+use Rattle.model.specs.Map.{hasLoop, hasDeadEnd, loopRefused, degreeRefused, dartCountFits}
 use Rattle.model.specs.Traversal.{code, word}
 use Rattle.model.specs.Calls.{lateRefusals}
 use Rattle.model.proofs.Booleans.{not-intro}
-use Rattle.model.proofs.Fitness.{count-parts}
+use Rattle.model.proofs.Fitness.{count-parts, loop-taken}
 use Rattle.orbits.specs.Table.{tabulate}
 use Rattle.orbits.proofs.Tally.{count-le}
 use Rattle.orbits.proofs.Table.{length-tabulate}
@@ -44,22 +44,29 @@ use Rattle.fitting.specs.Judged.{Surveyed, localOf, lateRefusal, verdict
 -- ---- refusals 11 and 12
 
 module _ (k : ℕ) (p : Plan) where
-  pub looped : hasLoop (p .rotation) ≡ true → Refused 11 ≡ localOf k p
-  unfolding localOf
-  looped l = rw l
+  pub takes-all : k ≡ 4 → Fits ≡ localOf k p
+  unfolding localOf loopRefused degreeRefused
+  takes-all e = rw e
+
+  pub looped : k ≢ 4 → hasLoop (p .rotation) ≡ true → Refused 11 ≡ localOf k p
+  unfolding localOf loopRefused
+  looped d l = rw (ne-eqb k 4 d, l)
 
   module _ (none : hasLoop (p .rotation) ≡ false) where
+    no-loop : loopRefused k (p .rotation) ≡ false
+    no-loop = loop-taken k (p .rotation) (λ _. none)
+
     pub dead-end : k ≡ 1 → hasDeadEnd p ≡ true → Refused 12 ≡ localOf k p
     unfolding localOf degreeRefused
-    dead-end h e = rw (none, eq-eqb k 1 h, e)
+    dead-end h e = rw (no-loop, eq-eqb k 1 h, e)
 
     pub no-dead-end : k ≡ 1 → hasDeadEnd p ≡ false → Fits ≡ localOf k p
     unfolding localOf degreeRefused
-    no-dead-end h e = rw (none, eq-eqb k 1 h, e)
+    no-dead-end h e = rw (no-loop, eq-eqb k 1 h, e)
 
     pub other-kind : (k ≢ 1) → Fits ≡ localOf k p
     unfolding localOf degreeRefused
-    other-kind h = rw (none, ne-eqb k 1 h)
+    other-kind h = rw (no-loop, ne-eqb k 1 h)
 
 -- ---- the names and the walk
 
@@ -153,7 +160,7 @@ module _ {p : Plan} {w : List ℕ} {s : Survey} {w₁ : List ℕ} {f : ℕ} {w�
     flat {k} u {v} q =
         let u′ = rw euler at u in
         record {
-          answered = q ∙ rw (joined, u′) (either (hasLoop (p .rotation)) (degreeRefused k p));
+          answered = q ∙ rw (joined, u′) (either (loopRefused k (p .rotation)) (degreeRefused k p));
           letters = λ z. letters-kept;
           kept = length-kept;
         }

@@ -12,7 +12,7 @@ use mathlib.Core.List.{List, map}
 use lib.Dec.{eqb}
 use lib.ListN.{length}
 use Rattle.model.specs.Numbers.{firstRefusal}
-use Rattle.model.specs.Map.{Plan, darts, characteristic, vertices, hasLoop, degreeRefused}
+use Rattle.model.specs.Map.{Plan, darts, characteristic, vertices, hasLoop, loopRefused, degreeRefused}
 use Rattle.model.specs.Traversal.{code, visits, word}
 use Rattle.model.specs.Calls.{lateRefusals}
 use Rattle.work.specs.Map.{LETTERS}
@@ -29,7 +29,7 @@ pub record Surveyed (p : Plan) (w : List ℕ) (s : Survey) (w′ : List ℕ) : T
   pub kept : length w′ ≡ length w
 
 unfoldable pub localOf : ℕ → Plan → Verdict
-localOf k p = cond (hasLoop (p .rotation)) (Refused 11) (cond (degreeRefused k p) (Refused 12) Fits)
+localOf k p = cond (loopRefused k (p .rotation)) (Refused 11) (cond (degreeRefused k p) (Refused 12) Fits)
 
 unfoldable pub lateRefusal : ℕ → Plan → ℕ
 lateRefusal k p = firstRefusal (lateRefusals k p)

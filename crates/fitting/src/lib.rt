@@ -77,11 +77,14 @@ fn surveyed(order: &[u16], root: usize, w: &mut [u16]) -> Survey
     }
 }
 
-// Refusals 11 and 12.
+// Refusals 11 and 12, which never concern kind 4.
 fn local(order: &[u16], root: usize, kind: u16, looped: bool) -> Verdict
     requires { ⌜ (isPermutation (now order) ≡ true) × (root < length (now order)) × (looped ≡ hasLoop (now order)) ⌝ }
     ensures { λ r. ⌜ r ≡ localOf kind (record { rotation = now (order .entry); root = root }) ⌝ }
 {
+    if kind == 4 {
+        return Verdict::Fits;
+    }
     if looped {
         return Verdict::Refused(11);
     }

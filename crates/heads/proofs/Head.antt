@@ -1,7 +1,7 @@
 -- Heads at plain values, as the code reads them.
 --
 --   field-value              a field from its two bytes
---   is-one, is-two           a kind is 1 or 2
+--   is-one, is-two, is-four  a kind is 1, 2 or 4
 --   refuse-none, refuse-many, counted    the number of edges m, test by test
 use mathlib.Core.Path.{_≡_}
 use mathlib.Core.Bool.{true}
@@ -25,9 +25,13 @@ pub is-one : (k : ℕ) → k ≡ 1 → true ≡ isKind k
 unfolding isKind
 is-one k e = rw (eq-eqb _ _ e)
 
-pub is-two : (k : ℕ) → (k ≡ 1 → ⊥) → eqb k 2 ≡ isKind k
+pub is-two : (k : ℕ) → k ≡ 2 → true ≡ isKind k
 unfolding isKind
-is-two k d = rw (ne-eqb _ _ d)
+is-two k e = rw e
+
+pub is-four : (k : ℕ) → (k ≡ 1 → ⊥) → (k ≡ 2 → ⊥) → eqb k 4 ≡ isKind k
+unfolding isKind
+is-four k d e = rw (ne-eqb _ _ d, ne-eqb _ _ e)
 
 module _ (r : List ℕ) (k : Kinded r) (m : ℕ) (m-is : m ≡ edgesOf r) where
   pub refuse-none : m ≡ 0 → 3 ≡ headRefusal r

@@ -23,7 +23,10 @@ pub fn is_kind(kind: u16) -> bool
     if kind == 1 {
         return true;
     }
-    kind == 2
+    if kind == 2 {
+        return true;
+    }
+    kind == 4
 }
 
 // The length of a record of this kind with m edges.
@@ -34,7 +37,10 @@ pub fn record_length(kind: u16, m: u16) -> usize
     if kind == 1 {
         return 6 + (3 * n + 7) / 8;
     }
-    6 + (2 * n + 7) / 8 + (n + 4) / 5
+    if kind == 2 {
+        return 6 + (2 * n + 7) / 8 + (n + 4) / 5;
+    }
+    6 + (n + 1) / 2
 }
 
 // The first of 1, 2, 3, 5 that concerns these bytes; 0 if none does.

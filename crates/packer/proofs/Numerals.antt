@@ -19,7 +19,7 @@ use Rattle.model.specs.Numbers.{allBelow}
 use Rattle.model.specs.Record.{digitsFrom, digits, pack}
 use Rattle.model.proofs.Below.{below-drop}
 use Rattle.packing.proofs.Digits.{digits-below}
-use Rattle.packing.proofs.Packed.{pack-length}
+use Rattle.packing.proofs.Packed.{pack-length, pack-more}
 use Rattle.work.specs.Area.{placed}
 use Rattle.work.proofs.Regions.{placed-snoc}
 use Rattle.packer.specs.Packed.{between}
@@ -65,13 +65,6 @@ group-fits width count i h = let l = mul-le-mul-right width h in let e = suc-mul
 pub all-group : (base a e j : ℕ) (w : List ℕ) → allBelow base (between a e w) ≡ true → allBelow base (between (a + j) e w) ≡ true
 unfolding between
 all-group base a e j w h = rw (← drop-drop j a (take e w)) (below-drop base j (between a e w) h)
-
-pack-more : (base width i : ℕ) (ds : List ℕ) → pack base width (suc i) ds ≡ pack base width i ds ++ (digits base width (drop (i * width) ds) ∷ [])
-unfolding pack
-pack-more base width zero ds = rw zero-mul
-pack-more base width (suc i) ds =
-    rw (suc-mul i width, add-comm (i * width) width, ← drop-drop (i * width) width ds)
-    (ap (λ (r : List ℕ). digits base width ds ∷ r) (pack-more base width i (drop width ds)))
 
 pub packed-more : (base width at i x a e : ℕ) (w out₀ out : List ℕ) → at + i < length out₀ → x ≡ digits base width (between (a + i * width) e w)
     → out ≡ placed at (pack base width i (between a e w)) out₀ → set out (at + i) x ≡ placed at (pack base width (i + 1) (between a e w)) out₀

@@ -17,9 +17,11 @@ use lib.ListN.{length, set, length-set}
 use borrow.Author.Tests.{eq-eqb, ne-eqb}
 use Rattle.model.specs.Numbers.{allBelow}
 use Rattle.model.specs.Record.{pack, le16, bytesFor, labelBase, recordLength, payload, headed}
+use Rattle.packing.specs.Payload.{hasLabels}
 use Rattle.packing.proofs.Packed.{pack-length}
+use Rattle.packing.proofs.Labelled.{labelled-two}
 use Rattle.packing.proofs.Payload.{payload-length}
-use Rattle.model.proofs.Heads.{kind-one, kind-other, recordLength-range}
+use Rattle.model.proofs.Heads.{kind-one, kind-two, recordLength-range}
 use Rattle.work.specs.Map.{BITS, LABELS}
 use Rattle.work.specs.Area.{placed}
 use Rattle.work.specs.Letters.{workBits, workLabels}
@@ -78,15 +80,15 @@ module _ (m : ℕ) (w : List ℕ) where
 
 -- ---- kinds, and the whole record
 
-module _ (k m at room : ℕ) (bits labels : List ℕ) (fits : at + length (payload k m bits labels) ≤ room)
+module _ (k m at room : ℕ) (bits labels : List ℕ) (has : hasLabels k ≡ true) (fits : at + length (payload k m bits labels) ≤ room)
     (small : allBelow (labelBase k) labels ≡ true) where
   pub plain-asked : k ≡ 1 → (at + bytesFor (3 * m) 8 ≤ room) × (allBelow 2 labels ≡ true)
   unfolding labelBase
-  plain-asked e = let a = payload-length k m bits labels in let b = kind-one k m e in (omega arith, rw (eq-eqb k 1 e) at small)
+  plain-asked e = let a = payload-length k m bits labels has in let b = kind-one k m e in (omega arith, rw (eq-eqb k 1 e) at small)
 
   pub starred-asked : k ≢ 1 → (at + bytesFor (2 * m) 8 + bytesFor m 5 ≤ room) × (allBelow 3 labels ≡ true)
   unfolding labelBase
-  starred-asked d = let a = payload-length k m bits labels in let b = kind-other k m d in (omega arith, rw (ne-eqb k 1 d) at small)
+  starred-asked d = let a = payload-length k m bits labels has in let b = kind-two k m (labelled-two k has d) in (omega arith, rw (ne-eqb k 1 d) at small)
 
 module _ (k m at : ℕ) (bits labels out out′ : List ℕ) where
   pub plain-payload : k ≡ 1 → out′ ≡ placed at (payload 1 m bits labels) out → out′ ≡ placed at (payload k m bits labels) out
@@ -96,14 +98,14 @@ module _ (k m at : ℕ) (bits labels out out′ : List ℕ) where
   unfolding payload
   starred-payload d p = rw (ne-eqb k 1 d) p
 
-pub whole-record : (k m total : ℕ) (w out mid out′ : List ℕ) → total ≡ recordLength k m → 1 ≤ m → m ≤ 4096 → recordLength k m ≤ length out
+pub whole-record : (k m total : ℕ) (w out mid out′ : List ℕ) → hasLabels k ≡ true → total ≡ recordLength k m → 1 ≤ m → m ≤ 4096 → recordLength k m ≤ length out
     → mid ≡ placed 0 (le16 total ++ (le16 k ++ le16 m)) out → out′ ≡ placed 6 (payload k m (workBits (2 * m) w) (workLabels (2 * m) w)) mid
     → Packed k m w out total out′
 unfolding headed le16
-whole-record k m total w out mid out′ t o h l p q =
+whole-record k m total w out mid out′ has t o h l p q =
     let s = recordLength-range k m o h in
     let tail = payload k m (workBits (2 * m) w) (workLabels (2 * m) w) in
-    let long = payload-length k m (workBits (2 * m) w) (workLabels (2 * m) w) in
+    let long = payload-length k m (workBits (2 * m) w) (workLabels (2 * m) w) has in
     record {
       answered = t;
       filled = rw (q, p, t ∙ sym long) (placed-next 0 (le16 (6 + length tail) ++ (le16 k ++ le16 m)) tail out (omega arith))

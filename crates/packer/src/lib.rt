@@ -5,8 +5,8 @@ ghost use mathlib.Core.List.{_++_};
 ghost use Prim.Native.Nat.{_+_, _*_, _^_, _≤_, _<_};
 ghost use lib.ListN.{length, getD};
 ghost use Rattle.model.specs.Numbers.{allBelow};
-ghost use Rattle.model.specs.Map.{isKind};
 ghost use Rattle.model.specs.Record.{digits, pack, le16, payload, recordLength, labelBase, bytesFor};
+ghost use Rattle.packing.specs.Payload.{hasLabels};
 ghost use Rattle.work.specs.Area.{placed};
 ghost use Rattle.work.specs.Letters.{workBits, workLabels};
 ghost use Rattle.packer.specs.Packed.{between, Packed};
@@ -78,7 +78,7 @@ fn groups(n: usize, width: usize) -> usize
 }
 
 // What stands before the payload: the record's length, its kind and m.
-fn put_head(out: &mut [u8], total: u16, kind: u16, m: u16)
+pub fn put_head(out: &mut [u8], total: u16, kind: u16, m: u16)
     requires { ⌜ 6 ≤ length (now out) ⌝ }
     ensures { λ _. ⌜ now (out .exit) ≡ placed 0 (le16 total ++ (le16 kind ++ le16 m)) (now (out .entry)) ⌝ }
 {
@@ -117,9 +117,9 @@ fn put_starred(w: &[u16], m: usize, out: &mut [u8], at: usize)
     put_groups(w, labels, labels + m, 3, 5, out, at + bytes, count);
 }
 
-// The payload of a record of this kind, from place at on.
+// The payload of a record of this kind, 1 or 2, from place at on.
 fn put_payload(w: &[u16], kind: u16, m: usize, out: &mut [u8], at: usize)
-    requires { ⌜ (m ≤ 4096) × (32 * m ≤ length (now w)) × (at ≤ 2 ^ 16)
+    requires { ⌜ (hasLabels kind ≡ true) × (m ≤ 4096) × (32 * m ≤ length (now w)) × (at ≤ 2 ^ 16)
         × (at + length (payload kind m (workBits (2 * m) (now w)) (workLabels (2 * m) (now w))) ≤ length (now out))
         × (allBelow 2 (workBits (2 * m) (now w)) ≡ true) × (allBelow (labelBase kind) (workLabels (2 * m) (now w)) ≡ true) ⌝ }
     ensures { λ _. ⌜ now (out .exit) ≡ placed at (payload kind m (workBits (2 * m) (now (w .entry))) (workLabels (2 * m) (now (w .entry))))
@@ -132,9 +132,9 @@ fn put_payload(w: &[u16], kind: u16, m: usize, out: &mut [u8], at: usize)
     put_starred(w, m, out, at);
 }
 
-// The whole record, from tree bits and labels.
+// The whole record of kind 1 or 2, from tree bits and labels.
 pub fn pack(w: &[u16], kind: u16, m: usize, out: &mut [u8]) -> u16
-    requires { ⌜ (isKind kind ≡ true) × (1 ≤ m) × (m ≤ 4096) × (32 * m ≤ length (now w)) × (recordLength kind m ≤ length (now out))
+    requires { ⌜ (hasLabels kind ≡ true) × (1 ≤ m) × (m ≤ 4096) × (32 * m ≤ length (now w)) × (recordLength kind m ≤ length (now out))
         × (allBelow 2 (workBits (2 * m) (now w)) ≡ true) × (allBelow (labelBase kind) (workLabels (2 * m) (now w)) ≡ true) ⌝ }
     ensures { λ r. ⌜ Packed kind m (now (w .entry)) (now (out .entry)) r (now (out .exit)) ⌝ }
 {

@@ -3,6 +3,7 @@
 --   labelled-cases       what holds of 1 and 2 holds of every such kind
 --   labelled-kind, labelled-strict   it is a kind, and takes no loops
 --   labelled-not-four    it is not 4
+--   labelled-two         it is 2 if it is not 1
 --   labelled-other, labelled-or-four   every kind but 4 is such a kind
 use Prim.Native.Nat.{ℕ}
 use mathlib.Core.Path.{_≡_, refl, sym, subst}
@@ -33,6 +34,9 @@ labelled-other k kind = kind-cases (λ (x : ℕ). x ≢ 4 → hasLabels x ≡ tr
 
 pub labelled-not-four : (k : ℕ) → hasLabels k ≡ true → eqb k 4 ≡ false
 labelled-not-four = labelled-strict
+
+pub labelled-two : (k : ℕ) → hasLabels k ≡ true → k ≢ 1 → k ≡ 2
+labelled-two = labelled-cases (λ (x : ℕ). x ≢ 1 → x ≡ 2) (λ d. absurd (d refl)) (λ d. refl)
 
 pub labelled-or-four : {P : Type 0} (k : ℕ) → isKind k ≡ true → (hasLabels k ≡ true → P) → (k ≡ 4 → P) → P
 labelled-or-four {P} k kind f g =

@@ -1,6 +1,7 @@
 -- `pack` and `unpack` undo one another. `b` is the base, `w` the digits of a number, `n` how many numbers there are. Assumes nothing.
 --
 --   pack-length, pack-below       n numbers, each below bʷ
+--   pack-more                     one number more
 --   pack-pad                      zeros after the digits are as good as no digits
 --   length-unpack, unpack-below   n * w digits, each below b
 --   unpack-append, unpack-drop    a sequence is taken apart part by part, and past n numbers
@@ -9,7 +10,7 @@
 --   pack-take                     numbers whose digits past l are 0 are packed from l digits
 --   unpack-packed, blank-past, pack-front   the same where the number of numbers is a list's length
 use Prim.Native.Nat.{ℕ, zero, suc, _+_, _-_, _*_, _^_, _≤_, _<_}
-use native.Mathlib.Nat.{suc-inj, suc-ne-zero, zero-mul, suc-mul, zero-sub, sub-zero, suc-sub-suc, add-sub-of-le}
+use native.Mathlib.Nat.{suc-inj, suc-ne-zero, add-comm, zero-mul, suc-mul, zero-sub, sub-zero, suc-sub-suc, add-sub-of-le}
 use native.Mathlib.Omega.{arith}
 use mathlib.Core.Path.{_≡_, refl, sym, ap, _∙_}
 use mathlib.Core.Bool.{true}
@@ -45,6 +46,12 @@ module _ (b w : ℕ) where
   pack-below h zero ds e = refl
   pack-below h (suc n) ds e =
       below-cons (b ^ w) (digits b w ds) (pack b w n (drop w ds)) (digits-below b h w ds e) (pack-below h n (drop w ds) (below-drop b w ds e))
+
+  pub pack-more : (i : ℕ) (ds : List ℕ) → pack b w (suc i) ds ≡ pack b w i ds ++ (digits b w (drop (i * w) ds) ∷ [])
+  unfolding pack
+  pack-more zero ds = rw zero-mul
+  pack-more (suc i) ds =
+      rw (suc-mul i w, add-comm (i * w) w, ← drop-drop (i * w) w ds) (ap (λ (r : List ℕ). digits b w ds ∷ r) (pack-more i (drop w ds)))
 
   pub pack-pad : (n : ℕ) (ds : List ℕ) (k : ℕ) → pack b w n (ds ++ replicate k 0) ≡ pack b w n ds
   unfolding pack

@@ -15,9 +15,10 @@ use borrow.Author.Tests.{ne-eqb}
 use Rattle.model.specs.Numbers.{allBelow}
 use Rattle.model.proofs.Below.{below-next, below-stop, below-end}
 use Rattle.packing.specs.Unpack.{bits, groups}
-use Rattle.packing.specs.Payload.{Sized, payloadClean}
+use Rattle.packing.specs.Payload.{hasLabels, Sized, payloadClean}
+use Rattle.packing.proofs.Labelled.{labelled-two}
 use Rattle.packing.proofs.Packed.{length-unpack, unpack-append}
-use Rattle.unpacker.proofs.Payload.{length-bits, two, other-kind, of-kind}
+use Rattle.unpacker.proofs.Payload.{length-bits, two, of-kind}
 
 -- ---- bits and labels of bytes
 
@@ -62,8 +63,8 @@ module _ (k m : ℕ) (ps : List ℕ) where
       let l = length-bits ps in
       rw e (ap (λ (ds : List ℕ). allBelow 1 (drop (3 * m) ds)) (take-all (8 * length ps) (bits ps) (omega arith)))
 
-  pub clean-two : Sized k m ps → k ≢ 1 → payloadClean k m ps ≡ cleanParts m ps
+  pub clean-two : hasLabels k ≡ true → Sized k m ps → k ≢ 1 → payloadClean k m ps ≡ cleanParts m ps
   unfolding payloadClean
-  clean-two h e =
-      let z = two ps m (of-kind ps m k 2 (other-kind ps m k h e) h) in
+  clean-two has h e =
+      let z = two ps m (of-kind ps m k 2 (labelled-two k has e) h) in
       rw (ne-eqb k 1 e, bits-take ((2 * m + 7) / 8) ps (omega arith))

@@ -5,21 +5,20 @@
 --   bits-room             a payload has room for its tree bits
 --   KindOne, one          the sizes in kind 1
 --   KindTwo, two          the sizes in kind 2
---   other-kind            a kind that is not 1 is 2
 --   of-kind, labels-of-kind   the sizes and the labels, by the kind's number
 --   label-one             where a label of kind 1 stands among all bits
 --   labels-two            the labels of kind 2 are the first of those in the groups
 use Prim.Native.Nat.{ℕ, _+_, _*_, _/_, _≤_, _<_}
 use native.Mathlib.Omega.{arith}
 use mathlib.Core.Path.{_≡_, refl, sym, ap, _∙_, subst}
-use mathlib.Core.Logic.{_≢_}
+use mathlib.Core.Bool.{true}
 use mathlib.Core.List.{List}
 use lib.ListN.{length, getD, take, drop}
 use lib.Seq.{length-take-le, getD-take, getD-drop}
 use Rattle.model.specs.Record.{recordLength}
 use Rattle.packing.specs.Unpack.{bits, groups}
-use Rattle.packing.specs.Payload.{Sized, payloadBits, payloadLabels}
-use Rattle.model.proofs.Heads.{kind-cases}
+use Rattle.packing.specs.Payload.{hasLabels, Sized, payloadBits, payloadLabels}
+use Rattle.packing.proofs.Labelled.{labelled-cases}
 use Rattle.packing.proofs.Packed.{length-unpack}
 use Rattle.packing.proofs.Payload.{unpayload-parts}
 
@@ -53,27 +52,24 @@ pub record KindTwo (ps : List ℕ) (m : ℕ) : Type 0 where
 
 module _ (ps : List ℕ) (m : ℕ) where
   pub one : Sized 1 m ps → KindOne ps m
-  unfolding recordLength
+  unfolding recordLength hasLabels
   one h =
       let l = h .long in
       record {
         few-edges = h .few-edges;
         some-edge = h .some-edge;
         bytes = omega arith;
-        label-count = unpayload-parts 1 m ps (h .kind) (omega arith) .label-count;
+        label-count = unpayload-parts 1 m ps refl (omega arith) .label-count;
       }
 
   pub two : Sized 2 m ps → KindTwo ps m
   unfolding recordLength
   two h = let l = h .long in record { few-edges = h .few-edges; some-edge = h .some-edge; bytes = omega arith }
 
-  pub bits-room : (k : ℕ) → Sized k m ps → 2 * m ≤ 8 * length ps
-  bits-room k h =
-      kind-cases (λ (j : ℕ). Sized j m ps → 2 * m ≤ 8 * length ps)
-      (λ g. let z = one g in omega arith) (λ g. let z = two g in omega arith) k (h .kind) h
-
-  pub other-kind : (k : ℕ) → Sized k m ps → k ≢ 1 → k ≡ 2
-  other-kind k h = kind-cases (λ (j : ℕ). j ≢ 1 → j ≡ 2) (λ e. absurd (e refl)) (λ e. refl) k (h .kind)
+  pub bits-room : (k : ℕ) → hasLabels k ≡ true → Sized k m ps → 2 * m ≤ 8 * length ps
+  bits-room k has h =
+      labelled-cases (λ (j : ℕ). Sized j m ps → 2 * m ≤ 8 * length ps)
+      (λ g. let z = one g in omega arith) (λ g. let z = two g in omega arith) k has h
 
   pub of-kind : (k j : ℕ) → k ≡ j → Sized k m ps → Sized j m ps
   of-kind k j e h = subst (λ (i : ℕ). Sized i m ps) e h

@@ -1,11 +1,12 @@
 // A payload taken apart: whether its padding bits and fill labels are 0 and its groups fit, and its labels by number, put into the lent work area.
 // It knows digits and bytes; no heads of records, no letters, no words and no plans.
 ghost use mathlib.Core.Path.{_≡_};
+ghost use mathlib.Core.Bool.{true};
 ghost use Prim.Native.Nat.{_+_, _*_, _^_, _≤_, _<_};
 ghost use lib.ListN.{length, take, drop};
 ghost use Rattle.model.specs.Numbers.{allBelow};
 ghost use Rattle.packing.specs.Unpack.{bits, groups};
-ghost use Rattle.packing.specs.Payload.{Sized, payloadLabels, payloadClean};
+ghost use Rattle.packing.specs.Payload.{hasLabels, Sized, payloadLabels, payloadClean};
 ghost use Rattle.unpacker.specs.Unpacked.{labelsAt, grouped};
 
 // ---- padding bits, fill labels and groups
@@ -60,7 +61,7 @@ fn groups_fit(bytes: &[u8], from: usize) -> bool
 
 // "unused low bits are 0", "the last group filled with 0", and five labels make no more than 242.
 pub fn clean(payload: &[u8], kind: u16, m: usize) -> bool
-    requires { ⌜ Sized kind m (now payload) ⌝ }
+    requires { ⌜ (hasLabels kind ≡ true) × Sized kind m (now payload) ⌝ }
     ensures { λ r. ⌜ r ≡ payloadClean kind m (now (payload .entry)) ⌝ }
 {
     if kind == 1 {
@@ -125,7 +126,7 @@ fn spread_groups(payload: &[u8], m: usize, w: &mut [u16])
 
 // The labels by number, so that whoever reads them one by one needs no division.
 pub fn spread(payload: &[u8], kind: u16, m: usize, w: &mut [u16])
-    requires { ⌜ Sized kind m (now payload) ⌝ }
+    requires { ⌜ (hasLabels kind ≡ true) × Sized kind m (now payload) ⌝ }
     requires { ⌜ 32 * m ≤ length (now w) ⌝ }
     ensures { λ _. ⌜ labelsAt m (now (w .exit)) ≡ payloadLabels kind m (now (payload .entry)) ⌝ }
 {

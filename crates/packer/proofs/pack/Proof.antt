@@ -23,15 +23,15 @@ put-payload-requires : tie.Need-put-payload-requires
 put-payload-requires c κs =
     let st = c .before .before .before .before .before .before .before .before in
     let n = 2 * st .args .m in
-    let l = payload-length (st .args .kind) (st .args .m) (workBits n (st .args .w .now)) (workLabels n (st .args .w .now)) in
+    let l = payload-length (st .args .kind) (st .args .m) (workBits n (st .args .w .now)) (workLabels n (st .args .w .now)) (st .pre .0) in
     let k = c .before .before .before .put-head .kept .0 in
-    (st .pre .2, st .pre .3, lit≤ tt, omega (arith, st .pre), st .pre .5, st .pre .6)
+    (st .pre .0, st .pre .2, st .pre .3, lit≤ tt, omega (arith, st .pre), st .pre .5, st .pre .6)
 
 returns : tie.Need-returns
 returns c =
     let h = c .before .before .before .before .before .before in
     let st = h .before .before .before .before .before in
-    whole-record (st .args .kind) (st .args .m) _ _ _ _ _ (h .before .before .record-length .ensures) (st .pre .1) (st .pre .2) (st .pre .4)
+    whole-record (st .args .kind) (st .args .m) _ _ _ _ _ (st .pre .0) (h .before .before .record-length .ensures) (st .pre .1) (st .pre .2) (st .pre .4)
     (h .put-head .ensures) (c .before .before .put-payload .ensures)
 
 pub pack-spec : {M : Type 1} → statement M

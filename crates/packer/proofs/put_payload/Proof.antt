@@ -6,8 +6,8 @@ use Rattle.packer.proofs.put_payload.Tie as tie
 put-plain-requires : tie.Need-put-plain-requires
 put-plain-requires c κs =
     let st = c .before .before .before .before in
-    let asked = plain-asked (st .args .kind) (st .args .m) (st .args .at) _ _ _ (st .pre .3) (st .pre .5) (c .before .if1 .taken) in
-    (st .pre .0, st .pre .1, st .pre .2, asked .0, st .pre .4, asked .1)
+    let asked = plain-asked (st .args .kind) (st .args .m) (st .args .at) _ _ _ (st .pre .0) (st .pre .4) (st .pre .6) (c .before .if1 .taken) in
+    (st .pre .1, st .pre .2, st .pre .3, asked .0, st .pre .5, asked .1)
 
 returns : tie.Need-returns
 returns c = plain-payload _ _ _ _ _ _ _ (c .before .before .before .before .if1 .taken) (c .before .before .put-plain .ensures)
@@ -15,8 +15,8 @@ returns c = plain-payload _ _ _ _ _ _ _ (c .before .before .before .before .if1 
 put-starred-requires : tie.Need-put-starred-requires
 put-starred-requires c κs =
     let st = c .before .before .before .before in
-    let asked = starred-asked (st .args .kind) (st .args .m) (st .args .at) _ _ _ (st .pre .3) (st .pre .5) (c .before .if1 .left) in
-    (st .pre .0, st .pre .1, st .pre .2, asked .0, st .pre .4, asked .1)
+    let asked = starred-asked (st .args .kind) (st .args .m) (st .args .at) _ _ _ (st .pre .0) (st .pre .4) (st .pre .6) (c .before .if1 .left) in
+    (st .pre .1, st .pre .2, st .pre .3, asked .0, st .pre .5, asked .1)
 
 returns-2 : tie.Need-returns-2
 returns-2 c = starred-payload _ _ _ _ _ _ _ (c .before .before .before .before .if1 .left) (c .before .before .put-starred .ensures)

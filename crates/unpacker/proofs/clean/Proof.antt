@@ -2,21 +2,22 @@ use mathlib.Core.Path.{_≡_, sym, _∙_}
 use native.Mathlib.Omega.{arith}
 use borrow.Author.Tests.{not-true, not-false}
 use Rattle.packing.specs.Payload.{payloadClean}
-use Rattle.unpacker.proofs.Payload.{KindOne, one, KindTwo, two, other-kind, of-kind}
+use Rattle.packing.proofs.Labelled.{labelled-two}
+use Rattle.unpacker.proofs.Payload.{KindOne, one, KindTwo, two, of-kind}
 use Rattle.unpacker.proofs.Padding.{cleanParts, clean-one, clean-two}
 use borrow.Author.Needs.{needs}
 use Rattle.unpacker.proofs.clean.Statement.{statement}
 use Rattle.unpacker.proofs.clean.Tie as tie
 
 in-one : (c : tie.Then1) → KindOne (c .before .before .args .payload .now) (c .before .before .args .m)
-in-one c = one _ _ (of-kind _ _ _ _ (c .if1 .taken) (c .before .before .pre))
+in-one c = one _ _ (of-kind _ _ _ _ (c .if1 .taken) (c .before .before .pre .1))
 
 in-two : (c : tie.Else1) → KindTwo (c .before .before .args .payload .now) (c .before .before .args .m)
-in-two c = let h = c .before .before .pre in two _ _ (of-kind _ _ _ _ (other-kind _ _ _ h (c .if1 .left)) h)
+in-two c = let h = c .before .before .pre in two _ _ (of-kind _ _ _ _ (labelled-two _ (h .0) (c .if1 .left)) (h .1))
 
 in-parts : (c : tie.Else1) → let a = c .before .before .args in
     payloadClean (a .kind) (a .m) (a .payload .now) ≡ cleanParts (a .m) (a .payload .now)
-in-parts c = clean-two _ _ _ (c .before .before .pre) (c .if1 .left)
+in-parts c = let h = c .before .before .pre in clean-two _ _ _ (h .0) (h .1) (c .if1 .left)
 
 mul-zero-bits-2 : tie.Need-mul-zero-bits-2
 mul-zero-bits-2 c = let z = in-one c in omega arith

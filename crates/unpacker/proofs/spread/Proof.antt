@@ -1,20 +1,21 @@
 use mathlib.Core.Path.{_≡_, _∙_}
-use Rattle.unpacker.proofs.Payload.{other-kind, of-kind, labels-of-kind}
+use Rattle.packing.proofs.Labelled.{labelled-two}
+use Rattle.unpacker.proofs.Payload.{of-kind, labels-of-kind}
 use borrow.Author.Needs.{needs}
 use Rattle.unpacker.proofs.spread.Statement.{statement}
 use Rattle.unpacker.proofs.spread.Tie as tie
 
 is-two : (c : tie.Else1) → c .before .before .before .args .kind ≡ 2
-is-two c = other-kind _ _ _ (c .before .before .before .pre .0) (c .if1 .left)
+is-two c = labelled-two _ (c .before .before .before .pre .0 .0) (c .if1 .left)
 
 spread-bits-requires : tie.Need-spread-bits-requires
-spread-bits-requires c κs = let p = c .before .before .before .before .pre in (of-kind _ _ _ _ (c .before .if1 .taken) (p .0), p .1)
+spread-bits-requires c κs = let p = c .before .before .before .before .pre in (of-kind _ _ _ _ (c .before .if1 .taken) (p .0 .1), p .1)
 
 returns : tie.Need-returns
 returns c = c .before .before .spread-bits .ensures ∙ labels-of-kind _ _ _ _ (c .before .before .before .before .if1 .taken)
 
 spread-groups-requires : tie.Need-spread-groups-requires
-spread-groups-requires c κs = let p = c .before .before .before .before .pre in (of-kind _ _ _ _ (is-two (c .before)) (p .0), p .1)
+spread-groups-requires c κs = let p = c .before .before .before .before .pre in (of-kind _ _ _ _ (is-two (c .before)) (p .0 .1), p .1)
 
 returns-2 : tie.Need-returns-2
 returns-2 c = c .before .before .spread-groups .ensures ∙ labels-of-kind _ _ _ _ (is-two (c .before .before .before .before))

@@ -1,0 +1,66 @@
+// From the contour word in the work area to the bytes of a record of kind 4: two bits a letter, four letters a byte. It knows letters and places, no plans.
+ghost use mathlib.Core.Path.{_≡_};
+ghost use mathlib.Core.List.{map};
+ghost use Prim.Native.Nat.{_+_, _*_, _/_, _^_, _≤_, _<_};
+ghost use lib.ListN.{length, getD, drop};
+ghost use Rattle.model.specs.Record.{digits, pack, bytesFor, recordLength};
+ghost use Rattle.packing.specs.Letters.{letterDigit, lettersPayload};
+ghost use Rattle.work.specs.Map.{LETTERS};
+ghost use Rattle.work.specs.Area.{placed};
+ghost use Rattle.work.specs.Letters.{lettersIn, Coded};
+ghost use Rattle.letter_packer.specs.Packed.{digitsAt, Packed};
+
+// The byte of the four letters from position i on.
+fn four(w: &[u16], n: usize, i: usize) -> u16
+    requires { ⌜ (n ≤ 8192) × (16 * n ≤ length (now w)) × Coded n (now w) × (i + 4 ≤ n) ⌝ }
+    ensures { λ r. ⌜ (r ≡ digits 4 4 (digitsAt i n (now (w .entry)))) × (r < 256) ⌝ }
+{
+    let a = work::LETTERS * n + i;
+    64 * w[a] + 16 * w[a + 1] + 4 * w[a + 2] + w[a + 3] - 85
+}
+
+// The byte of the last two letters, where no more are left.
+fn two(w: &[u16], n: usize, i: usize) -> u16
+    requires { ⌜ (n ≤ 8192) × (16 * n ≤ length (now w)) × Coded n (now w) × (i + 2 ≡ n) ⌝ }
+    ensures { λ r. ⌜ (r ≡ digits 4 4 (digitsAt i n (now (w .entry)))) × (r < 256) ⌝ }
+{
+    let a = work::LETTERS * n + i;
+    64 * w[a] + 16 * w[a + 1] - 80
+}
+
+// The bytes that are full, from place at on.
+fn put_full(w: &[u16], m: usize, out: &mut [u8], at: usize)
+    requires { ⌜ (m ≤ 4096) × (32 * m ≤ length (now w)) × Coded (2 * m) (now w) × (at ≤ 2 ^ 16) × (at + m / 2 ≤ length (now out)) ⌝ }
+    ensures { λ _. ⌜ now (out .exit) ≡ placed at (pack 4 4 (m / 2) (digitsAt 0 (2 * m) (now (w .entry)))) (now (out .entry)) ⌝ }
+{
+    let count = m / 2;
+    let mut i = 0;
+    while i < count {
+        out[at + i] = four(w, 2 * m, 4 * i) as u8;
+        i += 1;
+    }
+}
+
+// The payload, from place at on.
+fn put_payload(w: &[u16], m: usize, out: &mut [u8], at: usize)
+    requires { ⌜ (m ≤ 4096) × (32 * m ≤ length (now w)) × Coded (2 * m) (now w) × (at ≤ 2 ^ 16) × (at + bytesFor m 2 ≤ length (now out)) ⌝ }
+    ensures { λ _. ⌜ now (out .exit) ≡ placed at (lettersPayload (lettersIn (2 * m) (now (w .entry)))) (now (out .entry)) ⌝ }
+{
+    put_full(w, m, out, at);
+    if m % 2 == 0 {
+        return;
+    }
+    out[at + m / 2] = two(w, 2 * m, 2 * m - 2) as u8;
+}
+
+// The whole record.
+pub fn pack(w: &[u16], m: usize, out: &mut [u8]) -> u16
+    requires { ⌜ (1 ≤ m) × (m ≤ 4096) × (32 * m ≤ length (now w)) × Coded (2 * m) (now w) × (recordLength 4 m ≤ length (now out)) ⌝ }
+    ensures { λ r. ⌜ Packed m (now (w .entry)) (now (out .entry)) r (now (out .exit)) ⌝ }
+{
+    let edges = m as u16;
+    let length = heads::record_length(4, edges) as u16;
+    packer::put_head(out, length, 4, edges);
+    put_payload(w, m, out, 6);
+    length
+}
