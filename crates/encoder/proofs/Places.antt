@@ -47,10 +47,10 @@ module _ (n i : ℕ) (w : List ℕ) (s : Scan) (at : Scanned n w i s) where
 
   half : length (ends v .labels) ≡ n / 2
   unfolding wordLabels
-  half = let r = at .room in let l = length-letters n w (omega arith) in let h = letters-length 2 v (at .word) in omega arith
+  half = let r = at .room in let l = length-letters n w (omega arith) in let h = letters-length v (valid-nested 2 v (at .word)) in omega arith
 
   whole : length (wordBits false v) ≡ n
-  whole = let r = at .room in bits-length 2 v (at .word) ∙ length-letters n w (omega arith)
+  whole = let r = at .room in bits-length v (valid-nested 2 v (at .word)) ∙ length-letters n w (omega arith)
 
   labels-are : n / 2 - s .labels ≡ length (ends (drop i v) .labels)
   unfolding held

@@ -11,20 +11,20 @@ use native.Mathlib.Omega.{arith}
 use mathlib.Core.Path.{_≡_, refl, sym, ap, _∙_}
 use mathlib.Core.Logic.{_≢_}
 use mathlib.Core.Bool.{Bool, true, false, cond}
-use mathlib.Core.List.{List}
+use mathlib.Core.List.{List, map}
 use lib.Dec.{eqb}
 use lib.ListN.{length}
 use borrow.Author.Tests.{ne-eqb, eqb-true}
 use Rattle.model.specs.declared.Written.{Written}
 use Rattle.model.specs.declared.Written.the-variants as written
 use Rattle.model.specs.Map.{Plan, darts, edges, characteristic, fit}
-use Rattle.model.specs.Traversal.{word}
+use Rattle.model.specs.Traversal.{code, word}
 use Rattle.model.specs.Record.{recordLength, recordOf}
 use Rattle.model.specs.Calls.{writeRefusal, writeAnswer, writtenOutput}
 use Rattle.model.proofs.Fitness.{fit-parts}
 use Rattle.model.proofs.Refusals.{not-refused}
 use Rattle.words.specs.Word.{valid}
-use Rattle.coding.proofs.FitPlans.{of-fit}
+use Rattle.coding.proofs.FitPlans.{fit-valid}
 use Rattle.coding.proofs.Coders.{payload-of-word}
 use Rattle.fitting.specs.declared.Verdict.{Verdict}
 use Rattle.fitting.specs.declared.Verdict.the-variants as verdict
@@ -118,7 +118,8 @@ module _ {k : ℕ} {p : Plan} {w out : List ℕ} {v : Verdict} {w₁ : List ℕ}
         let q = early-parts k p (length w) (length out) (t .passed) in
         record {
           kind = fit-parts k p fits .kind;
-          proper = ap (valid k) letters ∙ of-fit k p fits .proper;
+          coded = t .judged .letters late ∙ ap (map code) (sym letters);
+          proper = ap (valid k) letters ∙ fit-valid k p fits;
           room = omega (arith, q .room, t .judged .kept);
           space = q .space;
         }

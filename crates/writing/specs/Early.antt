@@ -16,7 +16,7 @@ use Rattle.model.specs.Record.{recordLength, headed}
 use Rattle.model.specs.Calls.{front, earlyRefusals, writeAnswer, writtenOutput}
 use Rattle.words.specs.Word.{valid}
 use Rattle.coding.specs.Payloads.{encodePayload}
-use Rattle.work.specs.Letters.{lettersIn}
+use Rattle.work.specs.Letters.{lettersIn, Coded}
 
 unfoldable pub earlyRefusal : ℕ → Plan → ℕ → ℕ → ℕ
 earlyRefusal k p workLength outLength = firstRefusal (earlyRefusals k p workLength outLength)
@@ -28,6 +28,7 @@ pub record Made (k : ℕ) (p : Plan) (work out : List ℕ) (answer : Written) (w
 
 pub record Ready (n k : ℕ) (w out : List ℕ) : Type 0 where
   pub kind : isKind k ≡ true
+  pub coded : Coded n w
   pub proper : valid k (lettersIn n w) ≡ true
   pub room : 16 * n ≤ length w
   pub space : recordLength k (n / 2) ≤ length out

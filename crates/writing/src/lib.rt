@@ -43,6 +43,9 @@ fn laid_out(w: &mut [u16], n: usize, kind: u16, out: &mut [u8]) -> u16
     requires { ⌜ Ready n kind (now w) (now out) ⌝ }
     ensures { λ r. ⌜ Recorded n kind (now (w .entry)) (now (out .entry)) r (now (w .exit)) (now (out .exit)) ⌝ }
 {
+    if kind == 4 {
+        return letter_packer::pack(w, n / 2, out);
+    }
     encoder::encode(w, n);
     packer::pack(w, kind, n / 2, out)
 }
