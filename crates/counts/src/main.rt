@@ -1,4 +1,4 @@
-// Reads every payload of a record with one, two or three edges, in both kinds, and prints kind, edges, payloads and how many of them are read: that is how
+// Reads every payload of a record with one, two or three edges, in all kinds, and prints kind, edges, payloads and how many of them are read: that is how
 // many plans there are up to renumbering. The file stdout has what it must write.
 ghost use Prim.Native.Nat.{_≤_};
 use model::ReadBack;
@@ -56,4 +56,7 @@ fn main() {
     line(2, 1, 8, 65536);
     line(2, 2, 8, 65536);
     line(2, 3, 8, 65536);
+    line(4, 1, 7, 256);
+    line(4, 2, 7, 256);
+    line(4, 3, 8, 65536);
 }

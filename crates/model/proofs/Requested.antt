@@ -7,9 +7,10 @@ use mathlib.Core.Path.{_≡_, refl}
 use mathlib.Core.List.{List, [], _∷_}
 use Prim.Native.Nat.{ℕ}
 use lib.Dec.{T}
+use lib.IntN.{pos}
 use lib.ListN.{getD, take}
 use Rattle.model.specs.Shelf.{same, firstEqual, met, asLong, compared}
-use Rattle.model.proofs.Line.{Writes, record-is, refused, allHold}
+use Rattle.model.proofs.Line.{Writes, record-is, refused, not-planar, allHold}
 use Rattle.model.proofs.Opened.{writing-opened}
 
 -- (a) "Order 0 2 5 4 3 1, start 0, is then 08 00 01 00 03 00 E1 00": from any other start its dead end is not the start's. One trail has two dead ends.
@@ -23,6 +24,18 @@ requested =
     ∷ record { kind = 1; root = 5; rotation = 0 ∷ 2 ∷ 5 ∷ 4 ∷ 3 ∷ 1 ∷ []; says = refused 12 }
     ∷ record { kind = 1; root = 0; rotation = 0 ∷ 1 ∷ []; says = refused 12 }
     ∷ record { kind = 1; root = 1; rotation = 0 ∷ 1 ∷ []; says = refused 12 }
+    -- (c) "A single loop gives 07 00 04 00 01 00 B0." One trail, the triangle, three parallel trails, the spur. 9 and 10 are given as in any kind; 11 in the others; 3 and 5 are no kinds.
+    ∷ record { kind = 4; root = 0; rotation = 1 ∷ 0 ∷ []; says = record-is (0x07 ∷ 0x00 ∷ 0x04 ∷ 0x00 ∷ 0x01 ∷ 0x00 ∷ 0xB0 ∷ []) }
+    ∷ record { kind = 4; root = 0; rotation = 0 ∷ 1 ∷ []; says = record-is (0x07 ∷ 0x00 ∷ 0x04 ∷ 0x00 ∷ 0x01 ∷ 0x00 ∷ 0x10 ∷ []) }
+    ∷ record { kind = 4; root = 0; rotation = 5 ∷ 2 ∷ 1 ∷ 4 ∷ 3 ∷ 0 ∷ []; says = record-is (0x08 ∷ 0x00 ∷ 0x04 ∷ 0x00 ∷ 0x03 ∷ 0x00 ∷ 0x09 ∷ 0x70 ∷ []) }
+    ∷ record { kind = 4; root = 0; rotation = 5 ∷ 2 ∷ 4 ∷ 0 ∷ 1 ∷ 3 ∷ []; says = record-is (0x08 ∷ 0x00 ∷ 0x04 ∷ 0x00 ∷ 0x03 ∷ 0x00 ∷ 0x29 ∷ 0xF0 ∷ []) }
+    ∷ record { kind = 4; root = 0; rotation = 0 ∷ 2 ∷ 5 ∷ 4 ∷ 3 ∷ 1 ∷ []; says = record-is (0x08 ∷ 0x00 ∷ 0x04 ∷ 0x00 ∷ 0x03 ∷ 0x00 ∷ 0x09 ∷ 0xD0 ∷ []) }
+    ∷ record { kind = 4; root = 0; rotation = 0 ∷ 1 ∷ 2 ∷ 3 ∷ []; says = refused 9 }
+    ∷ record { kind = 4; root = 0; rotation = 3 ∷ 2 ∷ 4 ∷ 5 ∷ 1 ∷ 0 ∷ []; says = not-planar (pos 0) }
+    ∷ record { kind = 1; root = 0; rotation = 1 ∷ 0 ∷ []; says = refused 11 }
+    ∷ record { kind = 2; root = 0; rotation = 1 ∷ 0 ∷ []; says = refused 11 }
+    ∷ record { kind = 3; root = 0; rotation = 1 ∷ 0 ∷ []; says = refused 2 }
+    ∷ record { kind = 5; root = 0; rotation = 1 ∷ 0 ∷ []; says = refused 2 }
     ∷ []
 
 pub requested-hold : T (allHold requested)

@@ -1,4 +1,4 @@
--- Small plans of both kinds, accepted and refused, with the answers of the second coder (tests/second_coder). `tests/vectors.py` prints the lines.
+-- Small plans of all kinds, accepted and refused, with the answers of the second coder (tests/second_coder). `tests/vectors.py` prints the lines.
 --
 --   vectors              the lines
 --   vectors-hold         the definitions say the same
@@ -78,6 +78,33 @@ vectors =
     ∷ record { kind = 1; root = 3; rotation = 9 ∷ 4 ∷ 8 ∷ 3 ∷ 7 ∷ 0 ∷ 5 ∷ 2 ∷ 1 ∷ 6 ∷ []; says = standard-is (8 ∷ 0 ∷ 1 ∷ 0 ∷ 5 ∷ 0 ∷ 234 ∷ 22 ∷ []) (0 ∷ 2 ∷ 9 ∷ 4 ∷ 6 ∷ 1 ∷ 8 ∷ 5 ∷ 3 ∷ 7 ∷ []) }
     ∷ record { kind = 1; root = 9; rotation = 7 ∷ 4 ∷ 5 ∷ 6 ∷ 8 ∷ 2 ∷ 1 ∷ 0 ∷ 3 ∷ 9 ∷ []; says = standard-is (8 ∷ 0 ∷ 1 ∷ 0 ∷ 5 ∷ 0 ∷ 230 ∷ 6 ∷ []) (0 ∷ 2 ∷ 6 ∷ 4 ∷ 3 ∷ 1 ∷ 9 ∷ 8 ∷ 7 ∷ 5 ∷ []) }
     ∷ record { kind = 1; root = 2; rotation = 6 ∷ 1 ∷ 2 ∷ 7 ∷ 3 ∷ 5 ∷ 0 ∷ 4 ∷ []; says = refused 12 }
+    ∷ record { kind = 4; root = 5; rotation = 6 ∷ 1 ∷ 4 ∷ 8 ∷ 2 ∷ 7 ∷ 3 ∷ 5 ∷ 9 ∷ 0 ∷ []; says = standard-is (9 ∷ 0 ∷ 4 ∷ 0 ∷ 5 ∷ 0 ∷ 11 ∷ 25 ∷ 112 ∷ []) (9 ∷ 2 ∷ 1 ∷ 4 ∷ 5 ∷ 6 ∷ 8 ∷ 7 ∷ 3 ∷ 0 ∷ []) }
+    ∷ record { kind = 4; root = 0; rotation = 2 ∷ 4 ∷ 0 ∷ 5 ∷ 1 ∷ 3 ∷ []; says = standard-is (8 ∷ 0 ∷ 4 ∷ 0 ∷ 3 ∷ 0 ∷ 9 ∷ 112 ∷ []) (5 ∷ 2 ∷ 1 ∷ 4 ∷ 3 ∷ 0 ∷ []) }
+    ∷ record { kind = 4; root = 0; rotation = 0 ∷ 1 ∷ []; says = standard-is (7 ∷ 0 ∷ 4 ∷ 0 ∷ 1 ∷ 0 ∷ 16 ∷ []) (0 ∷ 1 ∷ []) }
+    ∷ record { kind = 4; root = 0; rotation = 9 ∷ 2 ∷ 8 ∷ 4 ∷ 7 ∷ 0 ∷ 5 ∷ 3 ∷ 1 ∷ 6 ∷ []; says = standard-is (9 ∷ 0 ∷ 4 ∷ 0 ∷ 5 ∷ 0 ∷ 10 ∷ 103 ∷ 240 ∷ []) (9 ∷ 2 ∷ 8 ∷ 4 ∷ 6 ∷ 0 ∷ 3 ∷ 5 ∷ 1 ∷ 7 ∷ []) }
+    ∷ record { kind = 4; root = 1; rotation = 6 ∷ 3 ∷ 4 ∷ 2 ∷ 1 ∷ 7 ∷ 0 ∷ 5 ∷ []; says = standard-is (8 ∷ 0 ∷ 4 ∷ 0 ∷ 4 ∷ 0 ∷ 9 ∷ 111 ∷ []) (6 ∷ 2 ∷ 1 ∷ 4 ∷ 3 ∷ 0 ∷ 7 ∷ 5 ∷ []) }
+    ∷ record { kind = 4; root = 3; rotation = 4 ∷ 7 ∷ 3 ∷ 0 ∷ 8 ∷ 1 ∷ 9 ∷ 2 ∷ 6 ∷ 5 ∷ []; says = not-planar (pos 0) }
+    ∷ record { kind = 4; root = 2; rotation = 3 ∷ 2 ∷ 1 ∷ 0 ∷ []; says = standard-is (7 ∷ 0 ∷ 4 ∷ 0 ∷ 2 ∷ 0 ∷ 39 ∷ []) (3 ∷ 2 ∷ 1 ∷ 0 ∷ []) }
+    ∷ record { kind = 4; root = 4; rotation = 5 ∷ 4 ∷ 3 ∷ 7 ∷ 2 ∷ 0 ∷ 6 ∷ 1 ∷ []; says = standard-is (8 ∷ 0 ∷ 4 ∷ 0 ∷ 4 ∷ 0 ∷ 38 ∷ 199 ∷ []) (4 ∷ 2 ∷ 1 ∷ 0 ∷ 5 ∷ 6 ∷ 3 ∷ 7 ∷ []) }
+    ∷ record { kind = 4; root = 1; rotation = 3 ∷ 5 ∷ 4 ∷ 2 ∷ 0 ∷ 1 ∷ []; says = standard-is (8 ∷ 0 ∷ 4 ∷ 0 ∷ 3 ∷ 0 ∷ 46 ∷ 112 ∷ []) (5 ∷ 2 ∷ 3 ∷ 4 ∷ 1 ∷ 0 ∷ []) }
+    ∷ record { kind = 4; root = 5; rotation = []; says = refused 3 }
+    ∷ record { kind = 4; root = 7; rotation = 9 ∷ 6 ∷ 8 ∷ 3 ∷ 5 ∷ 2 ∷ 1 ∷ 4 ∷ 7 ∷ 0 ∷ []; says = standard-is (9 ∷ 0 ∷ 4 ∷ 0 ∷ 5 ∷ 0 ∷ 9 ∷ 108 ∷ 112 ∷ []) (6 ∷ 2 ∷ 1 ∷ 4 ∷ 3 ∷ 0 ∷ 7 ∷ 8 ∷ 5 ∷ 9 ∷ []) }
+    ∷ record { kind = 4; root = 2; rotation = 5 ∷ 3 ∷ 4 ∷ 1 ∷ 2 ∷ 0 ∷ []; says = standard-is (8 ∷ 0 ∷ 4 ∷ 0 ∷ 3 ∷ 0 ∷ 9 ∷ 112 ∷ []) (5 ∷ 2 ∷ 1 ∷ 4 ∷ 3 ∷ 0 ∷ []) }
+    ∷ record { kind = 4; root = 65535; rotation = 3 ∷ 0 ∷ 2 ∷ 1 ∷ []; says = refused 4 }
+    ∷ record { kind = 4; root = 4; rotation = 1 ∷ 6 ∷ 4 ∷ 7 ∷ 3 ∷ 2 ∷ 0 ∷ 5 ∷ []; says = not-planar (pos 0) }
+    ∷ record { kind = 4; root = 2; rotation = 2 ∷ 3 ∷ 0 ∷ 1 ∷ []; says = standard-is (7 ∷ 0 ∷ 4 ∷ 0 ∷ 2 ∷ 0 ∷ 39 ∷ []) (3 ∷ 2 ∷ 1 ∷ 0 ∷ []) }
+    ∷ record { kind = 4; root = 1; rotation = 1 ∷ 0 ∷ []; says = standard-is (7 ∷ 0 ∷ 4 ∷ 0 ∷ 1 ∷ 0 ∷ 176 ∷ []) (1 ∷ 0 ∷ []) }
+    ∷ record { kind = 4; root = 1; rotation = 4 ∷ 7 ∷ 6 ∷ 5 ∷ 0 ∷ 3 ∷ 2 ∷ 1 ∷ []; says = standard-is (8 ∷ 0 ∷ 4 ∷ 0 ∷ 4 ∷ 0 ∷ 2 ∷ 87 ∷ []) (7 ∷ 2 ∷ 1 ∷ 4 ∷ 3 ∷ 6 ∷ 5 ∷ 0 ∷ []) }
+    ∷ record { kind = 4; root = 2; rotation = 0 ∷ 3 ∷ 2 ∷ 5 ∷ 4 ∷ 8 ∷ 6 ∷ 1 ∷ 7 ∷ 9 ∷ []; says = standard-is (9 ∷ 0 ∷ 4 ∷ 0 ∷ 5 ∷ 0 ∷ 4 ∷ 68 ∷ 80 ∷ []) (0 ∷ 2 ∷ 4 ∷ 3 ∷ 6 ∷ 5 ∷ 8 ∷ 7 ∷ 1 ∷ 9 ∷ []) }
+    ∷ record { kind = 4; root = 2; rotation = 4 ∷ 6 ∷ 7 ∷ 5 ∷ 0 ∷ 3 ∷ 1 ∷ 2 ∷ []; says = standard-is (8 ∷ 0 ∷ 4 ∷ 0 ∷ 4 ∷ 0 ∷ 2 ∷ 87 ∷ []) (7 ∷ 2 ∷ 1 ∷ 4 ∷ 3 ∷ 6 ∷ 5 ∷ 0 ∷ []) }
+    ∷ record { kind = 4; root = 1; rotation = 0 ∷ 1 ∷ []; says = standard-is (7 ∷ 0 ∷ 4 ∷ 0 ∷ 1 ∷ 0 ∷ 16 ∷ []) (0 ∷ 1 ∷ []) }
+    ∷ record { kind = 4; root = 5; rotation = 0 ∷ 2 ∷ 5 ∷ 1 ∷ 3 ∷ 4 ∷ []; says = standard-is (8 ∷ 0 ∷ 4 ∷ 0 ∷ 3 ∷ 0 ∷ 184 ∷ 112 ∷ []) (1 ∷ 2 ∷ 4 ∷ 0 ∷ 3 ∷ 5 ∷ []) }
+    ∷ record { kind = 4; root = 2; rotation = 0 ∷ 1 ∷ 6 ∷ 7 ∷ 2 ∷ 3 ∷ 4 ∷ 5 ∷ []; says = refused 9 }
+    ∷ record { kind = 4; root = 3; rotation = 2 ∷ 3 ∷ 0 ∷ 3 ∷ []; says = refused 6 }
+    ∷ record { kind = 4; root = 0; rotation = 1 ∷ 0 ∷ []; says = standard-is (7 ∷ 0 ∷ 4 ∷ 0 ∷ 1 ∷ 0 ∷ 176 ∷ []) (1 ∷ 0 ∷ []) }
+    ∷ record { kind = 4; root = 1; rotation = 0 ∷ 2 ∷ 3 ∷ 1 ∷ []; says = standard-is (7 ∷ 0 ∷ 4 ∷ 0 ∷ 2 ∷ 0 ∷ 27 ∷ []) (2 ∷ 1 ∷ 3 ∷ 0 ∷ []) }
+    ∷ record { kind = 4; root = 4; rotation = 0 ∷ 1 ∷ 6 ∷ 7 ∷ 2 ∷ 3 ∷ 5 ∷ 4 ∷ []; says = refused 9 }
+    ∷ record { kind = 4; root = 2; rotation = 2 ∷ 0 ∷ 3 ∷ 1 ∷ []; says = standard-is (7 ∷ 0 ∷ 4 ∷ 0 ∷ 2 ∷ 0 ∷ 187 ∷ []) (1 ∷ 2 ∷ 3 ∷ 0 ∷ []) }
     ∷ []
 
 pub vectors-hold : T (allHold vectors)
