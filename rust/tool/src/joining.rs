@@ -159,23 +159,24 @@ fn add_loops(graph: &Graph, bundles: &mut Vec<Bundle>) -> Option<usize> {
 /// in none of these is the first.
 fn loop_ends(graph: &Graph, u: usize) -> Vec<Vec<usize>> {
     let parts = parts_without(graph, &[u]);
-    let entries = || graph[u].iter().map(|&neighbour| parts[neighbour]).enumerate();
-    // The first and the last entry of each part.
-    let mut spans = BTreeMap::new();
-    entries().for_each(|(index, part)| spans.entry(part).or_insert((index, index)).1 = index);
+    // How many entries of each part are still to come, and how many there are.
+    let mut left = vec![0; graph.len()];
+    graph[u].iter().filter(|&&neighbour| neighbour != u).for_each(|&neighbour| left[parts[neighbour]] += 1);
+    let all = left.clone();
     let mut regions = vec![Vec::new()];
     // The regions that an entry lies in, the innermost last.
     let mut around = vec![0];
-    for (index, part) in entries() {
-        if part == usize::MAX {
+    for (index, &neighbour) in graph[u].iter().enumerate() {
+        if neighbour == u {
             regions[around[around.len() - 1]].push(index);
             continue;
         }
-        let (first, last) = spans[&part];
-        if first < index {
+        let part = parts[neighbour];
+        if left[part] < all[part] {
             around.pop();
         }
-        if index < last {
+        left[part] -= 1;
+        if left[part] > 0 {
             around.push(regions.len());
             regions.push(Vec::new());
         }
