@@ -266,9 +266,10 @@ impl core::iter::FusedIterator for Walk<'_> {}
 /// Refusals 14, 15; so a walk from the number just past the last record is 15.
 ///
 /// ```
-/// let shelf = [0x07, 0, 0x01, 0, 0x02, 0, 0xC8, 0x08, 0, 0x02, 0, 0x01, 0, 0x80, 0xA2];
-/// let mut walk = jurnadel::walk(&shelf, shelf.len(), 0)?;
-/// assert_eq!((walk.next(), walk.next(), walk.next()), (Some(&shelf[..7]), Some(&shelf[7..]), None));
+/// // Records of kinds 1, 2 and 4.
+/// let shelf = [7, 0, 1, 0, 2, 0, 0xC8, 8, 0, 2, 0, 1, 0, 0x80, 0xA2, 7, 0, 4, 0, 1, 0, 0xB0];
+/// let walk = jurnadel::walk(&shelf, shelf.len(), 0)?;
+/// assert!(walk.eq([&shelf[..7], &shelf[7..15], &shelf[15..]]));
 /// # Ok::<(), jurnadel::Refusal>(())
 /// ```
 pub fn walk(shelf: &[u8], used: usize, number: usize) -> Result<Walk<'_>, Refusal> {
