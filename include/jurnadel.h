@@ -53,9 +53,9 @@ extern "C" {
 /* ---- Version ---------------------------------------------------------------------- */
 
 #define JURNADEL_VERSION_MAJOR 0
-#define JURNADEL_VERSION_MINOR 3
-#define JURNADEL_VERSION_PATCH 2
-#define JURNADEL_VERSION "0.3.2"
+#define JURNADEL_VERSION_MINOR 4
+#define JURNADEL_VERSION_PATCH 0
+#define JURNADEL_VERSION "0.4.0"
 
 /* ---- Sizes ------------------------------------------------------------------------ */
 
@@ -71,21 +71,26 @@ extern "C" {
 /* The turning order of m trails: 2m numbers, 4m bytes. */
 #define JURNADEL_ORDER_LEN(m) ((size_t)2 * (m))
 
-/* A record of this kind (1 or 2) and m trails (1 to 4,096), in bytes. */
+/*
+ * A record of this kind (1, 2 or 4) and m trails (1 to 4,096), in bytes. Kind 4 is the longest, but for 1, 2 and 6 trails,
+ * where kind 2 has a byte more.
+ */
 #define JURNADEL_RECORD_LEN(kind, m) \
-    ((size_t)6 + ((kind) == 1 ? (3 * (size_t)(m) + 7) / 8 : (2 * (size_t)(m) + 7) / 8 + ((size_t)(m) + 4) / 5))
+    ((size_t)6 + ((kind) == 1   ? (3 * (size_t)(m) + 7) / 8 \
+                  : (kind) == 2 ? (2 * (size_t)(m) + 7) / 8 + ((size_t)(m) + 4) / 5 \
+                                : ((size_t)(m) + 1) / 2))
 
 /* Lengths that serve every plan and every record. */
 #define JURNADEL_MAX_WORK_LEN JURNADEL_WORK_LEN(JURNADEL_MAX_TRAILS)        /* 131,072 numbers, 262,144 bytes */
 #define JURNADEL_MAX_ORDER_LEN JURNADEL_ORDER_LEN(JURNADEL_MAX_TRAILS)      /* 8,192 numbers, 16,384 bytes */
-#define JURNADEL_MAX_RECORD_LEN JURNADEL_RECORD_LEN(2, JURNADEL_MAX_TRAILS) /* 1,850 bytes */
+#define JURNADEL_MAX_RECORD_LEN JURNADEL_RECORD_LEN(4, JURNADEL_MAX_TRAILS) /* 2,054 bytes */
 
 /* The same as functions, for callers that know kind and m only when they run. */
 
 /* The work area, in 16-bit numbers: 32 * trails. */
 size_t jurnadel_work_length(uint16_t trails);
 
-/* The record, in bytes; 0 where there is none: the kind is not 1 or 2, or trails is 0 or above 4,096. */
+/* The record, in bytes; 0 where there is none: the kind is not 1, 2 or 4, or trails is 0 or above 4,096. */
 uint16_t jurnadel_record_length(uint16_t kind, uint16_t trails);
 
 /* ---- Refusals, in checking order -------------------------------------------------- */
@@ -93,7 +98,7 @@ uint16_t jurnadel_record_length(uint16_t kind, uint16_t trails);
 enum {
     JURNADEL_DONE = 0,            /* not refused */
     JURNADEL_RECORD_CUT = 1,      /* The record has fewer than 6 bytes, or its length field isn't the number of bytes lent. */
-    JURNADEL_BAD_KIND = 2,        /* The kind is not 1 or 2. */
+    JURNADEL_BAD_KIND = 2,        /* The kind is not 1, 2 or 4. */
     JURNADEL_BAD_COUNT = 3,       /* The dart count is 0, odd or above 8,192; in a record, m is 0 or above 4,096. */
     JURNADEL_BAD_START = 4,       /* The start is not below the dart count. */
     JURNADEL_BAD_LENGTH = 5,      /* The length is not the one for this kind and m. */
@@ -102,7 +107,7 @@ enum {
     JURNADEL_SHORT_OUTPUT = 8,    /* The output is shorter than the record, or than 2m entries. */
     JURNADEL_NOT_CONNECTED = 9,   /* The plan is not connected. */
     JURNADEL_NOT_PLANAR = 10,     /* It is not planar; this answer also gives the characteristic, as a signed number. */
-    JURNADEL_HAS_LOOP = 11,       /* It has a loop. */
+    JURNADEL_HAS_LOOP = 11,       /* Kind 1 or 2, and it has a loop. */
     JURNADEL_HAS_DEGREE_ONE = 12, /* Kind 1, and a junction other than the start's has degree one. */
     JURNADEL_NO_FIT_PLAN = 13,    /* No fit plan of this kind has this record. */
     JURNADEL_SHELF_BROKEN = 14,   /* The used length exceeds the shelf, or the used bytes are not records end to end that each pass 1, 2, 3 and 5. */
@@ -117,15 +122,16 @@ enum {
  *
  *   order, darts         the turning order, darts = 2m entries
  *   start                the start dart
- *   kind                 1: no loop, no junction of degree one but the start's; 2: no loop
+ *   kind                 1: no loop, no junction of degree one but the start's; 2: no loop;
+ *                        4: any connected planar plan
  *   work, work_len       JURNADEL_WORK_LEN(m) numbers or more, any content; zeros on return
  *   output, output_len   JURNADEL_RECORD_LEN(kind, m) bytes or more; the first *length are filled
  *   length               the record's length; 0 if refused
  *   characteristic       of refusal 10: junctions minus trails plus areas; else 0
  *
- * Refusals: 2, 3, 4, 6, 7, 8, 9, 10, 11, 12. Two plans that are not refused get equal bytes
- * in one kind exactly when one is the other with its darts renumbered: start to start, opposite
- * ends to opposite ends, turning order to turning order.
+ * Refusals: 2, 3, 4, 6, 7, 8, 9, 10, then 11 in kinds 1 and 2 and 12 in kind 1. Two plans that are
+ * not refused get equal bytes in one kind exactly when one is the other with its darts renumbered:
+ * start to start, opposite ends to opposite ends, turning order to turning order.
  */
 uint16_t jurnadel_write(const uint16_t *order, size_t darts, uint16_t start, uint16_t kind,
                         uint16_t *work, size_t work_len, uint8_t *output, size_t output_len,

@@ -23,7 +23,7 @@ def request(case):
     if order is None:
         entries = name.removeprefix("order")
         order = [] if "length 0" in entries else [int(entry) for entry in entries.split()]
-    given = {"start": 0, "work area": 32 * (len(order) // 2) or 32, "output": 1850}
+    given = {"start": 0, "work area": 32 * (len(order) // 2) or 32, "output": 2054}
     for detail in details:
         key, _, value = detail.rpartition(" ")
         given[key] = int(value) if value.isdigit() else value

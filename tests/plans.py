@@ -1,8 +1,9 @@
 #!/usr/bin/env python3
-"""Prints COUNT plans of TRAILS trails as `jurnadel write --lines` takes them: plans.py COUNT [TRAILS [SEED]].
+"""Prints COUNT plans of TRAILS trails as `jurnadel write --lines` takes them: plans.py COUNT [TRAILS [SEED [LOOPS]]].
 
-A map is grown trail by trail from two parallel trails, half of the maps without dead ends. Each map gives several plans, each
-with a start taken at random and numbered anew, so that some are the same plan in another numbering.
+A map is grown trail by trail from two parallel trails, half of the maps without dead ends; about LOOPS of a hundred trails are
+loops. Each map gives several plans, each with a start taken at random and numbered anew, so that some are the same plan in
+another numbering.
 """
 import random
 import sys
@@ -27,7 +28,17 @@ def joined(order, at, corner, steps):
     return None
 
 
-def grown(trails, hanging, rng):
+def returning(order, at, corner, steps):
+    """A corner of the same area and junction, within so many steps."""
+    other = end = corner
+    for _ in range(steps):
+        other = order[other] ^ 1
+        if at[other] == at[corner]:
+            end = other
+    return end
+
+
+def grown(trails, hanging, loops, rng):
     """The turning order of a random map; `hanging` of a hundred trails lead to a new junction with no other trail."""
     order = [3, 2, 1, 0]
     at = [0, 1, 1, 0]
@@ -36,7 +47,12 @@ def grown(trails, hanging, rng):
         corner = rng.randrange(dart)
         order += [dart, dart + 1]
         at += [at[corner], dart]
-        if rng.randrange(100) < hanging:
+        if loops and rng.randrange(100) < loops:
+            end = returning(order, at, corner, rng.randrange(12))
+            insert(order, corner, dart)
+            insert(order, dart if end == corner else end, dart + 1)
+            at[dart + 1] = at[corner]
+        elif rng.randrange(100) < hanging:
             insert(order, corner, dart)
         elif rng.randrange(100) < 50:
             divide(order, at, corner, dart)
@@ -71,13 +87,13 @@ def numberings(trails, rng):
         yield number, inverse
 
 
-def plans(count, trails=40, seed=1):
+def plans(count, trails=40, seed=1, loops=0):
     rng = random.Random(seed)
     names = [str(dart) for dart in range(2 * trails)]
     known = list(numberings(trails, rng))
     for plan in range(count):
         if plan % PLANS_OF_A_MAP == 0:
-            order = grown(trails, rng.choice((0, 30)), rng)
+            order = grown(trails, rng.choice((0, 30)), loops, rng)
         number, inverse = rng.choice(known)
         start = rng.randrange(2 * trails)
         yield " ".join([names[number[start]], *(names[number[order[dart]]] for dart in inverse)])

@@ -107,7 +107,7 @@ def standing(used_bytes, place):
     if len(rest) < 6:
         return b""
     length, kind, m = struct.unpack("<3H", rest[:6])
-    lengths = {1: 6 + (3 * m + 7) // 8, 2: 6 + (2 * m + 7) // 8 + (m + 4) // 5}
+    lengths = {1: 6 + (3 * m + 7) // 8, 2: 6 + (2 * m + 7) // 8 + (m + 4) // 5, 4: 6 + (m + 1) // 2}
     passes = 6 <= length <= len(rest) and kind in lengths and 1 <= m <= 4096 and length == lengths[kind]
     return rest[:length] if passes else b""
 

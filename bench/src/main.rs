@@ -15,6 +15,7 @@ use std::hint::black_box;
 use std::time::Instant;
 
 const SIZES: [usize; 5] = [16, 64, 256, 1024, 4096];
+const KINDS: [u16; 3] = [1, 2, 4];
 const ROUNDS: usize = 60;
 /// A round takes about this long, or one call.
 const ROUND_NS: f64 = 200_000.0;
@@ -137,9 +138,12 @@ struct Row {
     times: [[f64; 3]; 2],
 }
 
+/// Ratios of writing and of reading.
+type Ratios = [f64; 2];
+
 impl Row {
     /// The proved library's time by the peer's.
-    fn to_peer(&self) -> [f64; 2] {
+    fn to_peer(&self) -> Ratios {
         self.times.map(|[proved, _, peer]| proved / peer)
     }
 
@@ -183,35 +187,88 @@ fn print_growths(rows: &[Row]) {
     }
 }
 
-/// The ratios to the peer, of writing and of reading: their geometric means, then the worst.
+fn geometric_mean(ratios: &[Ratios]) -> Ratios {
+    [0, 1].map(|i| {
+        (ratios.iter().map(|ratio| ratio[i].ln()).sum::<f64>() / ratios.len() as f64).exp()
+    })
+}
+
+fn worst(ratios: &[Ratios]) -> Ratios {
+    [0, 1].map(|i| ratios.iter().map(|ratio| ratio[i]).fold(0.0, f64::max))
+}
+
+/// The proved library's times of one plan in kind 4 by those in kind 2; the kinds take turns.
+fn time_kinds(plan: &Plan) -> Ratios {
+    let [mut four, mut two] = [4, 2].map(|kind| {
+        let [proved, ..] = CODERS;
+        Lent::new(proved, plan, kind)
+    });
+    let writing = least([&mut || _ = four.write(), &mut || _ = two.write()]);
+    let reading = least([&mut || _ = four.read(), &mut || _ = two.read()]);
+    [writing, reading].map(|[four, two]| four / two)
+}
+
+/// Kind 4 beside kind 2: geometric means over all plans that both take, and the worst.
+fn print_kinds() {
+    let mut names = Vec::new();
+    let mut ratios = Vec::new();
+    for (name, m, plan) in all_plans().filter(|(_, _, plan)| plan.kinds.contains(&2)) {
+        names.push(format!("{name}, m = {m}"));
+        ratios.push(time_kinds(&plan));
+    }
+    let (count, mean) = (ratios.len(), geometric_mean(&ratios));
+    let [write, read] = [0, 1].map(|i| {
+        let by_ratio = |&a: &usize, &b: &usize| ratios[a][i].total_cmp(&ratios[b][i]);
+        let worst = (0..count).max_by(by_ratio).unwrap_or_default();
+        let (mean, worst, name) = (mean[i], ratios[worst][i], &names[worst]);
+        format!("{mean:.2} (worst {worst:.2}: {name})")
+    });
+    println!("kind 4 by kind 2, geometric mean of {count} plans: write {write}, read {read}");
+}
+
+/// The ratios to the peer: their geometric means, for each kind and for all, then the worst.
 fn print_ratios(rows: &[Row]) {
-    let ratios = |i: usize| rows.iter().map(move |row| row.to_peer()[i]);
-    let mean = |i| (ratios(i).map(f64::ln).sum::<f64>() / rows.len() as f64).exp();
-    let worst = |i| ratios(i).fold(0.0, f64::max);
-    let (count, [write, read]) = (rows.len(), [0, 1].map(mean));
-    println!("geometric mean of {count} ratios to peer: write {write:.2}, read {read:.2}");
-    let [write, read] = [0, 1].map(worst);
+    let ratios = |kinds: &[u16]| -> Vec<Ratios> {
+        let of_kinds = rows.iter().filter(|row| kinds.contains(&row.kind));
+        of_kinds.map(Row::to_peer).collect()
+    };
+    let print_mean = |kinds: &[u16], name: &str| {
+        let ratios = ratios(kinds);
+        let (count, [write, read]) = (ratios.len(), geometric_mean(&ratios));
+        println!(
+            "geometric mean of {count} ratios to peer{name}: write {write:.2}, read {read:.2}"
+        );
+    };
+    for kind in KINDS {
+        print_mean(&[kind], &format!(", kind {kind}"));
+    }
+    print_mean(&KINDS, "");
+    let [write, read] = worst(&ratios(&KINDS));
     println!("worst ratio to peer: write {write:.2}, read {read:.2}");
+}
+
+/// The plans that are timed: of each shape one of each size.
+fn all_plans() -> impl Iterator<Item = (&'static str, usize, Plan)> {
+    let of_shape =
+        |(name, shape)| SIZES.map(|m| (name, m, plans::plan(shape, m, &mut Rng::new(m as u64))));
+    plans::SHAPES.into_iter().flat_map(of_shape)
 }
 
 /// Times of the coders for all plans.
 fn time_coders() -> Vec<Row> {
     print_heading();
     let mut rows = Vec::new();
-    for (name, shape) in plans::SHAPES {
-        for m in SIZES {
-            let plan = plans::plan(shape, m, &mut Rng::new(m as u64));
-            for &kind in plan.kinds {
-                let times = time_plan(&plan, kind);
-                let row = Row {
-                    name,
-                    kind,
-                    m,
-                    times,
-                };
-                row.print();
-                rows.push(row);
-            }
+    for (name, m, plan) in all_plans() {
+        for &kind in plan.kinds {
+            let times = time_plan(&plan, kind);
+            let row = Row {
+                name,
+                kind,
+                m,
+                times,
+            };
+            row.print();
+            rows.push(row);
         }
     }
     print_growths(&rows);
@@ -347,5 +404,6 @@ fn main() {
     let rows = time_coders();
     time_shelf();
     println!();
+    print_kinds();
     print_ratios(&rows);
 }

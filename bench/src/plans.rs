@@ -6,7 +6,7 @@ use second_coder::grow::{grow, Growth, Rng, Shape};
 pub type Maker = fn(usize, &mut Rng) -> Growth;
 
 /// What a plan looks like: its name in the table and its maker.
-pub const SHAPES: [(&str, Maker); 7] = [
+pub const SHAPES: [(&str, Maker); 8] = [
     ("tree, few more", tree),
     ("triangles", triangles),
     ("parallel", parallel),
@@ -14,9 +14,11 @@ pub const SHAPES: [(&str, Maker); 7] = [
     ("mixed", |m, rng| grow(Shape::Mixed, m, rng)),
     ("two-connected", |m, rng| grow(Shape::TwoConnected, m, rng)),
     ("spur", spur),
+    ("loops", loops),
 ];
 
-/// A plan: its turning order, renumbered at random, and the kinds that it is timed in. With one dead end it starts there.
+/// A plan: its turning order, renumbered at random, and the kinds that it is timed in. With one dead end and no loop it starts
+/// there.
 pub struct Plan {
     pub order: Vec<u16>,
     pub start: u16,
@@ -36,10 +38,12 @@ pub fn plan(shape: Maker, m: usize, rng: &mut Rng) -> Plan {
         .filter(|(dart, next)| dart == *next)
         .map(|(dart, _)| dart)
         .collect();
+    let is_loop = |trail: usize| growth.same_junction(2 * trail, 2 * trail + 1);
     let (start, kinds): (u16, &[u16]) = match ends[..] {
-        [] => (start, &[1, 2]),
-        [end] => (end, &[1]),
-        _ => (start, &[2]),
+        _ if (0..m).any(is_loop) => (start, &[4]),
+        [] => (start, &[1, 2, 4]),
+        [end] => (end, &[1, 4]),
+        _ => (start, &[2, 4]),
     };
     Plan {
         order,
@@ -65,6 +69,20 @@ fn tree(m: usize, rng: &mut Rng) -> Growth {
 fn spur(m: usize, rng: &mut Rng) -> Growth {
     let mut growth = grow(Shape::TwoConnected, m - 1, rng);
     growth.hang(rng.below(growth.darts()));
+    growth
+}
+
+/// Loops beside each other and within each other, dead ends, and trails across an area.
+fn loops(m: usize, rng: &mut Rng) -> Growth {
+    let mut growth = Growth::ring();
+    while growth.trails() < m {
+        let (corner, reach) = (rng.below(growth.darts()), 1 + rng.below(20));
+        match rng.below(3) {
+            0 => _ = growth.loop_at(corner, reach),
+            1 => _ = growth.join_on(corner, reach),
+            _ => _ = growth.hang(corner),
+        }
+    }
     growth
 }
 

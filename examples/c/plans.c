@@ -7,7 +7,7 @@
 
 static uint16_t work[JURNADEL_WORK_LEN(MAX_TRAILS)];
 static uint16_t order[JURNADEL_ORDER_LEN(MAX_TRAILS)];
-static uint8_t record[JURNADEL_RECORD_LEN(2, MAX_TRAILS)];
+static uint8_t record[JURNADEL_RECORD_LEN(4, MAX_TRAILS)];
 static uint8_t shelf[64];
 
 static void show(const uint8_t *bytes, size_t length) {
@@ -23,7 +23,8 @@ int main(void) {
         {"dead end inside a pair", 2, 6, {4, 2, 1, 0, 3, 5}},
         {"triangle, numbered otherwise", 1, 6, {3, 4, 5, 0, 1, 2}},
         {"one trail in from the start", 1, 6, {0, 2, 5, 4, 3, 1}},
-        {"trails that cross", 2, 6, {3, 2, 4, 5, 1, 0}},
+        {"a loop around a dead end", 4, 6, {2, 1, 4, 0, 3, 5}},
+        {"trails that cross", 4, 6, {3, 2, 4, 5, 1, 0}},
     };
     size_t used = 0, number, at, length;
     uint16_t record_length, trails;

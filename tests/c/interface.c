@@ -64,6 +64,11 @@ static void records(void) {
         {2, 2, {3, 2, 1, 0}, 8, {0x08, 0, 2, 0, 2, 0, 0xC0, 0x51}},
         {2, 3, {4, 2, 1, 0, 3, 5}, 8, {0x08, 0, 2, 0, 3, 0, 0xCC, 0x12}},
         {1, 3, {0, 2, 5, 4, 3, 1}, 8, {0x08, 0, 1, 0, 3, 0, 0xE1, 0x00}},
+        {4, 1, {1, 0}, 7, {0x07, 0, 4, 0, 1, 0, 0xB0}},
+        {4, 1, {0, 1}, 7, {0x07, 0, 4, 0, 1, 0, 0x10}},
+        {4, 3, {5, 2, 1, 4, 3, 0}, 8, {0x08, 0, 4, 0, 3, 0, 0x09, 0x70}},
+        {4, 3, {5, 2, 4, 0, 1, 3}, 8, {0x08, 0, 4, 0, 3, 0, 0x29, 0xF0}},
+        {4, 3, {0, 2, 5, 4, 3, 1}, 8, {0x08, 0, 4, 0, 3, 0, 0x09, 0xD0}},
     };
     static uint8_t again[8];
     size_t i;
@@ -96,6 +101,12 @@ static void writing(void) {
     CHECK(refusal_of(stick, 2, 0, 1, 32, 8) == JURNADEL_HAS_DEGREE_ONE);
     CHECK(refusal_of(spur, 6, 0, 1, 96, 8) == JURNADEL_DONE);
     CHECK(refusal_of(spur, 6, 1, 1, 96, 8) == JURNADEL_HAS_DEGREE_ONE);
+    CHECK(refusal_of(ring, 2, 1, 4, 31, 7) == JURNADEL_SHORT_WORK);
+    CHECK(refusal_of(ring, 2, 1, 4, 32, 6) == JURNADEL_SHORT_OUTPUT);
+    CHECK(refusal_of(ring, 2, 1, 4, 32, 7) == JURNADEL_DONE);
+    CHECK(refusal_of(spur, 6, 1, 4, 96, 8) == JURNADEL_DONE);
+    CHECK(refusal_of(apart, 4, 0, 4, 64, 8) == JURNADEL_NOT_CONNECTED);
+    CHECK(refusal_of(crossing, 6, 0, 4, 96, 8) == JURNADEL_NOT_PLANAR && characteristic == 0);
 }
 
 /* A round of 4,096 trails, the longest plan: dart 2e+1 and dart 2e+2 share a junction. */
@@ -107,6 +118,8 @@ static void longest(void) {
     CHECK(length == 1542);
     CHECK(refusal_of(round, JURNADEL_MAX_DARTS, 4095, 2, JURNADEL_MAX_WORK_LEN, sizeof output) == JURNADEL_DONE);
     CHECK(length == 1850);
+    CHECK(refusal_of(round, JURNADEL_MAX_DARTS, 4095, 4, JURNADEL_MAX_WORK_LEN, sizeof output) == JURNADEL_DONE);
+    CHECK(length == 2054);
     CHECK(jurnadel_read(output, length, work, JURNADEL_MAX_WORK_LEN, order, JURNADEL_MAX_ORDER_LEN, &trails) == JURNADEL_DONE);
     CHECK(trails == JURNADEL_MAX_TRAILS && cleared(JURNADEL_MAX_WORK_LEN));
 }
@@ -124,8 +137,10 @@ static void reading(void) {
     CHECK(reads(record, 7, 64, 4) == JURNADEL_DONE && trails == 2);
     CHECK(reads(record, 6, 64, 4) == JURNADEL_RECORD_CUT);
     CHECK(reads(record, 0, 64, 4) == JURNADEL_RECORD_CUT);
-    record[2] = 4;
+    record[2] = 3;
     CHECK(reads(record, 7, 64, 4) == JURNADEL_BAD_KIND);
+    record[2] = 4;
+    CHECK(reads(record, 7, 64, 4) == JURNADEL_NO_FIT_PLAN);
     record[2] = 1, record[4] = 0;
     CHECK(reads(record, 7, 64, 4) == JURNADEL_BAD_COUNT);
     record[4] = 3;
@@ -135,6 +150,12 @@ static void reading(void) {
     CHECK(reads(record, 7, 64, 3) == JURNADEL_SHORT_OUTPUT);
     record[6] = 0xC9;
     CHECK(reads(record, 7, 64, 4) == JURNADEL_NO_FIT_PLAN);
+    record[2] = 4, record[4] = 1, record[6] = 0xB0;
+    CHECK(reads(record, 7, 32, 2) == JURNADEL_DONE && trails == 1 && order[0] == 1 && order[1] == 0);
+    record[6] = 0xB1;
+    CHECK(reads(record, 7, 32, 2) == JURNADEL_NO_FIT_PLAN);
+    record[6] = 0xE0;
+    CHECK(reads(record, 7, 32, 2) == JURNADEL_NO_FIT_PLAN);
 }
 
 static void shelves(void) {
@@ -165,19 +186,20 @@ static void shelves(void) {
 
 static void sizes(void) {
     uint16_t kind, m;
-    for (kind = 1; kind <= 2; kind++)
+    for (kind = 1; kind <= 4; kind += kind)
         for (m = 1; m <= JURNADEL_MAX_TRAILS; m++)
             if (jurnadel_record_length(kind, m) != JURNADEL_RECORD_LEN(kind, m) || jurnadel_work_length(m) != JURNADEL_WORK_LEN(m)) {
                 CHECK(!"the macros are the functions");
                 return;
             }
     CHECK(jurnadel_record_length(1, 0) == 0 && jurnadel_record_length(2, 4097) == 0 && jurnadel_record_length(0, 1) == 0);
-    CHECK(jurnadel_record_length(3, 1) == 0 && jurnadel_record_length(65535, 65535) == 0);
+    CHECK(jurnadel_record_length(3, 1) == 0 && jurnadel_record_length(5, 1) == 0 && jurnadel_record_length(4, 4097) == 0);
+    CHECK(jurnadel_record_length(65535, 65535) == 0);
     /* As numbers, and as bytes. */
     CHECK(JURNADEL_MAX_TRAILS == 4096 && JURNADEL_MAX_DARTS == 8192);
     CHECK(JURNADEL_MAX_WORK_LEN == 131072 && sizeof work == 262144);
     CHECK(JURNADEL_MAX_ORDER_LEN == 8192 && sizeof order == 16384);
-    CHECK(JURNADEL_MAX_RECORD_LEN == 1850 && sizeof output == 1850);
+    CHECK(JURNADEL_MAX_RECORD_LEN == 2054 && sizeof output == 2054);
     CHECK(JURNADEL_WORK_LEN(3) == 96 && JURNADEL_ORDER_LEN(3) == 6);
 }
 

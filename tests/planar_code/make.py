@@ -61,6 +61,10 @@ APART = 4, [(0, 0, 1, 180), (2, 0, 3, 180)]
 CROSSING = straight([(0, 0), (2, 0), (2, 2), (0, 2), (3, 5)],
                     [(0, 1), (1, 2), (2, 3), (3, 0), (0, 2), (1, 3), (4, 0), (4, 1), (4, 2), (4, 3)])
 LOOP = 2, [(0, 0, 1, 180), (0, 100, 0, 140)]
+# Loops on both sides of a double edge, one around a dead end; a vertex beside the double edge tells how it is joined.
+PARK = 4, [(0, 60, 1, 120), (0, 300, 1, 240), (0, 80, 3, 250), (1, 100, 3, 290), (0, 340, 0, 20), (0, 0, 2, 180), (0, 150, 0, 210), (1, 170, 1, 190)]
+# Two loops with nothing between them that is joined elsewhere: they could be in each other.
+PETALS = 2, [(0, 20, 0, 100), (0, 60, 1, 240), (0, 200, 0, 300)]
 
 
 def write(name, data):
@@ -70,12 +74,12 @@ def write(name, data):
 
 def main():
     for name, drawings in [("tetrahedron", [TETRAHEDRON]), ("cube", [CUBE]), ("valley", [VALLEY]), ("doubled", [DOUBLED]),
-                           ("several", [PATH, THETA, TETRAHEDRON])]:
+                           ("several", [PATH, THETA, TETRAHEDRON]), ("loops", [LOOP, PARK])]:
         write(name + ".pc", HEADER + bytes(sum(map(numbers, drawings), [])))
         for i, drawing in enumerate(drawings):
             write("%s-%d.plan" % (name, i + 1), plan(drawing).encode())
     write("wide.pc", b">>planar_code be<<" + b"\0" + b"".join(n.to_bytes(2, "big") for n in numbers(VALLEY)))
-    for name, drawing in [("open", OPEN), ("apart", APART), ("crossing", CROSSING), ("loop", LOOP)]:
+    for name, drawing in [("open", OPEN), ("apart", APART), ("crossing", CROSSING), ("petals", PETALS)]:
         write(name + ".pc", HEADER + bytes(numbers(drawing)))
     write("cut.pc", HEADER + bytes(numbers(CUBE))[:-3])
     write("bare.pc", bytes(numbers(CUBE)))

@@ -7,13 +7,14 @@ fn hex(bytes: &[u8]) -> String {
 }
 
 fn main() -> Result<(), Refusal> {
-    let plans: [(&str, u16, [u16; 6]); 6] = [
+    let plans: [(&str, u16, [u16; 6]); 7] = [
         ("triangle", 1, [5, 2, 1, 4, 3, 0]),
         ("three parallel trails", 1, [5, 2, 4, 0, 1, 3]),
         ("dead end inside a pair", 2, [4, 2, 1, 0, 3, 5]),
         ("triangle, numbered otherwise", 1, [3, 4, 5, 0, 1, 2]),
         ("one trail in from the start", 1, [0, 2, 5, 4, 3, 1]),
-        ("trails that cross", 2, [3, 2, 4, 5, 1, 0]),
+        ("a loop around a dead end", 4, [2, 1, 4, 0, 3, 5]),
+        ("trails that cross", 4, [3, 2, 4, 5, 1, 0]),
     ];
     let mut shelf = [0; 64];
     let mut used = 0;

@@ -2,7 +2,8 @@
 //!
 //! A plan of m trails (edges) has 2m darts (trail ends); darts 2e and 2e+1 are the two ends of trail e. Its *turning
 //! order* is a list of 2m numbers: entry d is the next dart counterclockwise around d's junction (vertex). Its *start* is
-//! one dart. A record is the plan in about 3 bits a trail (kind 1) or 3.6 (kind 2); a shelf is records end to end.
+//! one dart. A record is the plan in about 3 bits a trail (kind 1: no loop, and no dead end but the start), 3.6 (kind 2: no
+//! loop) or 4 (kind 4: any connected planar plan); a shelf is records end to end, of any kinds.
 //!
 //! [`write()`], [`read()`], [`shelve()`], [`fetch()`] and [`walk()`] are the library's calls on lent buffers, one for one:
 //! no allocation, no state. `record_of` and `plan_of` allocate what they need.
@@ -55,7 +56,7 @@ pub const MAX_WORK_LENGTH: usize = 131_072;
 pub const MAX_ORDER_LENGTH: usize = 8192;
 
 /// The most bytes that a record has.
-pub const MAX_RECORD_LENGTH: usize = 1850;
+pub const MAX_RECORD_LENGTH: usize = 2054;
 
 /// Done, or the refusal with this number.
 fn settle<T>(refusal: u16, characteristic: i32, value: T) -> Result<T, Refusal> {
@@ -76,12 +77,13 @@ pub fn work_length(trails: u16) -> usize {
     unsafe { sys::jurnadel_work_length(trails) }
 }
 
-/// The length of a record of this kind with this many trails. Nothing where there is none: another kind than 1 or 2, no
+/// The length of a record of this kind with this many trails. Nothing where there is none: another kind than 1, 2 or 4, no
 /// trail, or more than [`MAX_TRAILS`].
 ///
 /// ```
 /// assert_eq!(jurnadel::record_length(1, 4096), Some(1542));
 /// assert_eq!(jurnadel::record_length(2, 4096), Some(1850));
+/// assert_eq!(jurnadel::record_length(4, 4096), Some(2054));
 /// assert_eq!(jurnadel::record_length(3, 1), None);
 /// ```
 #[must_use]
@@ -99,13 +101,17 @@ pub fn record_length(kind: u16, trails: u16) -> Option<usize> {
 ///
 /// # Errors
 ///
-/// Refusals 2, 3, 4, 6 to 12. A refused call leaves `output` untouched.
+/// Refusals 2, 3, 4, 6 to 10, then 11 in kinds 1 and 2 and 12 in kind 1. A refused call leaves `output` untouched.
 ///
 /// ```
 /// let mut work = [0; 64];
 /// let mut output = [0; 7];
 /// assert_eq!(jurnadel::write(&[3, 2, 1, 0], 0, 1, &mut work, &mut output), Ok(7));
 /// assert_eq!(output, [0x07, 0, 0x01, 0, 0x02, 0, 0xC8]);
+///
+/// // A single loop, which kind 4 alone takes.
+/// assert_eq!(jurnadel::write(&[1, 0], 0, 4, &mut work, &mut output), Ok(7));
+/// assert_eq!(output, [0x07, 0, 0x04, 0, 0x01, 0, 0xB0]);
 /// ```
 pub fn write(order: &[u16], start: u16, kind: u16, work: &mut [u16], output: &mut [u8]) -> Result<usize, Refusal> {
     let (mut length, mut characteristic) = (0, 0);
@@ -260,9 +266,10 @@ impl core::iter::FusedIterator for Walk<'_> {}
 /// Refusals 14, 15; so a walk from the number just past the last record is 15.
 ///
 /// ```
-/// let shelf = [0x07, 0, 0x01, 0, 0x02, 0, 0xC8, 0x08, 0, 0x02, 0, 0x01, 0, 0x80, 0xA2];
-/// let mut walk = jurnadel::walk(&shelf, shelf.len(), 0)?;
-/// assert_eq!((walk.next(), walk.next(), walk.next()), (Some(&shelf[..7]), Some(&shelf[7..]), None));
+/// // Records of kinds 1, 2 and 4.
+/// let shelf = [7, 0, 1, 0, 2, 0, 0xC8, 8, 0, 2, 0, 1, 0, 0x80, 0xA2, 7, 0, 4, 0, 1, 0, 0xB0];
+/// let walk = jurnadel::walk(&shelf, shelf.len(), 0)?;
+/// assert!(walk.eq([&shelf[..7], &shelf[7..15], &shelf[15..]]));
 /// # Ok::<(), jurnadel::Refusal>(())
 /// ```
 pub fn walk(shelf: &[u8], used: usize, number: usize) -> Result<Walk<'_>, Refusal> {

@@ -12,12 +12,13 @@ fn trails_of(order: &[u16]) -> u16 {
 ///
 /// # Errors
 ///
-/// Refusals 2, 3, 4, 6, 9 to 12.
+/// Refusals 2, 3, 4, 6, 9, 10, then 11 in kinds 1 and 2 and 12 in kind 1.
 ///
 /// ```
 /// assert_eq!(jurnadel::record_of(&[0, 1], 0, 2)?, [0x08, 0, 0x02, 0, 0x01, 0, 0x80, 0xA2]);
 /// assert_eq!(jurnadel::record_of(&[0, 1], 0, 1).unwrap_err().number(), 12);
 /// assert_eq!(jurnadel::record_of(&[1, 0], 0, 2).unwrap_err().number(), 11);
+/// assert_eq!(jurnadel::record_of(&[1, 0], 0, 4)?, [0x07, 0, 0x04, 0, 0x01, 0, 0xB0]);
 /// # Ok::<(), jurnadel::Refusal>(())
 /// ```
 pub fn record_of(order: &[u16], start: u16, kind: u16) -> Result<Vec<u8>, Refusal> {
@@ -38,6 +39,7 @@ pub fn record_of(order: &[u16], start: u16, kind: u16) -> Result<Vec<u8>, Refusa
 /// ```
 /// let order = jurnadel::plan_of(&[0x08, 0, 0x01, 0, 0x03, 0, 0xE2, 0x00])?;
 /// assert_eq!(order, [5, 2, 1, 4, 3, 0]);
+/// assert_eq!(jurnadel::plan_of(&[0x08, 0, 0x04, 0, 0x03, 0, 0x09, 0x70])?, order);
 /// assert_eq!(jurnadel::plan_of(&[0x07, 0, 0x01, 0, 0x02, 0, 0xCC]).unwrap_err().number(), 13);
 /// # Ok::<(), jurnadel::Refusal>(())
 /// ```

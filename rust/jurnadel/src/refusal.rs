@@ -25,7 +25,7 @@ macro_rules! refusals {
 
 refusals! {
     RECORD_CUT = 1: "The record has fewer than 6 bytes, or its length field isn't the number of bytes lent.",
-    BAD_KIND = 2: "The kind is not 1 or 2.",
+    BAD_KIND = 2: "The kind is not 1, 2 or 4.",
     BAD_COUNT = 3: "The dart count is 0, odd or above 8,192; in a record, m is 0 or above 4,096.",
     BAD_START = 4: "The start is not below the dart count.",
     BAD_LENGTH = 5: "The length is not the one for this kind and m.",
@@ -34,7 +34,7 @@ refusals! {
     SHORT_OUTPUT = 8: "The output is shorter than the record, or than 2m entries.",
     NOT_CONNECTED = 9: "The plan is not connected.",
     NOT_PLANAR = 10: "It is not planar.",
-    HAS_LOOP = 11: "It has a loop.",
+    HAS_LOOP = 11: "Kind 1 or 2, and it has a loop.",
     HAS_DEGREE_ONE = 12: "Kind 1, and a junction other than the start's has degree one.",
     NO_FIT_PLAN = 13: "No fit plan of this kind has this record.",
     SHELF_BROKEN = 14: "The used length exceeds the shelf, or the used bytes are not records end to end that each pass 1, 2, 3 and 5.",

@@ -3,6 +3,9 @@
 
 use jurnadel::Refusal;
 
+/// The kinds of records.
+const KINDS: [u16; 3] = [1, 2, 4];
+
 /// A sequence of numbers that look random.
 struct Numbers(u64);
 
@@ -21,6 +24,12 @@ impl Numbers {
         } else {
             self.below(bound)
         }
+    }
+
+    /// Mostly a kind of record, sometimes any number.
+    fn kind(&mut self) -> u16 {
+        let place = self.mostly(3);
+        KINDS.get(place).copied().unwrap_or(place as u16)
     }
 
     fn bytes(&mut self, length: usize) -> Vec<u8> {
@@ -42,7 +51,7 @@ impl Numbers {
 
     /// A plan's record, or bytes with the head of one; now and then a bit is turned, or it is cut.
     fn record(&mut self) -> Vec<u8> {
-        let (kind, trails) = (1 + self.below(2) as u16, 1 + self.below(4) as u16);
+        let (kind, trails) = (KINDS[self.below(3)], 1 + self.below(4) as u16);
         let length = jurnadel::record_length(kind, trails).unwrap_or(0);
         let mut record = self.bytes(length);
         for (place, field) in [length as u16, kind, trails].into_iter().enumerate() {
@@ -67,9 +76,9 @@ fn met<T>(answer: Result<T, Refusal>, list: &[u16]) -> Option<T> {
 #[test]
 fn plans_and_records() {
     let mut numbers = Numbers(2026);
-    let (mut written, mut read) = (0, 0);
+    let (mut written, mut read) = ([0; 5], [0; 5]);
     for _ in 0..20_000 {
-        let (order, start, kind) = (numbers.order(), numbers.mostly(4) as u16, 1 + numbers.mostly(2) as u16);
+        let (order, start, kind) = (numbers.order(), numbers.mostly(4) as u16, numbers.kind());
         let (mut work, mut output) = (vec![7; numbers.below(200)], vec![7; numbers.below(14)]);
         let answer = jurnadel::write(&order, start, kind, &mut work, &mut output);
         met(answer, &[2, 3, 4, 6, 7, 8, 9, 10, 11, 12]);
@@ -77,18 +86,21 @@ fn plans_and_records() {
         assert!(output[answer.unwrap_or(0)..].iter().all(|&byte| byte == 7));
         if let Some(record) = met(jurnadel::record_of(&order, start, kind), &[2, 3, 4, 6, 9, 10, 11, 12]) {
             assert_eq!(jurnadel::plan_of(&record).map(|plan| plan.len()), Ok(order.len()));
-            written += 1;
+            written[usize::from(kind)] += 1;
         }
         let (record, mut order) = (numbers.record(), vec![9; numbers.below(12)]);
         let answer = jurnadel::read(&record, &mut work, &mut order);
         met(answer, &[1, 2, 3, 5, 7, 8, 13]);
         assert!(order[2 * answer.unwrap_or(0)..].iter().all(|&entry| entry == 9));
         if let Some(order) = met(jurnadel::plan_of(&record), &[1, 2, 3, 5, 13]) {
-            assert_eq!(jurnadel::record_of(&order, 0, u16::from(record[2])), Ok(record));
-            read += 1;
+            let kind = u16::from(record[2]);
+            assert_eq!(jurnadel::record_of(&order, 0, kind), Ok(record));
+            read[usize::from(kind)] += 1;
         }
     }
-    assert!(written > 100 && read > 100, "{written} written, {read} read");
+    for kind in KINDS.map(usize::from) {
+        assert!(written[kind] > 100 && read[kind] > 100, "kind {kind}: {} written, {} read", written[kind], read[kind]);
+    }
 }
 
 #[test]
@@ -118,7 +130,8 @@ fn shelves() {
 #[test]
 fn sizes() {
     assert_eq!(jurnadel::work_length(jurnadel::MAX_TRAILS), jurnadel::MAX_WORK_LENGTH);
-    assert_eq!(jurnadel::record_length(2, jurnadel::MAX_TRAILS), Some(jurnadel::MAX_RECORD_LENGTH));
-    assert_eq!(jurnadel::record_length(2, jurnadel::MAX_TRAILS + 1), None);
+    let lengths = KINDS.map(|kind| jurnadel::record_length(kind, jurnadel::MAX_TRAILS));
+    assert_eq!(lengths.into_iter().flatten().max(), Some(jurnadel::MAX_RECORD_LENGTH));
+    assert!(KINDS.iter().all(|&kind| jurnadel::record_length(kind, jurnadel::MAX_TRAILS + 1).is_none()));
     assert_eq!(jurnadel::MAX_ORDER_LENGTH, 2 * usize::from(jurnadel::MAX_TRAILS));
 }

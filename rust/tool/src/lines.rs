@@ -167,15 +167,17 @@ mod tests {
 
     #[test]
     fn plans() {
-        assert_eq!(written("0 3 2 1 0\n0 0 1\n"), "070001000200C8\n08000200010080A2\n");
+        assert_eq!(written("0 3 2 1 0\n0 0 1\n0 1 0\n"), "070001000200C8\n08000200010080A2\n070004000100B0\n");
         assert_eq!(answers(Way::Write(Some(2)), b"0 3 2 1 0"), "080002000200C051\n");
+        assert_eq!(answers(Way::Write(Some(4)), b"0 5 2 1 4 3 0"), "0800040003000970\n");
         assert_eq!(written(" 0\t3  2 1 0 \r\n000 3 2 0001 0"), "070001000200C8\n070001000200C8\n");
     }
 
     #[test]
     fn refused_plans() {
         assert_eq!(written("0 0 1 2\n4 3 2 1 0\n0 3 3 1 0\n"), "refused 3\nrefused 4\nrefused 6\n");
-        assert_eq!(written("0 0 1 2 3\n0 3 2 4 5 1 0\n0 1 0\n"), "refused 9\nrefused 10 0\nrefused 11\n");
+        assert_eq!(written("0 0 1 2 3\n0 3 2 4 5 1 0\n"), "refused 9\nrefused 10 0\n");
+        assert_eq!(answers(Way::Write(Some(2)), b"0 1 0\n"), "refused 11\n");
         assert_eq!(answers(Way::Write(Some(1)), b"0 0 1\n"), "refused 12\n");
         assert_eq!(answers(Way::Write(Some(3)), b"0 0 1\n"), "refused 2\n");
         assert_eq!(written("0\n0 0 65536\n99999999999999999999999 0 1\n"), "refused 3\nrefused 6\nrefused 4\n");
@@ -200,6 +202,7 @@ mod tests {
         assert_eq!(read(b"070001000200C8\n07 00 01 00\t02 00 c8\r\n"), "0 3 2 1 0\n0 3 2 1 0\n");
         assert_eq!(read(b"07\n070003000200C8\n070001000000C8\n"), "refused 1\nrefused 2\nrefused 3\n");
         assert_eq!(read(b"070001000300C8\n070001000200CC\n"), "refused 5\nrefused 13\n");
+        assert_eq!(read(b"070004000100B0\n070004000100B8\n"), "0 1 0\nrefused 13\n");
         assert_eq!(read(b"\n \n0\n070\n0G\n0x07\nC8\xFF\n"), "malformed\n".repeat(7));
         // As long as a length field can say, and longer.
         assert_eq!(read(format!("FFFF0100FFFF{}\n", "00".repeat(65_529)).as_bytes()), "refused 3\n");
@@ -216,6 +219,6 @@ mod tests {
             assert_eq!(answers(Way::Write(Some(kind)), plan.as_bytes()), record);
             record.len()
         };
-        assert_eq!((largest(1), largest(2)), (2 * 1542 + 1, 2 * 1850 + 1));
+        assert_eq!([1, 2, 4].map(largest), [1542, 1850, 2054].map(|length| 2 * length + 1));
     }
 }

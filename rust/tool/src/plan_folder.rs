@@ -4,7 +4,7 @@
 use crate::files::{self, led_to, sync_folder_of};
 use crate::names::shown;
 use crate::options::Word;
-use crate::plan_file::{self, Plan};
+use crate::plan_file::{self, Plan, ANY};
 use crate::report::Problem;
 use std::fs::{self, Metadata};
 use std::io::{self, ErrorKind};
@@ -63,7 +63,7 @@ fn other_content(path: &Path, found: &Metadata, order: &[u16]) -> Option<String>
         return Some(String::from("not a regular file"));
     }
     let what = match Plan::load(&Word::from(path.as_os_str().to_owned())) {
-        Ok(plan) if plan.record(Some(2)) == jurnadel::record_of(order, 0, 2) => return None,
+        Ok(plan) if plan.record(Some(ANY)) == jurnadel::record_of(order, 0, ANY) => return None,
         Ok(_) => "holds another plan",
         Err(_) if found.len() == 0 => "is empty",
         Err(_) => "is no plan file",

@@ -2,7 +2,7 @@
 //!
 //! A header `>>planar_code<<`, `>>planar_code le<<` or `>>planar_code be<<`, then graph after graph: the number of
 //! vertices, then for each vertex its neighbours (numbered from 1) in clockwise order and a 0. Numbers are bytes; a graph that
-//! begins with a byte 0 has two-byte numbers after it, in the header's byte order.
+//! begins with a byte 0 has two-byte numbers after it, in the header's byte order. A vertex lists itself twice for each loop.
 //!
 //! Where the header says none, writers differ (planarg puts the high byte first), and each graph is read in the order in which
 //! its numbers are a graph's. The larger count of vertices that a plan may have is tried first. If it is wrong it fails at

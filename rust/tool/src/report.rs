@@ -40,15 +40,15 @@ impl Problem {
 pub fn in_words(refusal: Refusal) -> String {
     let words = match refusal.number() {
         Refusal::RECORD_CUT => "the record is cut short or too long: its length field and its bytes don't agree",
-        Refusal::BAD_KIND => "there is no such kind of record; the kinds are 1 and 2",
+        Refusal::BAD_KIND => "there is no such kind of record; the kinds are 1, 2 and 4",
         Refusal::BAD_COUNT => "a plan has 1 to 4,096 trails with two ends each",
         Refusal::BAD_START => "the start is none of the plan's trail ends",
         Refusal::BAD_LENGTH => "the record's length is not that of its kind and number of trails",
         Refusal::BAD_ENTRY => "the entries must be the plan's trail ends, each once",
         Refusal::NOT_CONNECTED => "the plan is in pieces: some trails cannot be reached from the others",
         Refusal::NOT_PLANAR => "in this turning order the plan cannot be drawn without crossings",
-        Refusal::HAS_LOOP => "a trail leads back to the junction that it comes from; no kind takes such a loop",
-        Refusal::HAS_DEGREE_ONE => "the plan has a dead end other than its start, which kind 1 doesn't take; kind 2 does",
+        Refusal::HAS_LOOP => "a trail leads back to the junction that it comes from, a loop, which only kind 4 takes",
+        Refusal::HAS_DEGREE_ONE => "the plan has a dead end other than its start, which kind 1 doesn't take; kinds 2 and 4 do",
         Refusal::NO_FIT_PLAN => "no plan has this record; it may have been damaged",
         Refusal::SHELF_BROKEN => "the shelf is damaged: its bytes are not records end to end",
         Refusal::NO_SUCH_RECORD => "the shelf has no record with this number; numbers count from 0",

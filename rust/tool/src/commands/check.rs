@@ -14,7 +14,7 @@ usage: jurnadel check [--kind KIND] [--files-from LIST] PLAN..
 
 Says of each plan file how many junctions, trails and areas it has, and the kind
 and length of its record: kind 1, or 2 for a plan with a dead end other than its
-start.
+start, or 4 for one with a loop.
 
   --kind KIND         the record in this kind
   --files-from LIST   also the files that LIST names, a line each or
@@ -42,6 +42,10 @@ fn check_one(path: &Word, kind: Option<u16>) -> Result<String, Problem> {
     let plan = Plan::load(path)?;
     let record = plan.record(kind).map_err(|refusal| plan.problem(path, refusal))?;
     let taken = field(&record, 2);
-    let why = if kind.is_none() && taken == 2 { " (it has a dead end)" } else { "" };
+    let why = match (kind, taken) {
+        (None, 2) => " (it has a dead end)",
+        (None, 4) => " (it has a loop)",
+        _ => "",
+    };
     Ok(format!("{path}: {}; kind {taken}{why}, {} bytes", counts(&plan.order), record.len()))
 }

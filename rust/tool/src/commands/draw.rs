@@ -20,7 +20,8 @@ trail 3 has darts 6 and 7. Loops, parallel trails and dead ends are drawn too.
 
   --outside DART   put the area of this dart outside, all around the picture;
                    in a plan by junctions 'JUNCTION TRAIL' names a dart, as in
-                   its line of start. Without it, the area of the start dart
+                   its line of start: of a loop the end that is named first.
+                   Without it, the area of the start dart
   -o FILE          to this file, which must not be there; else to standard
                    output
   --force          replace the file if it is there

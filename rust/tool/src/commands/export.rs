@@ -4,6 +4,7 @@ use super::{counted, put_out, Command, Done};
 use crate::joining::turning_order;
 use crate::names::shown;
 use crate::options::{Options, Word};
+use crate::plan_file::ANY;
 use crate::plan_folder::PlanFolder;
 use crate::planar_code::{self, Graph};
 use crate::report::{Problem, Report};
@@ -27,8 +28,9 @@ whole or not at all; one that is there and holds the same plan is passed over.
   --force         replace what is there and holds something else
 
 A record that cannot be read is reported by its number and left out, and so is
-one of which planar_code would leave open how parallel trails are joined; the
-status is then 1. What is exported can be imported as the same plan.
+one of which planar_code would leave open how parallel trails, or the loops of a
+junction, are joined; the status is then 1. What is exported can be imported as
+the same plan.
 ";
 
 fn run(words: &[Word], report: &mut Report) -> Done {
@@ -74,7 +76,7 @@ fn export_code(options: &Options, report: &mut Report) -> Done {
 fn coded(order: &[u16]) -> Result<Graph, String> {
     let graph = planar_code::graph_of(order);
     let back = turning_order(&graph).map_err(|untaken| untaken.to_string())?;
-    match jurnadel::record_of(&back, 0, 2) == jurnadel::record_of(order, 0, 2) {
+    match jurnadel::record_of(&back, 0, ANY) == jurnadel::record_of(order, 0, ANY) {
         true => Ok(graph),
         false => Err(String::from("planar_code doesn't hold this plan")),
     }

@@ -30,9 +30,10 @@ standard input, its NAME plan.
 Each plan file appears whole or not at all. One that is there and holds the same
 plan is passed over, so a run that was broken off can be made again.
 
-A graph that no kind takes is reported by its number and left out, and so is one
-of which planar_code leaves open how parallel trails are joined, where that
-makes a difference. A file that is damaged is imported up to the damage.
+A junction lists itself twice for each loop. A graph that is no plan is reported
+by its number and left out, and so is one of which planar_code leaves open how
+parallel trails, or the loops of a junction, are joined, where that makes a
+difference. A file that is damaged is imported up to the damage.
 ";
 
 fn run(words: &[Word], report: &mut Report) -> Done {
@@ -91,8 +92,8 @@ impl Source<'_> {
 
     fn import_one(&self, number: usize, graph: &Graph, place: &str, folder: &PlanFolder) -> Result<PathBuf, Problem> {
         let order = turning_order(graph).map_err(|untaken| match untaken {
-            Untaken::OneSided(..) | Untaken::Ambiguous(..) => Problem::file(place, untaken),
-            _ => Problem::Refused(format!("{place}: {untaken}")),
+            Untaken::Refused(_) | Untaken::Alone(_) => Problem::Refused(format!("{place}: {untaken}")),
+            _ => Problem::file(place, untaken),
         })?;
         let (junctions, trails) = (counted(graph.len(), "junction"), counted(order.len() / 2, "trail"));
         let comment = format!("graph {number} of {}: {junctions}, {trails}", shown(&self.name));

@@ -22,8 +22,8 @@ name. A plan that is refused is reported, and the others are shelved. A SHELF
 that isn't there is made. PLAN is a plan file, or a folder: the .plan files in
 it.
 
-  --kind KIND         1 or 2; else 1, or 2 for a plan with a dead end other than
-                      its start
+  --kind KIND         1, 2 or 4; else 1, or 2 for a plan with a dead end other
+                      than its start, or 4 for one with a loop
   --size BYTES        the shelf's whole length; a record that exceeds it is
                       refused (16). Else the shelf grows
   --raw               the files are records, as bytes; of a folder, the .record
@@ -34,7 +34,7 @@ it.
                       terminal
 
 Without --kind a plan that is on the shelf in whatever kind is already there.
-With it, one that is there in the other kind alone is new, and reported.
+With it, one that is there in other kinds alone is new, and reported.
 
 What is printed is in the file: the shelf file is replaced, in one step, before
 its numbers are printed. Runs on one shelf wait for each other (SHELF.lock).

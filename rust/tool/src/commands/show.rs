@@ -22,8 +22,6 @@ hexadecimal or as bytes) or on a shelf; - is standard input.
   --numbers     by numbers
   -o FILE       to this file, which must not be there
   --force       replace the file if it is there
-
-A loop is no obstacle here.
 ";
 
 fn run(words: &[Word], report: &mut Report) -> Done {

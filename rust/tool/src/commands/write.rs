@@ -16,8 +16,8 @@ usage: jurnadel write [--kind KIND] [--raw] [-o FILE [--force]]
 
 Writes the record of each plan file, a line of hexadecimal bytes each.
 
-  --kind KIND         1 or 2; else 1, or 2 for a plan with a dead end other than
-                      its start
+  --kind KIND         1, 2 or 4; else 1, or 2 for a plan with a dead end other
+                      than its start, or 4 for one with a loop
   --raw               bytes in place of hexadecimal; several records stand end
                       to end
   -o FILE             to this file, which must not be there; not written if any

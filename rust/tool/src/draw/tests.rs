@@ -226,6 +226,25 @@ fn names_are_shown_and_escaped() {
     assert!(text.contains(">0</text>"));
 }
 
+/// Ten loops at one junction, from each of their ends: its name doesn't stand on the arrow head, which tells the end.
+#[test]
+fn the_start_can_be_seen() {
+    let order: Vec<u16> = (1..20).chain([0]).collect();
+    for start in 0..20 {
+        let junctions = BTreeMap::from([(0, String::from("Hub"))]);
+        let text = svg(&Picture { order: &order, start, outside: start, trails: &BTreeMap::new(), junctions: &junctions });
+        let numbers = |tag: &str| {
+            let words = tag.split(['"', ' ', ',']);
+            words.filter_map(|word| word.parse().ok()).collect::<Vec<f64>>()
+        };
+        let name = text.lines().find(|line| line.ends_with(">Hub</text>")).unwrap();
+        let [x, y, size, ..] = numbers(name)[..] else { panic!("{name}") };
+        let [tip_x, tip_y, ..] = numbers(text.lines().find(|line| line.starts_with("<polygon")).unwrap())[..] else { panic!() };
+        let covered = (tip_x - x).abs() < 0.9 * size && (y - 0.75 * size..y).contains(&tip_y);
+        assert!(!covered, "start {start}: {name} {tip_x} {tip_y}");
+    }
+}
+
 #[test]
 fn the_same_plan_gives_the_same_text() {
     let order = random(40, SHAPES[5], &mut Random(3));

@@ -7,7 +7,7 @@ use super::curve::{Curve, Spot};
 use super::layout::{Layout, STEPS};
 use super::net::Net;
 use super::place::Place;
-use super::room::{direction, Room};
+use super::room::{direction, distance, Room};
 use super::Picture;
 use std::fmt::Write as _;
 
@@ -50,6 +50,16 @@ struct Page<'a> {
     corner: Spot,
     /// Width and height of what is drawn, in units.
     size: [f64; 2],
+}
+
+/// The mark of the start: a ring around the dot of its junction, and an arrow head along its dart.
+struct Mark {
+    point: usize,
+    /// In pixels: the ring's radius, and the length of the arrow head.
+    radius: f64,
+    size: f64,
+    base: Place,
+    tip: Place,
 }
 
 impl<'a> Page<'a> {
@@ -173,8 +183,8 @@ impl<'a> Page<'a> {
         self.room.around(place, |other| other == trail) / self.unit
     }
 
-    /// The mark of the start: a ring at its junction and an arrow head along its dart, as large as there is room for.
-    fn start(&self, text: &mut String) {
+    /// The mark of the start, its arrow head as large as there is room for.
+    fn mark(&self) -> Mark {
         let trail = usize::from(self.picture.start / 2);
         let mut line = self.line(&self.curves[trail]);
         let mut point = self.net.routes[trail].first();
@@ -182,14 +192,19 @@ impl<'a> Page<'a> {
             line.reverse();
             point = self.net.routes[trail].last();
         }
-        let radius = self.dot(*point.unwrap_or(&0)) + 3.0;
+        let point = *point.unwrap_or(&0);
+        let radius = self.dot(point) + 3.0;
         let tip_at = |size: f64| along(&line, self.px(radius + size));
         let fits = |size: &f64| self.trail_room(trail, tip_at(*size)) > 0.3 * size;
         let size = ARROWS.into_iter().find(fits).unwrap_or(ARROWS[ARROWS.len() - 1]);
-        let [base, tip] = [along(&line, self.px(radius)), tip_at(size)];
+        Mark { point, radius, size, base: along(&line, self.px(radius)), tip: tip_at(size) }
+    }
+
+    fn start(&self, text: &mut String) {
+        let Mark { point, radius, size, base, tip } = self.mark();
         let (forward, _) = direction(base, tip);
         let side = [-forward[1], forward[0]].map(|part| part * self.px(0.4 * size));
-        let [x, y] = line[0];
+        let [x, y] = self.at(self.spots[point]);
         let (radius, width) = (self.px(radius), self.px(LINE));
         let corners = [tip, [base[0] + side[0], base[1] + side[1]], [base[0] - side[0], base[1] - side[1]]];
         let corners = corners.map(|[x, y]| format!("{x:.2},{y:.2}")).join(" ");
@@ -212,20 +227,22 @@ impl<'a> Page<'a> {
             let size = letter_size(&name, self.trail_room(trail, [x, y]));
             self.label(text, [x, y + self.px(0.35 * size)], size, &colour, &name);
         }
+        let mark = self.mark();
         for (point, least) in self.net.junctions.iter().enumerate() {
             if let Some(name) = self.picture.junctions.get(least) {
                 let size = letter_size(name, self.junction_room(point));
-                self.label(text, self.beside_dot(point, size), size, " font-weight=\"bold\"", name);
+                self.label(text, self.beside_dot(point, size, &mark), size, " font-weight=\"bold\"", name);
             }
         }
         text.push_str("</g>\n");
     }
 
-    /// Where a junction's name stands: above its dot or below it, where trails are farther.
-    fn beside_dot(&self, point: usize, size: f64) -> Place {
+    /// Where a junction's name stands: above its dot or below it, where trails are farther; the start's not on its arrow head.
+    fn beside_dot(&self, point: usize, size: f64, mark: &Mark) -> Place {
         let [x, y] = self.at(self.spots[point]);
         let off = self.px(self.dot(point) + 3.0 + 0.5 * size);
-        let free = |y: f64| self.room.around([x, y], |_| false);
+        let hides = |y: f64| point == mark.point && distance([x, y], mark.base, mark.tip) < off;
+        let free = |y: f64| if hides(y) { -1.0 } else { self.room.around([x, y], |_| false) };
         let middle = if free(y + off) > free(y - off) { y + off } else { y - off };
         [x, middle + self.px(0.35 * size)]
     }

@@ -21,8 +21,11 @@ use names::Names;
 use std::collections::BTreeMap;
 use std::fmt::Display;
 
-/// The kinds of records.
-pub const KINDS: [u16; 2] = [1, 2];
+/// The kinds of records, as [`in_kind`] tries them. The last takes every plan.
+pub const KINDS: [u16; 3] = [1, 2, ANY];
+
+/// The kind that takes every plan.
+pub const ANY: u16 = 4;
 
 /// A line, and what is wrong there.
 type Wrong = (usize, String);
@@ -81,12 +84,9 @@ impl Plan {
         in_kind(kind, |kind| jurnadel::record_of(order, start, kind))
     }
 
-    /// Whether it is a plan at all, connected and planar: a loop is no obstacle here, though no kind takes it.
+    /// Whether it is a plan at all, connected and planar.
     pub fn sound(&self) -> Result<(), Refusal> {
-        match self.record(Some(2)) {
-            Err(refusal) if refusal.number() != Refusal::HAS_LOOP => Err(refusal),
-            _ => Ok(()),
-        }
+        self.record(Some(ANY)).map(drop)
     }
 
     /// A refusal of the plan in this file: with the line that it is about, and with names where the plan has them.
@@ -141,12 +141,14 @@ impl Plan {
     }
 }
 
-/// Writes a plan in this kind; with none given in kind 1, or in kind 2 where a dead end other than the start keeps it from kind 1.
+/// Writes a plan in this kind; with none given in the first that takes it: in kind 1, in kind 2 where a dead end other than the
+/// start keeps it from kind 1, or in kind 4 where a loop keeps it from both.
 pub fn in_kind<T>(kind: Option<u16>, mut write: impl FnMut(u16) -> Result<T, Refusal>) -> Result<T, Refusal> {
     match kind {
         Some(kind) => write(kind),
         None => write(1).or_else(|refusal| match refusal.number() {
             Refusal::HAS_DEGREE_ONE => write(2),
+            Refusal::HAS_LOOP => write(ANY),
             _ => Err(refusal),
         }),
     }

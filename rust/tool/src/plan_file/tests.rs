@@ -62,10 +62,14 @@ fn one_form_and_the_other() {
 }
 
 #[test]
-fn some_random_plans_have_loops_and_some_have_none() {
+fn random_plans_are_of_all_kinds() {
     let mut random = Random(2);
-    let count = (0..100).filter(|_| plan(&mut random, 4).record(None).is_ok()).count();
-    assert!((10..90).contains(&count), "{count}");
+    let mut counts = KINDS.map(|kind| (kind, 0));
+    for _ in 0..400 {
+        let kind = plan(&mut random, 4).record(None).unwrap()[2].into();
+        counts.iter_mut().filter(|(other, _)| *other == kind).for_each(|(_, count)| *count += 1);
+    }
+    assert!(counts.iter().all(|&(_, count)| count > 10), "{counts:?}");
     assert!((0..100).any(|_| junctions(&plan(&mut random, 9).order).count() == 4));
 }
 
@@ -112,8 +116,22 @@ fn kinds() {
     let kind = |text: &str| Plan::parse(text).unwrap().record(None).map(|record| record[2]);
     assert_eq!(kind("start: 0\n3 2 1 0\n"), Ok(1));
     assert_eq!(kind("start: 0\n0 1\n"), Ok(2));
-    assert_eq!(kind("start: 0\n1 0\n").unwrap_err().number(), 11);
+    assert_eq!(kind("start: 0\n1 0\n"), Ok(4));
     assert_eq!(kind("start: A a\nA: a b\nB: b a\n"), Ok(1));
     assert_eq!(kind("start: A a\nA: a\nB: a\n"), Ok(2));
-    assert_eq!(kind("start: A a\nA: a a\n").unwrap_err().number(), 11);
+    assert_eq!(kind("start: A a\nA: a a\n"), Ok(4));
+    assert_eq!(kind("start: A a\nA: a b b\nB: a\n"), Ok(4));
+    assert_eq!(kind("start: 0\n3 2 4 5 1 0\n").unwrap_err().number(), 10);
+}
+
+/// The kind that is taken is the first that takes the plan.
+#[test]
+fn kinds_in_their_order() {
+    let mut random = Random(5);
+    for _ in 0..1000 {
+        let trails = 1 + random.below(6);
+        let plan = plan(&mut random, trails);
+        let mut records = KINDS.iter().filter_map(|&kind| plan.record(Some(kind)).ok());
+        assert_eq!(records.next(), plan.record(None).ok());
+    }
 }
