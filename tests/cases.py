@@ -11,6 +11,7 @@ def turning(even, odd, darts=8192):
 LARGE = {
     "ring of 4096 trails": turning(8191, 1),
     "star of 4096 trails": turning(2, 0),
+    "loops of 4096 trails": turning(1, 1),
     "8192 darts": turning(0, 0),
     "8194 darts": turning(0, 0, 8194),
 }

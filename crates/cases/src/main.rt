@@ -88,10 +88,10 @@ fn run(name: &[u8], order: &[u16], start: u16, kind: u16, work: &mut [u16], out:
 
 // The plan is written, with a work area and an output of these lengths.
 fn one(name: &[u8], order: &[u16], start: u16, kind: u16, room: usize, space: usize)
-    requires { ⌜ (room ≤ 131072) × (space ≤ 1850) ⌝ }
+    requires { ⌜ (room ≤ 131072) × (space ≤ 2054) ⌝ }
 {
     let mut work = [7u16; 131072];
-    let mut out = [9u8; 1850];
+    let mut out = [9u8; 2054];
     run(
         name,
         order,
@@ -123,22 +123,23 @@ fn turning(order: &mut [u16], even: usize, odd: usize)
 }
 
 fn small() {
-    one(b"order 1 0", &[1, 0], 0, 1, 32, 1850);
-    one(b"order 1 0", &[1, 0], 0, 2, 32, 1850);
-    one(b"order 0 1", &[0, 1], 0, 1, 32, 1850);
-    one(b"order 0 1", &[0, 1], 0, 2, 32, 1850);
-    one(b"order 0 1 2 3", &[0, 1, 2, 3], 0, 2, 64, 1850);
-    one(b"order 3 2 4 5 1 0", &[3, 2, 4, 5, 1, 0], 0, 2, 96, 1850);
+    one(b"order 1 0", &[1, 0], 0, 1, 32, 2054);
+    one(b"order 1 0", &[1, 0], 0, 2, 32, 2054);
+    one(b"order 0 1", &[0, 1], 0, 1, 32, 2054);
+    one(b"order 0 1", &[0, 1], 0, 2, 32, 2054);
+    one(b"order 0 1 2 3", &[0, 1, 2, 3], 0, 2, 64, 2054);
+    one(b"order 3 2 4 5 1 0", &[3, 2, 4, 5, 1, 0], 0, 2, 96, 2054);
 }
 
 fn refused() {
-    one(b"order 0 1", &[0, 1], 0, 0, 32, 1850);
-    one(b"order 0 1", &[0, 1], 0, 3, 32, 1850);
-    one(b"order 0", &[0], 0, 2, 32, 1850);
-    one(b"order 0 1 2", &[0, 1, 2], 0, 2, 64, 1850);
-    one(b"order 0 1, start 2", &[0, 1], 2, 2, 32, 1850);
-    one(b"order 1 1", &[1, 1], 0, 2, 32, 1850);
-    one(b"order 0 2", &[0, 2], 0, 2, 32, 1850);
+    one(b"order 0 1", &[0, 1], 0, 0, 32, 2054);
+    one(b"order 0 1", &[0, 1], 0, 3, 32, 2054);
+    one(b"order 0 1", &[0, 1], 0, 5, 32, 2054);
+    one(b"order 0", &[0], 0, 2, 32, 2054);
+    one(b"order 0 1 2", &[0, 1, 2], 0, 2, 64, 2054);
+    one(b"order 0 1, start 2", &[0, 1], 2, 2, 32, 2054);
+    one(b"order 1 1", &[1, 1], 0, 2, 32, 2054);
+    one(b"order 0 2", &[0, 2], 0, 2, 32, 2054);
 }
 
 fn short() {
@@ -148,53 +149,72 @@ fn short() {
         0,
         1,
         63,
-        1850,
+        2054,
     );
     one(b"order 3 2 1 0, output 6", &[3, 2, 1, 0], 0, 1, 64, 6);
     one(b"order 3 2 1 0, output 7", &[3, 2, 1, 0], 0, 1, 64, 7);
+    one(b"order 1 0, output 6", &[1, 0], 0, 4, 32, 6);
+    one(b"order 1 0, output 7", &[1, 0], 0, 4, 32, 7);
     let none = [0u16; 2];
-    one(b"order of length 0", &none[0..0], 0, 2, 32, 1850);
+    one(b"order of length 0", &none[0..0], 0, 2, 32, 2054);
 }
 
 fn counts() {
     let mut order = [0u16; 8194];
     turning(&mut order, 0, 0);
-    one(b"8192 darts, work area 0", &order[0..8192], 0, 1, 0, 1850);
-    one(b"8194 darts, work area 0", &order, 0, 1, 0, 1850);
+    one(b"8192 darts, work area 0", &order[0..8192], 0, 1, 0, 2054);
+    one(b"8194 darts, work area 0", &order, 0, 1, 0, 2054);
     one(
         b"8192 darts, each loose",
         &order[0..8192],
         0,
         2,
         131072,
-        1850,
+        2054,
     );
 }
 
 fn large() {
     let mut order = [0u16; 8192];
     turning(&mut order, 8191, 1);
-    one(b"ring of 4096 trails", &order, 0, 1, 131072, 1850);
-    one(b"ring of 4096 trails", &order, 0, 2, 131072, 1850);
+    one(b"ring of 4096 trails", &order, 0, 1, 131072, 2054);
+    one(b"ring of 4096 trails", &order, 0, 2, 131072, 2054);
+    one(b"ring of 4096 trails", &order, 0, 4, 131072, 2054);
     turning(&mut order, 2, 0);
-    one(b"star of 4096 trails", &order, 0, 1, 131072, 1850);
-    one(b"star of 4096 trails", &order, 0, 2, 131072, 1850);
+    one(b"star of 4096 trails", &order, 0, 1, 131072, 2054);
+    one(b"star of 4096 trails", &order, 0, 2, 131072, 2054);
+    one(b"star of 4096 trails", &order, 0, 4, 131072, 2054);
+    turning(&mut order, 1, 1);
+    one(b"loops of 4096 trails", &order, 0, 2, 131072, 2054);
+    one(b"loops of 4096 trails", &order, 0, 4, 131072, 2054);
 }
 
 // The car-park spur, from each of its starts.
 fn spur() {
     let order = [0u16, 2, 5, 4, 3, 1];
-    one(b"order 0 2 5 4 3 1", &order, 0, 1, 96, 1850);
-    one(b"order 0 2 5 4 3 1, start 1", &order, 1, 1, 96, 1850);
-    one(b"order 0 2 5 4 3 1, start 2", &order, 2, 1, 96, 1850);
-    one(b"order 0 2 5 4 3 1, start 3", &order, 3, 1, 96, 1850);
-    one(b"order 0 2 5 4 3 1, start 4", &order, 4, 1, 96, 1850);
-    one(b"order 0 2 5 4 3 1, start 5", &order, 5, 1, 96, 1850);
+    one(b"order 0 2 5 4 3 1", &order, 0, 1, 96, 2054);
+    one(b"order 0 2 5 4 3 1, start 1", &order, 1, 1, 96, 2054);
+    one(b"order 0 2 5 4 3 1, start 2", &order, 2, 1, 96, 2054);
+    one(b"order 0 2 5 4 3 1, start 3", &order, 3, 1, 96, 2054);
+    one(b"order 0 2 5 4 3 1, start 4", &order, 4, 1, 96, 2054);
+    one(b"order 0 2 5 4 3 1, start 5", &order, 5, 1, 96, 2054);
+}
+
+// Any planar plan, with loops and dead ends.
+fn any_plan() {
+    one(b"order 1 0", &[1, 0], 0, 4, 32, 2054);
+    one(b"order 0 1", &[0, 1], 0, 4, 32, 2054);
+    one(b"order 5 2 1 4 3 0", &[5, 2, 1, 4, 3, 0], 0, 4, 96, 2054);
+    one(b"order 5 2 4 0 1 3", &[5, 2, 4, 0, 1, 3], 0, 4, 96, 2054);
+    one(b"order 0 2 5 4 3 1", &[0, 2, 5, 4, 3, 1], 0, 4, 96, 2054);
+    one(b"order 0 1 2 3", &[0, 1, 2, 3], 0, 4, 64, 2054);
+    one(b"order 3 2 4 5 1 0", &[3, 2, 4, 5, 1, 0], 0, 4, 96, 2054);
 }
 
 fn main() {
     small();
     spur();
+    any_plan();
     refused();
     short();
     counts();
