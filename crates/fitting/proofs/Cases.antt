@@ -1,6 +1,7 @@
 -- The verdict, by the way on which the checks end, at plain values.
 --
---   takes-all, looped, dead-end, no-dead-end, other-kind   the ways of refusals 11 and 12
+--   loop-taken, loop-searched   loops in kind 4, and in another
+--   looped, dead-end, no-dead-end, other-kind   the ways of refusals 11 and 12
 --   vertices-named, surveyed   what naming the vertices and walking leave
 --   Looked               a plan that is judged, and its work area after it is surveyed
 --   parted               not every dart is met
@@ -24,7 +25,7 @@ use Rattle.model.specs.Map.{hasLoop, hasDeadEnd, loopRefused, degreeRefused, da
 use Rattle.model.specs.Traversal.{code, word}
 use Rattle.model.specs.Calls.{lateRefusals}
 use Rattle.model.proofs.Booleans.{not-intro}
-use Rattle.model.proofs.Fitness.{count-parts, loop-taken}
+use Rattle.model.proofs.Fitness.{count-parts}
 use Rattle.orbits.specs.Table.{tabulate}
 use Rattle.orbits.proofs.Tally.{count-le}
 use Rattle.orbits.proofs.Table.{length-tabulate}
@@ -43,30 +44,31 @@ use Rattle.fitting.specs.Judged.{Surveyed, localOf, lateRefusal, verdict
 
 -- ---- refusals 11 and 12
 
+pub loop-taken : (k : ℕ) (rot : List ℕ) → k ≡ 4 → false ≡ loopRefused k rot
+unfolding loopRefused
+loop-taken k rot e = rw e
+
+pub loop-searched : (k : ℕ) (rot : List ℕ) (r : Bool) → k ≢ 4 → r ≡ hasLoop rot → r ≡ loopRefused k rot
+unfolding loopRefused
+loop-searched k rot r d e = rw (ne-eqb k 4 d) e
+
 module _ (k : ℕ) (p : Plan) where
-  pub takes-all : k ≡ 4 → Fits ≡ localOf k p
-  unfolding localOf loopRefused degreeRefused
-  takes-all e = rw e
+  pub looped : loopRefused k (p .rotation) ≡ true → Refused 11 ≡ localOf k p
+  unfolding localOf
+  looped l = rw l
 
-  pub looped : k ≢ 4 → hasLoop (p .rotation) ≡ true → Refused 11 ≡ localOf k p
-  unfolding localOf loopRefused
-  looped d l = rw (ne-eqb k 4 d, l)
-
-  module _ (none : hasLoop (p .rotation) ≡ false) where
-    no-loop : loopRefused k (p .rotation) ≡ false
-    no-loop = loop-taken k (p .rotation) (λ _. none)
-
+  module _ (none : loopRefused k (p .rotation) ≡ false) where
     pub dead-end : k ≡ 1 → hasDeadEnd p ≡ true → Refused 12 ≡ localOf k p
     unfolding localOf degreeRefused
-    dead-end h e = rw (no-loop, eq-eqb k 1 h, e)
+    dead-end h e = rw (none, eq-eqb k 1 h, e)
 
     pub no-dead-end : k ≡ 1 → hasDeadEnd p ≡ false → Fits ≡ localOf k p
     unfolding localOf degreeRefused
-    no-dead-end h e = rw (no-loop, eq-eqb k 1 h, e)
+    no-dead-end h e = rw (none, eq-eqb k 1 h, e)
 
     pub other-kind : (k ≢ 1) → Fits ≡ localOf k p
     unfolding localOf degreeRefused
-    other-kind h = rw (no-loop, ne-eqb k 1 h)
+    other-kind h = rw (none, ne-eqb k 1 h)
 
 -- ---- the names and the walk
 
@@ -78,10 +80,10 @@ vertices-named rot w v w′ fits s =
     let l : length names ≡ length rot = length-tabulate (least (next rot) (length rot)) 0 (length rot) in
     ap (region 0 (length rot)) (s .named) ∙ region-placed 0 names w (omega arith) (length rot) (sym l)
 
-pub surveyed : (p : Plan) (w w₁ w₂ : List ℕ) (v met : ℕ) (loop : Bool) → 0 + darts p ≤ length w → Named (next (p .rotation)) (darts p) 0 w v w₁
-    → loop ≡ hasLoop (p .rotation) → Walked p w₁ met w₂ → Surveyed p w (record { vertices = v; looped = loop; met = met }) w₂
+pub surveyed : (k : ℕ) (p : Plan) (w w₁ w₂ : List ℕ) (v met : ℕ) (loop : Bool) → 0 + darts p ≤ length w → Named (next (p .rotation)) (darts p) 0 w v w₁
+    → loop ≡ loopRefused k (p .rotation) → Walked p w₁ met w₂ → Surveyed k p w (record { vertices = v; looped = loop; met = met }) w₂
 unfolding vertices
-surveyed p w w₁ w₂ v met loop fits s l t = record {
+surveyed k p w w₁ w₂ v met loop fits s l t = record {
   counted = s .counted;
   searched = l;
   all-met = t .counted;
@@ -96,17 +98,17 @@ few : (f : ℕ → ℕ) (n : ℕ) → n ≤ 8192 → cycles f n ≤ 8192
 unfolding cycles
 few f n h = let l = count-le (isLeast f n) n in omega arith
 
-pub record Looked (p : Plan) (w : List ℕ) (s : Survey) (w₁ : List ℕ) : Type 0 where
+pub record Looked (k : ℕ) (p : Plan) (w : List ℕ) (s : Survey) (w₁ : List ℕ) : Type 0 where
   pub fits : dartCountFits (darts p) ≡ true
   pub entries : isPermutation (p .rotation) ≡ true
   pub low : p .root < darts p
   pub room : 16 * darts p ≤ length w
-  pub survey : Surveyed p w s w₁
+  pub survey : Surveyed k p w s w₁
 
-module _ {p : Plan} {w : List ℕ} {s : Survey} {w₁ : List ℕ} (a : Looked p w s w₁) where
-  pub parted : {k : ℕ} → (s .met ≢ darts p) → Judged k p w (Refused 9) w₁
+module _ {k : ℕ} {p : Plan} {w : List ℕ} {s : Survey} {w₁ : List ℕ} (a : Looked k p w s w₁) where
+  pub parted : (s .met ≢ darts p) → Judged k p w (Refused 9) w₁
   unfolding verdictOf lateRefusal lateRefusals firstRefusal
-  parted {k} ne =
+  parted ne =
       let apart : connected (p .rotation) ≡ false =
       not-intro (connected (p .rotation)) (λ e. ne (a .survey .all-met ∙ connected-long p (a .fits) (a .low) (a .entries) e)) in
       record {
@@ -115,13 +117,13 @@ module _ {p : Plan} {w : List ℕ} {s : Survey} {w₁ : List ℕ} (a : Looked p 
         kept = a .survey .kept;
       }
 
-pub record Counted (p : Plan) (w : List ℕ) (s : Survey) (w₁ : List ℕ) (f : ℕ) (w₂ : List ℕ) : Type 0 where
-  pub looked : Looked p w s w₁
+pub record Counted (k : ℕ) (p : Plan) (w : List ℕ) (s : Survey) (w₁ : List ℕ) (f : ℕ) (w₂ : List ℕ) : Type 0 where
+  pub looked : Looked k p w s w₁
   pub all : s .met ≡ darts p
   pub named : Named (faceNext (p .rotation)) (darts p) (FACES * darts p) w₁ f w₂
 
-module _ {p : Plan} {w : List ℕ} {s : Survey} {w₁ : List ℕ} {f : ℕ} {w₂ : List ℕ} (b : Counted p w s w₁ f w₂) where
-  abbrev a : Looked p w s w₁
+module _ {k : ℕ} {p : Plan} {w : List ℕ} {s : Survey} {w₁ : List ℕ} {f : ℕ} {w₂ : List ℕ} (b : Counted k p w s w₁ f w₂) where
+  abbrev a : Looked k p w s w₁
   a = b .looked
 
   joined : connected (p .rotation) ≡ true
@@ -151,13 +153,13 @@ module _ {p : Plan} {w : List ℕ} {s : Survey} {w₁ : List ℕ} {f : ℕ} {w�
     unfolding characteristic vertices faces edges
     euler = rw (sym (a .survey .counted), sym (b .named .counted)) e
 
-    pub curved : {k : ℕ} → is x 2 ≡ false → Judged k p w (NotPlanar x) w₂
+    pub curved : is x 2 ≡ false → Judged k p w (NotPlanar x) w₂
     unfolding verdictOf lateRefusal lateRefusals firstRefusal planar
-    curved {k} u = let u′ = rw euler at u in record { answered = rw (joined, u′, euler); letters = λ z. letters-kept; kept = length-kept }
+    curved u = let u′ = rw euler at u in record { answered = rw (joined, u′, euler); letters = λ z. letters-kept; kept = length-kept }
 
-    pub flat : {k : ℕ} → is x 2 ≡ true → {v : Verdict} → v ≡ localOf k p → Judged k p w v w₂
+    pub flat : is x 2 ≡ true → {v : Verdict} → v ≡ localOf k p → Judged k p w v w₂
     unfolding verdictOf lateRefusal lateRefusals firstRefusal planar localOf
-    flat {k} u {v} q =
+    flat u {v} q =
         let u′ = rw euler at u in
         record {
           answered = q ∙ rw (joined, u′) (either (loopRefused k (p .rotation)) (degreeRefused k p));

@@ -1,6 +1,6 @@
 -- What the checks of a plan in the work area find: refusals 9 to 12.
 --
---   Surveyed             how many vertices, whether some edge is a loop, how many darts are met, and the letters by position
+--   Surveyed             how many vertices, whether some edge is a loop that the kind does not take, how many darts are met, and the letters by position
 --   localOf k p          the verdict of 11 and 12 alone
 --   lateRefusal k p      the first of 9, 10, 11, 12 that concerns the plan; 0 if none does
 --   verdictOf k p        the same as a verdict, 10 with the characteristic
@@ -12,7 +12,7 @@ use mathlib.Core.List.{List, map}
 use lib.Dec.{eqb}
 use lib.ListN.{length}
 use Rattle.model.specs.Numbers.{firstRefusal}
-use Rattle.model.specs.Map.{Plan, darts, characteristic, vertices, hasLoop, loopRefused, degreeRefused}
+use Rattle.model.specs.Map.{Plan, darts, characteristic, vertices, loopRefused, degreeRefused}
 use Rattle.model.specs.Traversal.{code, visits, word}
 use Rattle.model.specs.Calls.{lateRefusals}
 use Rattle.work.specs.Map.{LETTERS}
@@ -21,9 +21,9 @@ use Rattle.fitting.specs.declared.Survey.{Survey}
 use Rattle.fitting.specs.declared.Verdict.{Verdict}
 use Rattle.fitting.specs.declared.Verdict.the-variants.{Fits, Refused, NotPlanar}
 
-pub record Surveyed (p : Plan) (w : List ℕ) (s : Survey) (w′ : List ℕ) : Type 0 where
+pub record Surveyed (k : ℕ) (p : Plan) (w : List ℕ) (s : Survey) (w′ : List ℕ) : Type 0 where
   pub counted : s .vertices ≡ vertices (p .rotation)
-  pub searched : s .looped ≡ hasLoop (p .rotation)
+  pub searched : s .looped ≡ loopRefused k (p .rotation)
   pub all-met : s .met ≡ length (visits p)
   pub letters : region (LETTERS * darts p) (s .met) w′ ≡ map code (word p)
   pub kept : length w′ ≡ length w

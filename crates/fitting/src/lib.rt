@@ -5,7 +5,7 @@ ghost use Prim.Native.Nat.{_*_, _≤_, _<_};
 ghost use lib.ListN.{length};
 ghost use lib.IntN.{pos, _+ℤ_, _-ℤ_};
 ghost use Rattle.model.specs.Numbers.{isPermutation};
-ghost use Rattle.model.specs.Map.{dartCountFits, hasLoop, hasDeadEnd};
+ghost use Rattle.model.specs.Map.{dartCountFits, hasLoop, hasDeadEnd, loopRefused};
 ghost use Rattle.contour.specs.Steps.{VerticesNamed};
 ghost use Rattle.fitting.specs.Judged.{Surveyed, localOf, Judged};
 
@@ -16,7 +16,7 @@ pub enum Verdict {
     NotPlanar(i32),
 }
 
-// How many vertices there are, whether some edge is a loop, and how many darts the walk meets.
+// How many vertices there are, whether some edge is a loop that the kind does not take, and how many darts the walk meets.
 struct Survey {
     vertices: usize,
     looped: bool,
@@ -36,6 +36,17 @@ fn has_loop(order: &[u16], names: &[u16]) -> bool
         d += 2;
     }
     false
+}
+
+// Some edge is a loop, and this kind takes none.
+fn loop_refused(order: &[u16], kind: u16, names: &[u16]) -> bool
+    requires { ⌜ (dartCountFits (length (now order)) ≡ true) × (length (now order) ≤ length (now names)) × VerticesNamed (now order) (now names) ⌝ }
+    ensures { λ r. ⌜ r ≡ loopRefused kind (now (order .entry)) ⌝ }
+{
+    if kind == 4 {
+        return false;
+    }
+    has_loop(order, names)
 }
 
 // Some dart other than the root is alone at its vertex.
@@ -62,13 +73,13 @@ fn euler(v: usize, e: usize, f: usize) -> i32
 }
 
 // The vertices are named, loops are looked for by their names, and the plan is walked.
-fn surveyed(order: &[u16], root: usize, w: &mut [u16]) -> Survey
+fn surveyed(order: &[u16], root: usize, kind: u16, w: &mut [u16]) -> Survey
     requires { ⌜ (dartCountFits (length (now order)) ≡ true) × (isPermutation (now order) ≡ true) × (root < length (now order))
         × (16 * length (now order) ≤ length (now w)) ⌝ }
-    ensures { λ r. ⌜ Surveyed (record { rotation = now (order .entry); root = root }) (now (w .entry)) r (now (w .exit)) ⌝ }
+    ensures { λ r. ⌜ Surveyed kind (record { rotation = now (order .entry); root = root }) (now (w .entry)) r (now (w .exit)) ⌝ }
 {
     let vertices = cycles::name(order, false, w, 0);
-    let looped = has_loop(order, w);
+    let looped = loop_refused(order, kind, w);
     let met = contour::walk(order, root, w);
     Survey {
         vertices,
@@ -77,14 +88,11 @@ fn surveyed(order: &[u16], root: usize, w: &mut [u16]) -> Survey
     }
 }
 
-// Refusals 11 and 12, which never concern kind 4.
+// Refusals 11 and 12.
 fn local(order: &[u16], root: usize, kind: u16, looped: bool) -> Verdict
-    requires { ⌜ (isPermutation (now order) ≡ true) × (root < length (now order)) × (looped ≡ hasLoop (now order)) ⌝ }
+    requires { ⌜ (isPermutation (now order) ≡ true) × (root < length (now order)) × (looped ≡ loopRefused kind (now order)) ⌝ }
     ensures { λ r. ⌜ r ≡ localOf kind (record { rotation = now (order .entry); root = root }) ⌝ }
 {
-    if kind == 4 {
-        return Verdict::Fits;
-    }
     if looped {
         return Verdict::Refused(11);
     }
@@ -103,7 +111,7 @@ pub fn judge(order: &[u16], root: usize, kind: u16, w: &mut [u16]) -> Verdict
     ensures { λ r. ⌜ Judged kind (record { rotation = now (order .entry); root = root }) (now (w .entry)) r (now (w .exit)) ⌝ }
 {
     let n = order.len();
-    let s = surveyed(order, root, w);
+    let s = surveyed(order, root, kind, w);
     let met = s.met;
     if met != n {
         return Verdict::Refused(9);

@@ -10,8 +10,8 @@ named : (c : tie.After-name) → VerticesNamed (c .before .before .before .befor
 named c = let st = c .before .before .before .before in
     vertices-named (st .args .order .now) (st .args .w .now) (c .name .result) _ (omega (arith, st .pre .3)) (c .name .ensures)
 
-has-loop-requires : tie.Need-has-loop-requires
-has-loop-requires c κs = (c .before .before .before .before .before .before .before .pre .0, search needs, named (c .before .before .before))
+loop-refused-requires : tie.Need-loop-refused-requires
+loop-refused-requires c κs = (c .before .before .before .before .before .before .before .pre .0, search needs, named (c .before .before .before))
 
 walk-requires : tie.Need-walk-requires
 walk-requires c κs =
@@ -22,9 +22,9 @@ returns : tie.Need-returns
 returns c =
     let v = c .before .before .before .before .before .before .before .before .name in
     let room = c .before .before .before .before .before .before .before .before .before .before .before .before .pre .3 in
-    surveyed _ _ (v .last .1 .1 .0) _ _ _ _ (omega (arith, room)) (v .ensures) (c .before .before .before .before .has-loop .ensures)
+    surveyed _ _ _ (v .last .1 .1 .0) _ _ _ _ (omega (arith, room)) (v .ensures) (c .before .before .before .before .loop-refused .ensures)
     (c .before .before .walk .ensures)
 
 pub surveyed-spec : {M : Type 1} → statement M
 surveyed-spec =
-    tie.close (tie.spec (λ c κs. search needs) has-loop-requires walk-requires (λ c. search needs) returns)
+    tie.close (tie.spec (λ c κs. search needs) loop-refused-requires walk-requires (λ c. search needs) returns)
