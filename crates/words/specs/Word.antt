@@ -27,6 +27,7 @@
 --   decode f s            the word that the machine reads in at most f turns
 --   start bits labels     the state at the beginning
 --   decodeWord            the word for these tree bits and labels
+--   nestedWord w          the word w itself, if it is nested with loops taken
 use Prim.Native.Nat.{ℕ, zero, suc, _+_, _*_}
 use mathlib.Core.Bool.{Bool, true, false, not, _&&_, _||_, cond}
 use mathlib.Core.List.{List, [], _∷_, _++_}
@@ -302,3 +303,8 @@ start bits labels = record {
 
 unfoldable pub decodeWord : List ℕ → List ℕ → Found
 decodeWord bits labels = decode (suc (length bits)) (start bits labels)
+
+-- ---- reading letters
+
+unfoldable pub nestedWord : List Letter → Found
+nestedWord w = cond (nested true 1 0 [] [] w) (found w) none
