@@ -1,0 +1,3 @@
+mod Parts
+pub mod Linking
+pub mod Steps
