@@ -34,7 +34,7 @@ use Rattle.decoder.specs.declared.Outcome.the-variants.{Goes, Done, Stuc
 use Rattle.coding.specs.Payloads.{decodePayload}
 use Rattle.unpacker.specs.Unpacked.{labelsAt}
 use Rattle.unpacker.proofs.Payload.{bits-room}
-use Rattle.decoder.specs.Decoded.{Answered}
+use Rattle.builder.specs.Decoded.{Answered}
 use Rattle.decoder.specs.States.{Parts, partsOf, labelsOf, machineOf, machineAt, outcome, outcomeAt, Fits, Moved, Turned}
 use Rattle.decoder.proofs.Linking.{linked-end, first-dart, linked-whole}
 use Rattle.decoder.proofs.Parts.{dart-entered}

@@ -9,7 +9,7 @@ ghost use Rattle.packing.specs.Payload.{Sized, payloadBits};
 ghost use Rattle.work.specs.Area.{region};
 ghost use Rattle.coding.specs.Payloads.{decodePayload};
 ghost use Rattle.unpacker.specs.Unpacked.{labelsAt};
-ghost use Rattle.decoder.specs.Decoded.{Answered};
+ghost use Rattle.builder.specs.Decoded.{Answered};
 ghost use Rattle.decoder.specs.States.{nextBit, nextLabel, unread, Standing, Fits, Room, OneRead, Turned, TurnedAnyBits};
 ghost use Rattle.decoder.specs.States.{risenState, leafedState, backedState, enteredState, risenArea, leafedArea, backedArea, enteredArea};
 
