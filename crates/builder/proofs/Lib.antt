@@ -1,3 +1,3 @@
-mod Parts
+pub mod Parts
 pub mod Linking
 pub mod Steps
