@@ -1,5 +1,7 @@
 -- The parts of the work area, where d tree edges and o others are open: what stores and pops make of them. Assumes nothing.
 --
+--   below-long, trees-long, begun-long, opens-long   as many entries on the stacks as edges are open
+--   region-beside         two stores beside a region
 --   entered q x p         the parts p with dart x entered at place q
 --   dart-entered          a store into the rotation
 --   pushedTree, pushedOpen   the parts with a vertex and an edge pushed on the stacks of tree edges, and of other open edges
@@ -14,7 +16,7 @@ use lib.ListN.{length, getD, set, length-set}
 use Rattle.work.specs.Map.{BELOW, TREES, BEGUN, OPENS}
 use Rattle.work.specs.Area.{region, stack}
 use Rattle.work.proofs.Regions.{region-set, region-set-other}
-use Rattle.work.proofs.Stacks.{stack-set, stack-push, stack-pop}
+use Rattle.work.proofs.Stacks.{length-stack, stack-set, stack-push, stack-pop}
 use Rattle.builder.specs.Steps.{Parts, partsOf}
 
 abbrev pub entered : ℕ → ℕ → Parts → Parts
@@ -47,6 +49,22 @@ module _ (w : List ℕ) (i x j y : ℕ) where
 module _ (m : ℕ) (w : List ℕ) (d o : ℕ) where
   abbrev n : ℕ
   n = 2 * m
+
+  pub below-long : length (partsOf m w d o .below) ≡ d
+  unfolding partsOf
+  below-long = length-stack (BELOW * n) d w
+
+  pub trees-long : length (partsOf m w d o .trees) ≡ d
+  unfolding partsOf
+  trees-long = length-stack (TREES * n) d w
+
+  pub begun-long : length (partsOf m w d o .begun) ≡ o
+  unfolding partsOf
+  begun-long = length-stack (BEGUN * n) o w
+
+  pub opens-long : length (partsOf m w d o .opens) ≡ o
+  unfolding partsOf
+  opens-long = length-stack (OPENS * n) o w
 
   pub dart-entered : (q x : ℕ) → q < 2 * m → partsOf m (set w q x) d o ≡ entered q x (partsOf m w d o)
   unfolding partsOf

@@ -2,16 +2,18 @@
 --
 --   closing, early, empty the turn after an edge of label 1 has ended
 --   rising, at-root       the next bit is 0
---   leafing, backing, entering   the next bit is not 0, and a bit and a label follow
---   no-bit, no-label      one of these is missing
---   room-left             there is room for the edge that begins
+--   unread-moved          moving a cursor by one bit and back
+--   one-read              the next bit is not 0, and the cursor is moved on
+--   no-bit, no-label      a bit and a label should follow, and one of these is missing
+--   room-left             both follow, and there is room for the edge that begins
+--   leafing, backing, entering   what begins
 --   open-left, label-left, finishing   no bit is left
 use Prim.Native.Nat.{ℕ, _+_, _-_, _*_, _≤_, _<_}
 use native.Mathlib.Numerals.{add-one}
 use native.Mathlib.Omega.{arith}
 use mathlib.Core.Path.{_≡_, refl, sym, ap, subst, _∙_}
 use mathlib.Core.Logic.{_≢_}
-use mathlib.Core.List.{List, [], _∷_, _++_}
+use mathlib.Core.List.{List, [], _∷_}
 use lib.ListN.{length, getD, drop, length-drop, drop-of-length-le}
 use lib.Seq.{drop-cons}
 use Rattle.model.specs.Traversal.{Letter, down, up, first, second}
@@ -20,12 +22,11 @@ use Rattle.words.specs.Word.{Machine, goes, done, stuck, turn, head, tail}
 use Rattle.machine.proofs.Lengths.{head-tail}
 use Rattle.machine.proofs.Turns.{turn-close, stuck-none, stuck-early, turn-up, stuck-root, turn-done, stuck-left}
 use Rattle.machine.proofs.Turns.{turn-star, turn-back, turn-tree, stuck-bit, stuck-label}
-use Rattle.work.specs.Map.{BELOW, TREES, BEGUN, OPENS}
 use Rattle.work.specs.Area.{stack}
-use Rattle.work.proofs.Stacks.{length-stack}
 use Rattle.unpacker.specs.Unpacked.{labelsAt}
 use Rattle.builder.specs.declared.State.{State}
 use Rattle.builder.specs.Steps.{Parts, partsOf, partsAt, stateAfter, partsAfter, edgeOf, begunAfter, Room, Stepped}
+use Rattle.builder.proofs.Parts.{below-long, trees-long, begun-long, opens-long}
 use Rattle.builder.proofs.Steps.{stepped-stands, stepped-built}
 use Rattle.decoder.specs.declared.Cursor.{Cursor}
 use Rattle.decoder.specs.States.{labelsOf, machineOf, machineAt, unread, bitOn, labelOn, Fits, OneRead, Leafed, Moved}
@@ -38,46 +39,28 @@ rest-cons xs k h = rw add-one (drop-cons xs k 0 h)
 some : (xs : List ℕ) → 0 < length xs → xs ≡ head xs ∷ tail xs
 some xs h = sym (head-tail xs (length xs - 1) (omega arith))
 
-module _ (m : ℕ) (w : List ℕ) (s : State) where
-  below-long : length (partsAt m w s .below) ≡ s .depth
-  unfolding partsOf
-  below-long = length-stack (BELOW * (2 * m)) (s .depth) w
-
-  trees-long : length (partsAt m w s .trees) ≡ s .depth
-  unfolding partsOf
-  trees-long = length-stack (TREES * (2 * m)) (s .depth) w
-
-  begun-long : length (partsAt m w s .begun) ≡ s .opens
-  unfolding partsOf
-  begun-long = length-stack (BEGUN * (2 * m)) (s .opens) w
-
-  opens-long : length (partsAt m w s .opens) ≡ s .opens
-  unfolding partsOf
-  opens-long = length-stack (OPENS * (2 * m)) (s .opens) w
-
 -- ---- a letter moves the machine
 
 -- the numbers of a state are in range
 abbrev Within : ℕ → State → Cursor → Type 0
 Within m t d = (d .bits ≤ 2 * m) × (d .labels ≤ m) × (t .depth + t .opens ≤ d .labels) × (t .n ≤ d .labels + 1)
 
--- the machine after the letter x, with the label k and the cursor d
-module _ (bs ls : List ℕ) (p : Parts) (s : State) (c : Cursor) where
-  abbrev machineAfter : Letter → ℕ → Cursor → Machine
-  machineAfter x k d = machineOf bs ls (partsAfter x p s (edgeOf x p (c .labels))) (stateAfter x p s (edgeOf x p (c .labels))) k d
-
+-- a letter x of edge e; k and d are the label and the cursor after it
 module _ (m : ℕ) (bs w : List ℕ) (s : State) (l : ℕ) (c : Cursor) (f : Fits m w s c) where
   abbrev here : Parts
   here = partsAt m w s
 
+  abbrev machineAfter : Letter → ℕ → ℕ → Cursor → Machine
+  machineAfter x e k d = machineOf bs (labelsAt m w) (partsAfter x here s e) (stateAfter x here s e) k d
+
   moves : (x : Letter) (e : ℕ) (t : State) (w′ : List ℕ) → Stepped x m w s e t w′ → e < m → e ≡ edgeOf x here (c .labels)
-      → (k : ℕ) (d : Cursor) → turn (machineAt m bs w s l c) ≡ goes (x ∷ []) (machineAfter bs (labelsAt m w) here s c x k d)
+      → (k : ℕ) (d : Cursor) → turn (machineAt m bs w s l c) ≡ goes (x ∷ []) (machineAfter x e k d)
       → d .labels ≡ begunAfter x (c .labels) → Within m (stateAfter x here s e) d → Moved m bs w s l c t k d w′
   moves x e t w′ g small edge k d turns begun within =
       let (bits-in, labels-in, edges, vertices) = subst (λ (u : State). Within m u d) (sym (g .state-is)) within in
       record {
         letters = x ∷ [];
-        turns = rw (g .parts-are, labels-kept g, g .state-is, edge) turns;
+        turns = rw (g .parts-are, labels-kept g, g .state-is) turns;
         built = λ v. rw begun (stepped-built x m w s e t w′ g (c .labels) edge v);
         fits = record {
           stands = stepped-stands x m w s e t w′ g (f .stands) small (omega arith);
@@ -98,20 +81,20 @@ module _ (m : ℕ) (bs w : List ℕ) (s : State) (c : Cursor) where
 
   module _ (h : 0 < s .opens) where
     begun-some : partsAt m w s .begun ≡ head (partsAt m w s .begun) ∷ tail (partsAt m w s .begun)
-    begun-some = let k = begun-long m w s in some _ (omega arith)
+    begun-some = let k = begun-long m w (s .depth) (s .opens) in some _ (omega arith)
 
     pub early : head (partsAt m w s .begun) ≤ s .here → turn (machineAt m bs w s 1 c) ≡ stuck
     unfolding machineOf
     early l = stuck-early (machineAt m bs w s 1 c) _ _ refl begun-some l
 
     pub closing : Fits m w s c → s .here < head (partsAt m w s .begun) → (e : ℕ) → e ≡ head (partsAt m w s .opens) → e < m
-        → (k : ℕ) → k ≡ getD (labelsAt m w) e 0 → (t : State) (w′ : List ℕ) → Stepped second m w s e t w′ → Moved m bs w s 1 c t k c w′
+        → (t : State) (w′ : List ℕ) → Stepped second m w s e t w′ → (k : ℕ) → k ≡ getD (labelsAt m w′) e 0 → Moved m bs w s 1 c t k c w′
     unfolding machineOf
-    closing f l e q small k i t w′ g =
-        let j = opens-long m w s in
+    closing f l e q small t w′ g k i =
+        let j = opens-long m w (s .depth) (s .opens) in
         moves m bs w s 1 c f second e t w′ g small q k c
         (turn-close (machineAt m bs w s 1 c) _ _ refl begun-some l
-        ∙ ap (goes (second ∷ [])) (rw (i, q, label-first (labelsAt m w) (partsAt m w s .opens) (omega arith), labels-rest)))
+        ∙ ap (goes (second ∷ [])) (rw (i, labels-kept g, q, label-first (labelsAt m w) (partsAt m w s .opens) (omega arith), labels-rest)))
         refl (f .bits-in, f .labels-in, omega arith, f .vertices)
 
 -- ---- the next bit is 0
@@ -125,15 +108,15 @@ module _ (m : ℕ) (bs w : List ℕ) (s : State) (l : ℕ) (c : Cursor) (t : l �
   at-root e = stuck-root (machineAt m bs w s l c) (drop (c .bits + 1) bs) t zero-next (rw e)
 
   pub rising : length bs ≡ 2 * m → Fits m w s c → 0 < s .depth → (e : ℕ) → e ≡ head (partsAt m w s .trees) → e < m
-      → (k : ℕ) → k ≡ getD (labelsAt m w) e 0 → (u : State) (w′ : List ℕ) → Stepped up m w s e u w′ → Moved m bs w s l c u k d w′
+      → (u : State) (w′ : List ℕ) → Stepped up m w s e u w′ → (k : ℕ) → k ≡ getD (labelsAt m w′) e 0 → Moved m bs w s l c u k d w′
   unfolding machineOf
-  rising size f h e q small k i u w′ g =
+  rising size f h e q small u w′ g k i =
       let z = r .0 in
-      let j = below-long m w s in let n = trees-long m w s in
+      let j = below-long m w (s .depth) (s .opens) in let n = trees-long m w (s .depth) (s .opens) in
       rw (r .2)
       (moves m bs w s l c f up e u w′ g small q k (bitOn c)
       (turn-up (machineAt m bs w s l c) _ _ (drop (c .bits + 1) bs) t zero-next (some _ (omega arith))
-      ∙ ap (goes (up ∷ [])) (rw (i, q, label-first (labelsAt m w) (partsAt m w s .trees) (omega arith), labels-rest)))
+      ∙ ap (goes (up ∷ [])) (rw (i, labels-kept g, q, label-first (labelsAt m w) (partsAt m w s .trees) (omega arith), labels-rest)))
       refl (omega arith, f .labels-in, omega arith, f .vertices))
 
 -- ---- the bit before c is not 0
@@ -253,7 +236,7 @@ module _ (m : ℕ) (bs w : List ℕ) (s : State) (l : ℕ) (c : Cursor) (t : l �
   pub open-left : 0 < s .depth + s .opens → turn (machineAt m bs w s l c) ≡ stuck
   unfolding machineOf
   open-left h =
-      let j = below-long m w s in let k = begun-long m w s in
+      let j = below-long m w (s .depth) (s .opens) in let k = begun-long m w (s .depth) (s .opens) in
       stuck-left (machineAt m bs w s l c) t (drop-of-length-le bs e) (omega arith)
 
   pub label-left : c .labels < length (labelsAt m w) → turn (machineAt m bs w s l c) ≡ stuck

@@ -32,7 +32,7 @@ enum Outcome {
     Stuck,
 }
 
-// ---- the cursor
+// ---- labels and tree bits
 
 // The label of edge e.
 fn label_of(w: &[u16], m: usize, e: usize) -> u16
@@ -101,8 +101,8 @@ fn close_last(w: &mut [u16], m: usize, s: State, c: Cursor) -> Outcome
         return Outcome::Stuck;
     }
     let e = builder::last_open(w, m, s);
-    let label = label_of(w, m, e);
     let t = builder::close(w, m, s, e);
+    let label = label_of(w, m, e);
     Outcome::Goes(t, label, c)
 }
 
@@ -194,8 +194,8 @@ fn turn(payload: &[u8], m: usize, w: &mut [u16], s: State, label: u16, c: Cursor
                 return Outcome::Stuck;
             }
             let e = builder::last_tree(w, m, s);
-            let ended = label_of(w, m, e);
             let t = builder::rise(w, m, s, e);
+            let ended = label_of(w, m, e);
             return Outcome::Goes(t, ended, d);
         }
     }

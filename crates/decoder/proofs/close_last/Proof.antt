@@ -23,8 +23,7 @@ returns-3 c = λ bs.
     let e = c .before .before .before .before .before .before .last-open .ensures in
     let test = c .before .before .before .before .before .before .before .before in
     let v = test .before .last-begun .ensures in let h = test .if2 .left in let o = test .before .before .before .if1 .left in
-    closing _ bs _ _ _ (omega arith) p (omega arith) _ (e .0) (e .1) _ (c .before .before .before .before .label-of .ensures) _ _
-    (c .before .before .close .ensures)
+    closing _ bs _ _ _ (omega arith) p (omega arith) _ (e .0) (e .1) _ _ (c .before .before .before .before .close .ensures) _ (c .label-of .ensures)
 
 pub close-last-spec : {M : Type 1} → statement M
 close-last-spec =

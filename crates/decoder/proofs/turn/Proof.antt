@@ -83,12 +83,6 @@ returns-6 c =
     let t = c .before .before .before .before .before .before .if1 .left in
     (at-root _ _ _ _ _ _ t _ (bit-zero (c .before)) (c .if5 .taken), refl)
 
-rise-requires : tie.Need-rise-requires
-rise-requires c κs =
-    let e = c .before .before .before .last-tree .ensures in
-    let f = c .before .before .before .before .before .before .before .before .before .before .before .before .before .before .pre .1 in
-    (f .stands, omega arith, e .0, e .1)
-
 returns-7 : tie.Need-returns-7
 unfolding Turned
 returns-7 c =
@@ -96,7 +90,7 @@ returns-7 c =
     let st = test .before .before .before .before .before .before .before .before .before in
     let e = c .before .before .before .before .before .before .last-tree .ensures in
     rising _ _ _ _ _ _ (test .before .before .before .before .before .before .if1 .left) _ (bit-zero (test .before)) (bits-are st) (st .pre .1)
-    (omega arith) _ (e .0) (e .1) _ (c .before .before .before .before .label-of .ensures) _ _ (c .before .before .rise .ensures)
+    (omega arith) _ (e .0) (e .1) _ _ (c .before .before .before .before .rise .ensures) _ (c .label-of .ensures)
 
 pub turn-spec : {M : Type 1} → statement M
 turn-spec =
@@ -118,6 +112,6 @@ turn-spec =
     returns-6
     (λ c κs. search needs)
     (λ c κs. search needs)
-    rise-requires
+    (λ c κs. search needs)
     (λ c. search needs)
     returns-7)
