@@ -1,6 +1,6 @@
-mod Linking
-mod Parts
-mod Moves
+mod Labels
 mod Cursors
-mod Turning
+mod Leaves
+mod Moves
+mod Openings
 mod Runs

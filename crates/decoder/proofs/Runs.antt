@@ -28,36 +28,38 @@ use Rattle.work.specs.Area.{region, placed, stack}
 use Rattle.work.proofs.Regions.{length-placed, region-placed, region-placed-other}
 use Rattle.work.proofs.Stacks.{length-stack}
 use Rattle.decoder.specs.declared.Cursor.{Cursor}
-use Rattle.decoder.specs.declared.State.{State}
 use Rattle.decoder.specs.declared.Outcome.{Outcome}
 use Rattle.decoder.specs.declared.Outcome.the-variants.{Goes, Done, Stuck}
 use Rattle.coding.specs.Payloads.{decodePayload}
 use Rattle.unpacker.specs.Unpacked.{labelsAt}
 use Rattle.unpacker.proofs.Payload.{bits-room}
-use Rattle.decoder.specs.Decoded.{Answered}
-use Rattle.decoder.specs.States.{Parts, partsOf, labelsOf, machineOf, machineAt, outcome, outcomeAt, Fits, Moved, Turned}
-use Rattle.decoder.proofs.Linking.{linked-end, first-dart, linked-whole}
-use Rattle.decoder.proofs.Parts.{dart-entered}
+use Rattle.builder.specs.declared.State.{State}
+use Rattle.builder.specs.Steps.{Parts, partsOf, outcome, outcomeAt}
+use Rattle.builder.specs.Decoded.{Answered}
+use Rattle.builder.proofs.Linking.{linked-end, linked-whole}
+use Rattle.builder.proofs.Parts.{dart-entered}
+use Rattle.decoder.specs.States.{labelsOf, machineOf, machineAt, Fits, Moved, Turned}
+use Rattle.decoder.proofs.Openings.{first-dart}
 
 abbrev pub first-state : State
-first-state = record { n = 1; here = 0; depth = 0; opens = 0; label = 0; place = 0 }
+first-state = record { n = 1; here = 0; depth = 0; opens = 0; place = 0 }
 
 abbrev pub first-cursor : Cursor
 first-cursor = record { bits = 0; labels = 0 }
 
 -- w₀ is the work area at the start
-pub record Running (m : ℕ) (bs w₀ w : List ℕ) (s : State) (c : Cursor) : Type 0 where
+pub record Running (m : ℕ) (bs w₀ w : List ℕ) (s : State) (l : ℕ) (c : Cursor) : Type 0 where
   pub fits : Fits m w s c
   pub letters : List Letter
-  pub paced : length letters + left (machineAt m bs w s c) ≡ length bs
-  pub built : (v : List Letter) → outcomeAt m w s c v ≡ outcomeAt m w₀ first-state first-cursor (letters ++ v)
-  pub answer : after letters (run (machineAt m bs w s c)) ≡ run (start bs (labelsAt m w₀))
+  pub paced : length letters + left (machineAt m bs w s l c) ≡ length bs
+  pub built : (v : List Letter) → outcomeAt m w s (c .labels) v ≡ outcomeAt m w₀ first-state 0 (letters ++ v)
+  pub answer : after letters (run (machineAt m bs w s l c)) ≡ run (start bs (labelsAt m w₀))
   pub kept : length w ≡ length w₀
 
 -- how much is left, by the cursor and the stack
-pub left-is : (m : ℕ) (bs w : List ℕ) (s : State) (c : Cursor) → left (machineAt m bs w s c) ≡ length bs - c .bits + s .opens
+pub left-is : (m : ℕ) (bs w : List ℕ) (s : State) (l : ℕ) (c : Cursor) → left (machineAt m bs w s l c) ≡ length bs - c .bits + s .opens
 unfolding machineOf partsOf
-left-is m bs w s c = rw (length-drop (c .bits) bs, length-stack (BEGUN * (2 * m)) (s .opens) w)
+left-is m bs w s l c = rw (length-drop (c .bits) bs, length-stack (BEGUN * (2 * m)) (s .opens) w)
 
 nothing-after : (xs : List Letter) → after xs none ≡ none
 nothing-after [] = refl
@@ -68,7 +70,7 @@ only-these [] = refl
 only-these (x ∷ xs) = ap (λ (r : List Letter). found (x ∷ r)) (append-nil xs)
 
 module _ (m : ℕ) (bs w₀ : List ℕ) where
-  pub running-start : 1 ≤ m → m ≤ 4096 → 32 * m ≤ length w₀ → Running m bs w₀ w₀ first-state first-cursor
+  pub running-start : 1 ≤ m → m ≤ 4096 → 32 * m ≤ length w₀ → Running m bs w₀ w₀ first-state 0 first-cursor
   unfolding machineOf partsOf labelsOf stack start allBelow
   running-start g h r = record {
     fits = record {
@@ -92,32 +94,32 @@ module _ (m : ℕ) (bs w₀ : List ℕ) where
     kept = refl;
   }
 
-  module _ (w : List ℕ) (s : State) (c : Cursor) (i : Running m bs w₀ w s c) where
+  module _ (w : List ℕ) (s : State) (l : ℕ) (c : Cursor) (i : Running m bs w₀ w s l c) where
     abbrev here : Machine
-    here = machineAt m bs w s c
+    here = machineAt m bs w s l c
 
-    pub running-on : (w′ : List ℕ) (t : State) (d : Cursor) → Moved m bs w s c t d w′ → Running m bs w₀ w′ t d
-    running-on w′ t d x =
+    pub running-on : (w′ : List ℕ) (t : State) (k : ℕ) (d : Cursor) → Moved m bs w s l c t k d w′ → Running m bs w₀ w′ t k d
+    running-on w′ t k d x =
         let p = i .paced in
-        let q = turn-left here (machineAt m bs w′ t d) (x .letters) (x .turns) .0 in
-        let k = length-append (i .letters) (x .letters) in
+        let q = turn-left here (machineAt m bs w′ t k d) (x .letters) (x .turns) .0 in
+        let n = length-append (i .letters) (x .letters) in
         record {
           fits = x .fits;
           letters = i .letters ++ x .letters;
           paced = omega arith;
           built = λ v. x .built v ∙ i .built (x .letters ++ v)
-              ∙ ap (outcomeAt m w₀ first-state first-cursor) (sym (append-assoc (i .letters) (x .letters) v));
-          answer = run-on (i .letters) here (machineAt m bs w′ t d) (x .letters) (x .turns) ∙ i .answer;
+              ∙ ap (outcomeAt m w₀ first-state 0) (sym (append-assoc (i .letters) (x .letters) v));
+          answer = run-on (i .letters) here (machineAt m bs w′ t k d) (x .letters) (x .turns) ∙ i .answer;
           kept = x .kept ∙ i .kept;
         }
 
     -- each turn leaves less
-    pub running-less : (w′ : List ℕ) (t : State) (d : Cursor) → Moved m bs w s c t d w′
+    pub running-less : (w′ : List ℕ) (t : State) (k : ℕ) (d : Cursor) → Moved m bs w s l c t k d w′
         → length bs - d .bits + t .opens < length bs - c .bits + s .opens
-    running-less w′ t d x =
-        let q = turn-left here (machineAt m bs w′ t d) (x .letters) (x .turns) in
+    running-less w′ t k d x =
+        let q = turn-left here (machineAt m bs w′ t k d) (x .letters) (x .turns) in
         let a = q .0 in let b = q .1 in
-        let e = left-is m bs w s c in let f = left-is m bs w′ t d in
+        let e = left-is m bs w s l c in let f = left-is m bs w′ t k d in
         omega arith
 
     pub answer-stuck : (w′ : List ℕ) → turn here ≡ stuck → Answered (decodeWord bs (labelsAt m w₀)) (2 * m) false w′
@@ -157,19 +159,19 @@ module _ (m : ℕ) (bs w₀ : List ℕ) where
 
 -- ---- what a turn hands back
 
-module _ (m : ℕ) (bs w : List ℕ) (s : State) (c : Cursor) (o : Outcome) (w′ : List ℕ) (x : Turned m bs w s c o w′) where
-  turned : (r : Outcome) → o ≡ r → Turned m bs w s c r w′
-  turned r e = subst (λ (y : Outcome). Turned m bs w s c y w′) e x
+module _ (m : ℕ) (bs w : List ℕ) (s : State) (l : ℕ) (c : Cursor) (o : Outcome) (w′ : List ℕ) (x : Turned m bs w s l c o w′) where
+  turned : (r : Outcome) → o ≡ r → Turned m bs w s l c r w′
+  turned r e = subst (λ (y : Outcome). Turned m bs w s l c y w′) e x
 
-  pub turned-goes : (t : State) (d : Cursor) → o ≡ Goes t d → Moved m bs w s c t d w′
+  pub turned-goes : (t : State) (k : ℕ) (d : Cursor) → o ≡ Goes t k d → Moved m bs w s l c t k d w′
   unfolding Turned
-  turned-goes t d = turned (Goes t d)
+  turned-goes t k d = turned (Goes t k d)
 
-  pub turned-done : o ≡ Done → (turn (machineAt m bs w s c) ≡ done) × (w′ ≡ w)
+  pub turned-done : o ≡ Done → (turn (machineAt m bs w s l c) ≡ done) × (w′ ≡ w)
   unfolding Turned
   turned-done = turned Done
 
-  pub turned-stuck : o ≡ Stuck → (turn (machineAt m bs w s c) ≡ stuck) × (w′ ≡ w)
+  pub turned-stuck : o ≡ Stuck → (turn (machineAt m bs w s l c) ≡ stuck) × (w′ ≡ w)
   unfolding Turned
   turned-stuck = turned Stuck
 

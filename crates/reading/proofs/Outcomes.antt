@@ -21,7 +21,7 @@ use Rattle.words.specs.Word.{planOf}
 use Rattle.coding.specs.Payloads.{decodeRecord}
 use Rattle.coding.proofs.Records.{decodes-has, decodes-standard, none-has}
 use Rattle.work.specs.Area.{region}
-use Rattle.decoder.specs.Decoded.{Answered}
+use Rattle.builder.specs.Decoded.{Answered}
 use Rattle.reading.specs.Planned.{Planned, planned, no-plan}
 use Rattle.reading.proofs.Answers.{not-both}
 use Rattle.reading.proofs.Checks.{early-facts}

@@ -13,7 +13,7 @@ use Rattle.model.specs.Shelf.{kindOf, edgesOf, passes}
 use Rattle.model.proofs.Heads.{passes-facts}
 use Rattle.coding.specs.Payloads.{decodePayload, decodeRecord}
 use Rattle.packing.specs.Payload.{Sized}
-use Rattle.decoder.specs.Decoded.{Answered}
+use Rattle.builder.specs.Decoded.{Answered}
 
 module _ (r : List ℕ) (k m : ℕ) (passed : passes r ≡ true) (k-is : k ≡ kindOf r) (m-is : m ≡ edgesOf r) where
   abbrev part : List ℕ

@@ -13,20 +13,20 @@ use Rattle.decoder.proofs.run.Statement.{statement}
 use Rattle.decoder.proofs.run.Tie as tie
 
 abbrev Inv-loop : tie.InvT-loop
-Inv-loop payload m w₀ s₀ c₀ w s c = Running m (payloadBits m payload) w₀ w s c
+Inv-loop payload m w₀ s₀ label₀ c₀ w s label c = Running m (payloadBits m payload) w₀ w s label c
 
 abbrev μ-loop : tie.MeasureT-loop
-μ-loop payload m w₀ s₀ c₀ w s c = length (payloadBits m payload) - c .bits + s .opens
+μ-loop payload m w₀ s₀ label₀ c₀ w s label c = length (payloadBits m payload) - c .bits + s .opens
 
 moved : (c : tie.After-known-told Inv-loop μ-loop) →
     let a = c .before .before .before .before .before .before .before .before .before .before .args in
     let at = c .before .before .before .before .before .before .before .loop in
     let t = c .before .t .given .0 in
     let w = c .before .before .before .before .before .turn .last .1 .1 .0 in
-    Moved (a .m) (payloadBits (a .m) (a .payload .now)) (at .w) (at .s) (at .c) (t .0) (t .1 .0) w
+    Moved (a .m) (payloadBits (a .m) (a .payload .now)) (at .w) (at .s) (at .label) (at .c) (t .0) (t .1 .0) (t .1 .1 .0) w
 moved c =
     let v = c .before .before .before .before .before .turn in
-    turned-goes _ _ _ _ _ (v .result) _ (v .ensures) _ _ (c .before .t .given .1)
+    turned-goes _ _ _ _ _ _ (v .result) _ (v .ensures) _ _ _ (c .before .t .given .1)
 
 loop-holds : tie.Need-loop-holds Inv-loop μ-loop
 loop-holds c = let p = c .before .before .pre in running-start _ _ _ (p .0 .0) (p .0 .1) (p .1 .0)
@@ -35,10 +35,10 @@ turn-requires : tie.Need-turn-requires Inv-loop μ-loop
 turn-requires c κs = let h = c .before .before .before .before .pre .0 in (h .2, c .before .loop .inv .fits)
 
 loop-less : tie.Need-loop-less Inv-loop μ-loop
-loop-less c = running-less _ _ _ _ _ _ (c .before .before .before .before .before .before .before .loop .inv) _ _ _ (moved c)
+loop-less c = running-less _ _ _ _ _ _ _ (c .before .before .before .before .before .before .before .loop .inv) _ _ _ _ (moved c)
 
 loop-again : tie.Need-loop-again Inv-loop μ-loop
-loop-again c = running-on _ _ _ _ _ _ (c .before .before .before .before .before .before .before .loop .inv) _ _ _ (moved c)
+loop-again c = running-on _ _ _ _ _ _ _ (c .before .before .before .before .before .before .before .loop .inv) _ _ _ _ (moved c)
 
 -- the place that waits for dart 0 is in the work area
 place-in : (c : tie.After-enum-told Inv-loop μ-loop) →
@@ -66,15 +66,15 @@ returns c =
     let v = c .before .before .before .before .turn in
     let at = c .before .before .before .before .before .before .loop in
     let i = at .inv in
-    let d = turned-done _ _ _ _ _ (v .result) _ (v .ensures) (c .enum-told .given .1) in
-    answer-done _ _ _ _ _ _ i _ (bit-count _ _ (p .0 .2)) (p .1 .1) (d .0) (ap (λ (x : List ℕ). set x (at .s .place) 0) (d .1))
+    let d = turned-done _ _ _ _ _ _ (v .result) _ (v .ensures) (c .enum-told .given .1) in
+    answer-done _ _ _ _ _ _ _ i _ (bit-count _ _ (p .0 .2)) (p .1 .1) (d .0) (ap (λ (x : List ℕ). set x (at .s .place) 0) (d .1))
 
 returns-2 : tie.Need-returns-2 Inv-loop μ-loop
 returns-2 c =
     let v = c .before .before .before .before .turn in
     let i = c .before .before .before .before .before .before .loop .inv in
-    let d = turned-stuck _ _ _ _ _ (v .result) _ (v .ensures) (c .enum-told2 .given .1) in
-    answer-stuck _ _ _ _ _ _ i _ (d .0)
+    let d = turned-stuck _ _ _ _ _ _ (v .result) _ (v .ensures) (c .enum-told2 .given .1) in
+    answer-stuck _ _ _ _ _ _ _ i _ (d .0)
 
 pub run-spec : {M : Type 1} → statement M
 run-spec =

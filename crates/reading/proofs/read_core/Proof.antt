@@ -8,7 +8,7 @@ use Rattle.model.specs.Shelf.{edgesOf}
 use Rattle.model.proofs.Permutations.{all-below}
 use Rattle.model.proofs.Heads.{passes-facts}
 use Rattle.coding.specs.Payloads.{decodeRecord}
-use Rattle.decoder.specs.Decoded.{Answered}
+use Rattle.builder.specs.Decoded.{Answered}
 use Rattle.reading.proofs.Payloads.{payload-sized, record-decoded}
 use Rattle.reading.proofs.Outcomes.{core-unreadable, core-read}
 use borrow.Author.Needs.{needs}

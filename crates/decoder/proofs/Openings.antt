@@ -1,33 +1,18 @@
--- Darts entered one after the other, each where the dart before it waits for its successor.
+-- The first dart of a word that the machine reads. Assumes nothing.
 --
---   linked-step           the next dart is entered at the place that waits for it; its own place waits then
---   linked-end            after the last letter dart 0 is entered
---   first-dart            a word that the machine reads from where nothing is open begins with dart 0
---   linked-whole          such a word, linked from the start, gives its rotation
-use Prim.Native.Nat.{ℕ, zero, suc}
+--   first-dart            from where nothing is open it is dart 0
 use native.Mathlib.Omega.{arith}
+use Prim.Native.Nat.{ℕ}
 use mathlib.Core.Path.{_≡_, refl, sym, ap, _∙_}
 use mathlib.Core.Logic.{_≢_}
 use mathlib.Core.List.{List, [], _∷_}
-use lib.ListN.{length, set, replicate}
+use lib.ListN.{length}
 use Rattle.model.specs.Traversal.{Letter, down, up, first}
-use Rattle.words.specs.Word.{head, wordDarts, placeOf, link, rotationOf, Found, found, none, after, Machine}
-use Rattle.machine.specs.Reading.{run}
+use Rattle.words.specs.Word.{head, wordDarts, Found, found, none, after, Machine}
 use Rattle.words.proofs.Found.{wordIn}
+use Rattle.machine.specs.Reading.{run}
 use Rattle.machine.proofs.Runs.{run-goes, run-done, run-stuck}
 use Rattle.machine.proofs.Turns.{Step, closes, rises, leafs, backs, enters, finishes, halts, step, turn-star, turn-back, turn-tree, turn-done}
-use Rattle.decoder.specs.States.{linked}
-
-pub linked-step : (q p : ℕ) (l : Letter) (v : List Letter) (x : ℕ) (xs out : List ℕ) → p ≡ placeOf l x
-    → linked p v xs (set out q x) ≡ linked q (l ∷ v) (x ∷ xs) out
-unfolding linked link
-linked-step q p l v x xs out e = rw e
-
-pub linked-end : (q : ℕ) (out : List ℕ) → linked q [] [] out ≡ set out q 0
-unfolding linked link
-linked-end q out = refl
-
--- ---- the beginning
 
 abbrev firstDart : Found → ℕ
 firstDart r = head (wordDarts 0 [] [] (wordIn r))
@@ -55,15 +40,3 @@ first-dart s n p = go (step s)
     go (enters b l c bs ls t e z q h k) = ap firstDart (run-goes s _ _ (turn-tree s b l c bs ls t e z q h k)) ∙ opening-down [] (run _)
     go (finishes t e a b c) = ap firstDart (run-done s (turn-done s t e a b c))
     go (halts e) = ap firstDart (run-stuck s e)
-
-abbrev blank : ℕ → List ℕ
-blank n = replicate n 0
-
-set-zero : (n : ℕ) → set (blank n) 0 0 ≡ blank n
-set-zero zero = refl
-set-zero (suc n) = refl
-
-pub linked-whole : (n : ℕ) (v : List Letter) → length v ≡ n → head (wordDarts 0 [] [] v) ≡ 0
-    → linked 0 v (wordDarts 0 [] [] v) (blank n) ≡ rotationOf v
-unfolding linked rotationOf
-linked-whole n v l e = rw (e, l, set-zero n)

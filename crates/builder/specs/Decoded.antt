@@ -1,4 +1,4 @@
--- What decoding is given, and what it means.
+-- What decoding a payload answers.
 --
 --   Answered found n b w′   b says whether a word is found; if so, the rotation of its standard plan stands in the first n entries of w′
 use Prim.Native.Nat.{ℕ}

@@ -1,14 +1,20 @@
+use Rattle.builder.proofs.Steps.{backing}
 use native.Mathlib.Omega.{arith}
 use lib.ListN.{length-set}
 use borrow.Author.Needs.{needs}
-use Rattle.decoder.proofs.back.Statement.{statement}
-use Rattle.decoder.proofs.back.Tie as tie
+use Rattle.builder.proofs.back.Statement.{statement}
+use Rattle.builder.proofs.back.Tie as tie
+use Rattle.builder.proofs.back.Reads as reads
+use Rattle.builder.proofs.back.Lts as lts
 
 slice-write-w-2 : tie.Need-slice-write-w-2
 slice-write-w-2 c = simp length-set (omega arith)
 
 slice-write-w-3 : tie.Need-slice-write-w-3
 slice-write-w-3 c = simp length-set (omega arith)
+
+returns : tie.Need-returns
+returns c = backing _ _ _ _ (c .pre .0) (c .pre .1)
 
 pub back-spec : {M : Type 1} → statement M
 back-spec =
@@ -31,4 +37,4 @@ back-spec =
     slice-write-w-3
     (λ c. search needs)
     (λ c. search needs)
-    (λ c. search needs))
+    returns)

@@ -1,14 +1,20 @@
+use Rattle.builder.proofs.Steps.{entering}
 use native.Mathlib.Omega.{arith}
 use lib.ListN.{length-set}
 use borrow.Author.Needs.{needs}
-use Rattle.decoder.proofs.enter.Statement.{statement}
-use Rattle.decoder.proofs.enter.Tie as tie
+use Rattle.builder.proofs.enter.Statement.{statement}
+use Rattle.builder.proofs.enter.Tie as tie
+use Rattle.builder.proofs.enter.Reads as reads
+use Rattle.builder.proofs.enter.Lts as lts
 
 slice-write-w-2 : tie.Need-slice-write-w-2
 slice-write-w-2 c = simp length-set (omega arith)
 
 slice-write-w-3 : tie.Need-slice-write-w-3
 slice-write-w-3 c = simp length-set (omega arith)
+
+returns : tie.Need-returns
+returns c = entering _ _ _ _ (c .pre .0) (c .pre .1)
 
 pub enter-spec : {M : Type 1} → statement M
 enter-spec =
@@ -33,4 +39,4 @@ enter-spec =
     (λ c. search needs)
     (λ c. search needs)
     (λ c. search needs)
-    (λ c. search needs))
+    returns)

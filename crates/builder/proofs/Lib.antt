@@ -1,0 +1,3 @@
+pub mod Parts
+pub mod Linking
+pub mod Steps
