@@ -18,7 +18,7 @@ use mathlib.Core.List.{List, [], _∷_, _++_, append-nil, append-assoc}
 use lib.ListN.{length, set, replicate, length-append, length-drop, length-replicate}
 use Rattle.model.specs.Numbers.{allBelow}
 use Rattle.model.specs.Traversal.{Letter}
-use Rattle.packing.specs.Payload.{Sized, payloadBits, payloadLabels, payloadClean}
+use Rattle.packing.specs.Payload.{hasLabels, Sized, payloadBits, payloadLabels, payloadClean}
 use Rattle.words.specs.Word.{Machine, Found, found, none, after, done, stuck, turn, start, head, wordDarts, rotationOf, decodeWord}
 use Rattle.machine.specs.Reading.{left, run}
 use Rattle.words.proofs.Found.{wordIn}
@@ -30,7 +30,7 @@ use Rattle.work.proofs.Stacks.{length-stack}
 use Rattle.decoder.specs.declared.Cursor.{Cursor}
 use Rattle.decoder.specs.declared.Outcome.{Outcome}
 use Rattle.decoder.specs.declared.Outcome.the-variants.{Goes, Done, Stuck}
-use Rattle.coding.specs.Payloads.{decodePayload}
+use Rattle.coding.specs.Payloads.{decodeLabelled}
 use Rattle.unpacker.specs.Unpacked.{labelsAt}
 use Rattle.unpacker.proofs.Payload.{bits-room}
 use Rattle.builder.specs.declared.State.{State}
@@ -186,25 +186,25 @@ pub record Prepared (k m : ℕ) (ps w : List ℕ) : Type 0 where
   pub blank : region 0 (2 * m) w ≡ replicate (2 * m) 0
 
 module _ (k m : ℕ) (ps : List ℕ) where
-  pub prepared : Sized k m ps → payloadClean k m ps ≡ true → (w w′ : List ℕ) → 32 * m ≤ length w → labelsAt m w ≡ payloadLabels k m ps
+  pub prepared : hasLabels k ≡ true → Sized k m ps → payloadClean k m ps ≡ true → (w w′ : List ℕ) → 32 * m ≤ length w → labelsAt m w ≡ payloadLabels k m ps
       → w′ ≡ placed 0 (replicate (2 * m) 0) w → Prepared k m ps w′
-  prepared h e w w′ r l f =
+  prepared has h e w w′ r l f =
       let none : List ℕ = replicate (2 * m) 0 in
       let n : length none ≡ 2 * m = length-replicate (2 * m) 0 in
       let fits : 0 + length none ≤ length w = omega arith in
       record {
         clean = e;
-        sizes = (h .some-edge, h .few-edges, bits-room ps m k h);
+        sizes = (h .some-edge, h .few-edges, bits-room ps m k has h);
         room = rw (f, length-placed 0 none w fits) r;
         labelled = rw f (region-placed-other 0 none w fits (LABELS * (2 * m)) m (λ g. omega arith) ∙ l);
         blank = rw f (region-placed 0 none w fits (2 * m) (sym n));
       }
 
-  pub answer-unclean : (n : ℕ) (w : List ℕ) → payloadClean k m ps ≡ false → Answered (decodePayload k m ps) n false w
-  unfolding decodePayload
+  pub answer-unclean : (n : ℕ) (w : List ℕ) → payloadClean k m ps ≡ false → Answered (decodeLabelled k m ps) n false w
+  unfolding decodeLabelled
   answer-unclean n w e = record { word-found = λ f. absurd (false≢true f); none-found = λ f. rw e }
 
   pub answer-clean : (n : ℕ) (w : List ℕ) (b : Bool) (w′ : List ℕ) → Prepared k m ps w
-      → Answered (decodeWord (payloadBits m ps) (labelsAt m w)) n b w′ → Answered (decodePayload k m ps) n b w′
-  unfolding decodePayload
+      → Answered (decodeWord (payloadBits m ps) (labelsAt m w)) n b w′ → Answered (decodeLabelled k m ps) n b w′
+  unfolding decodeLabelled
   answer-clean n w b w′ p a = rw (p .clean, ← p .labelled) a

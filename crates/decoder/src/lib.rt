@@ -1,12 +1,13 @@
-// A payload decoded into the standard plan, in the lent work area, by a machine that reads tree bits and labels in step. `builder` enters the darts and
+// A payload of kind 1 or 2 decoded into the standard plan, in the lent work area, by a machine that reads tree bits and labels in step. `builder` enters the darts and
 // holds the open edges; the labels of those are looked up where they end.
 ghost use mathlib.Core.Path.{_≡_};
+ghost use mathlib.Core.Bool.{true};
 ghost use Prim.Native.Nat.{_*_, _≤_, _<_};
 ghost use lib.ListN.{length, getD, replicate};
 ghost use Rattle.words.specs.Word.{decodeWord};
-ghost use Rattle.packing.specs.Payload.{Sized, payloadBits};
+ghost use Rattle.packing.specs.Payload.{hasLabels, Sized, payloadBits};
 ghost use Rattle.work.specs.Area.{region};
-ghost use Rattle.coding.specs.Payloads.{decodePayload};
+ghost use Rattle.coding.specs.Payloads.{decodeLabelled};
 ghost use Rattle.unpacker.specs.Unpacked.{labelsAt};
 ghost use Rattle.builder.specs.Steps.{Standing, Room};
 ghost use Rattle.builder.specs.Decoded.{Answered};
@@ -235,11 +236,11 @@ fn run(payload: &[u8], m: usize, w: &mut [u16]) -> bool
     }
 }
 
-// The standard plan of a payload: whether there is one, and its rotation in the first 2m entries.
+// The standard plan of a payload of kind 1 or 2: whether there is one, and its rotation in the first 2m entries.
 pub fn decode(payload: &[u8], kind: u16, m: usize, w: &mut [u16]) -> bool
-    requires { ⌜ Sized kind m (now payload) ⌝ }
+    requires { ⌜ (hasLabels kind ≡ true) × Sized kind m (now payload) ⌝ }
     requires { ⌜ 32 * m ≤ length (now w) ⌝ }
-    ensures { λ r. ⌜ Answered (decodePayload kind m (now (payload .entry))) (2 * m) r (now (w .exit)) ⌝ }
+    ensures { λ r. ⌜ Answered (decodeLabelled kind m (now (payload .entry))) (2 * m) r (now (w .exit)) ⌝ }
 {
     let clean = unpacker::clean(payload, kind, m);
     if !clean {

@@ -13,7 +13,7 @@ begin c =
     let s = c .before .before .before .before .spread in
     let k = s .kept .1 .1 .1 .0 in let h = p .1 in
     let test = c .before .before .before .before .before .before in
-    prepared _ _ _ (p .0) (sym (test .before .clean .ensures) ∙ not-false _ (test .if1 .left)) _ _ (omega arith) (s .ensures) (c .fill .ensures)
+    prepared _ _ _ (p .0 .0) (p .0 .1) (sym (test .before .clean .ensures) ∙ not-false _ (test .if1 .left)) _ _ (omega arith) (s .ensures) (c .fill .ensures)
 
 returns : tie.Need-returns
 returns c = answer-unclean _ _ _ _ _ (sym (c .before .clean .ensures) ∙ not-true _ (c .if1 .taken))
