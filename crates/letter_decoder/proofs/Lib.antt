@@ -1,0 +1,4 @@
+mod Nested
+mod Digits
+mod Moves
+mod Runs
