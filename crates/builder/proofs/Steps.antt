@@ -1,17 +1,17 @@
 -- One letter: what its function writes, and what it makes of the rotation that comes out. Assumes nothing.
 --
---   tree-top, open-top, begun-top   the edges opened last, and where the other one began, in the work area
+--   tree-top, below-top, open-top, begun-top   the edges opened last, and the vertices that are left by the one and where the other began, in the work area
 --   tree-small, open-small   they are edges
 --   entering, rising, backing, closing   the four letters: what is written is the step
 --   stepped-stands        after a letter numbers and stacks are in range
 --   stepped-built         what comes out then is what came out with the letter before
-use Prim.Native.Nat.{ℕ, suc, _+_, _-_, _*_, _≤_, _<_}
+use Prim.Native.Nat.{ℕ, _+_, _-_, _*_, _≤_, _<_}
 use native.Mathlib.Numerals.{add-one}
 use native.Mathlib.Omega.{arith}
 use mathlib.Core.Path.{_≡_, refl, sym, ap, subst, _∙_}
 use mathlib.Core.Bool.{true}
 use mathlib.Core.List.{List, [], _∷_}
-use lib.ListN.{length, getD, set, length-set}
+use lib.ListN.{getD, set, length-set}
 use Rattle.model.specs.Numbers.{allBelow}
 use Rattle.model.specs.Traversal.{Letter, down, up, first, second}
 use Rattle.model.proofs.Below.{below-cons, below-head, below-tail}

@@ -1,19 +1,45 @@
 -- The payload of a record whose head passes, as the slice past its six bytes, and what decoding it says of the record.
 --
+--   letters-sized, letters-answered   kind 4: its payload's length, and that what its letters answer is the answer
+--   labels-asked, labels-answered   another kind: it has labels, and the same of its tree bits and labels
 --   payload-sized        it is as long as the payload of its kind and size
 --   record-decoded       the answer for the payload is the answer for the record
-use Prim.Native.Nat.{ℕ, _-_, _*_}
+use Prim.Native.Nat.{ℕ, _+_, _-_, _*_, _≤_}
 use native.Mathlib.Omega.{arith}
 use mathlib.Core.Path.{_≡_}
+use mathlib.Core.Logic.{_≢_}
 use mathlib.Core.Bool.{Bool, true}
 use mathlib.Core.List.{List}
 use lib.ListN.{length, take, drop, length-drop}
 use lib.Seq.{take-all}
+use borrow.Author.Tests.{ne-eqb}
+use Rattle.model.specs.Record.{bytesFor, recordLength}
 use Rattle.model.specs.Shelf.{kindOf, edgesOf, passes}
 use Rattle.model.proofs.Heads.{passes-facts}
-use Rattle.coding.specs.Payloads.{decodePayload, decodeRecord}
-use Rattle.packing.specs.Payload.{Sized}
+use Rattle.packing.specs.Payload.{hasLabels, Sized}
+use Rattle.packing.proofs.Labelled.{labelled-other}
+use Rattle.coding.specs.Payloads.{decodeLabelled, decodeLetters, decodePayload, decodeRecord}
 use Rattle.builder.specs.Decoded.{Answered}
+
+four-long : (k m : ℕ) → k ≡ 4 → 6 + bytesFor m 2 ≡ recordLength k m
+unfolding recordLength
+four-long k m e = rw e
+
+module _ (k m : ℕ) (ps : List ℕ) (s : Sized k m ps) where
+  pub letters-sized : k ≡ 4 → (1 ≤ m) × (m ≤ 4096) × (length ps ≡ bytesFor m 2)
+  letters-sized e = let l = s .long in let q = four-long k m e in (s .some-edge, s .few-edges, omega arith)
+
+  pub labels-asked : k ≢ 4 → (hasLabels k ≡ true) × Sized k m ps
+  labels-asked d = (labelled-other k (s .kind) d, s)
+
+module _ (k m : ℕ) (ps : List ℕ) (b : Bool) (w : List ℕ) where
+  pub letters-answered : k ≡ 4 → Answered (decodeLetters m ps) (2 * m) b w → Answered (decodePayload k m ps) (2 * m) b w
+  unfolding decodePayload
+  letters-answered e a = rw e a
+
+  pub labels-answered : k ≢ 4 → Answered (decodeLabelled k m ps) (2 * m) b w → Answered (decodePayload k m ps) (2 * m) b w
+  unfolding decodePayload
+  labels-answered d a = rw (ne-eqb k 4 d) a
 
 module _ (r : List ℕ) (k m : ℕ) (passed : passes r ≡ true) (k-is : k ≡ kindOf r) (m-is : m ≡ edgesOf r) where
   abbrev part : List ℕ

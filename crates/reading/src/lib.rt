@@ -6,6 +6,9 @@ ghost use Prim.Native.Nat.{_*_, _≤_};
 ghost use lib.ListN.{length};
 ghost use Rattle.model.specs.Shelf.{edgesOf, passes};
 ghost use Rattle.model.specs.Calls.{readRefusal, Reads, ReadCall};
+ghost use Rattle.packing.specs.Payload.{Sized};
+ghost use Rattle.coding.specs.Payloads.{decodePayload};
+ghost use Rattle.builder.specs.Decoded.{Answered};
 ghost use Rattle.reading.specs.Planned.{Planned};
 use model::ReadBack;
 
@@ -27,6 +30,18 @@ fn early(record: &[u8], work: usize, out: usize) -> u16
     0
 }
 
+// The standard plan of a payload of this kind: whether there is one, and its rotation in the first 2m entries.
+fn decode(payload: &[u8], kind: u16, m: usize, w: &mut [u16]) -> bool
+    requires { ⌜ Sized kind m (now payload) ⌝ }
+    requires { ⌜ 32 * m ≤ length (now w) ⌝ }
+    ensures { λ r. ⌜ Answered (decodePayload kind m (now (payload .entry))) (2 * m) r (now (w .exit)) ⌝ }
+{
+    if kind == 4 {
+        return letter_decoder::decode(payload, m, w);
+    }
+    decoder::decode(payload, kind, m, w)
+}
+
 // The standard plan of a record whose head passes, in the first 2m entries of a work area with room, or 13. The work area is not cleared.
 fn read_core(record: &[u8], w: &mut [u16]) -> ReadBack
     requires { ⌜ (passes (now «record») ≡ true) × (32 * edgesOf (now «record») ≤ length (now w)) ⌝ }
@@ -34,7 +49,7 @@ fn read_core(record: &[u8], w: &mut [u16]) -> ReadBack
 {
     let kind = heads::field(record, 2);
     let m = heads::field(record, 4);
-    let found = decoder::decode(&record[6..], kind, m as usize, w);
+    let found = decode(&record[6..], kind, m as usize, w);
     if found {
         return ReadBack::Edges(m);
     }

@@ -4,8 +4,6 @@ use lib.ListN.{length-set}
 use borrow.Author.Needs.{needs}
 use Rattle.builder.proofs.back.Statement.{statement}
 use Rattle.builder.proofs.back.Tie as tie
-use Rattle.builder.proofs.back.Reads as reads
-use Rattle.builder.proofs.back.Lts as lts
 
 slice-write-w-2 : tie.Need-slice-write-w-2
 slice-write-w-2 c = simp length-set (omega arith)

@@ -2,8 +2,6 @@ use Rattle.builder.proofs.Steps.{closing}
 use borrow.Author.Needs.{needs}
 use Rattle.builder.proofs.close.Statement.{statement}
 use Rattle.builder.proofs.close.Tie as tie
-use Rattle.builder.proofs.close.Reads as reads
-use Rattle.builder.proofs.close.Lts as lts
 
 returns : tie.Need-returns
 returns c = let p = c .before .pre in closing _ _ _ _ (p .0) (p .1)

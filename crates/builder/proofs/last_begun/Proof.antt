@@ -2,8 +2,6 @@ use Rattle.builder.proofs.Steps.{begun-top}
 use borrow.Author.Needs.{needs}
 use Rattle.builder.proofs.last_begun.Statement.{statement}
 use Rattle.builder.proofs.last_begun.Tie as tie
-use Rattle.builder.proofs.last_begun.Reads as reads
-use Rattle.builder.proofs.last_begun.Lts as lts
 
 returns : tie.Need-returns
 returns c = let st = c .before .before in begun-top _ _ (st .args .s) (st .pre .1)

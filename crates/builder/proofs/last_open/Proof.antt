@@ -3,8 +3,6 @@ use Rattle.builder.proofs.Steps.{open-top, open-small}
 use borrow.Author.Needs.{needs}
 use Rattle.builder.proofs.last_open.Statement.{statement}
 use Rattle.builder.proofs.last_open.Tie as tie
-use Rattle.builder.proofs.last_open.Reads as reads
-use Rattle.builder.proofs.last_open.Lts as lts
 
 cast-result : tie.Need-cast-result
 cast-result c = let st = c .before .before in let k = open-small _ _ (st .args .s) (st .pre .1) (st .pre .0 .opens-in) in let h = st .pre .0 .few-edges in omega arith

@@ -3,8 +3,6 @@ use Rattle.builder.proofs.Steps.{tree-top, tree-small}
 use borrow.Author.Needs.{needs}
 use Rattle.builder.proofs.last_tree.Statement.{statement}
 use Rattle.builder.proofs.last_tree.Tie as tie
-use Rattle.builder.proofs.last_tree.Reads as reads
-use Rattle.builder.proofs.last_tree.Lts as lts
 
 cast-result : tie.Need-cast-result
 cast-result c = let st = c .before .before in let k = tree-small _ _ (st .args .s) (st .pre .1) (st .pre .0 .trees-in) in let h = st .pre .0 .few-edges in omega arith

@@ -2,8 +2,6 @@ use Rattle.builder.proofs.Steps.{rising, below-top}
 use borrow.Author.Needs.{needs}
 use Rattle.builder.proofs.rise.Statement.{statement}
 use Rattle.builder.proofs.rise.Tie as tie
-use Rattle.builder.proofs.rise.Reads as reads
-use Rattle.builder.proofs.rise.Lts as lts
 
 returns : tie.Need-returns
 returns c =
