@@ -4,27 +4,22 @@
 --   length-there          one does
 --   length-fits           and its length is a 16-bit number
 use mathlib.Core.Path.{_≡_}
-use mathlib.Core.Bool.{Bool, true, false, cond}
-use Prim.Native.Nat.{ℕ, _+_, _*_, _/_, _≤_, _<_}
+use mathlib.Core.Bool.{true, false}
+use Prim.Native.Nat.{ℕ, _≤_, _<_}
 use native.Mathlib.Omega.{arith}
-use lib.Dec.{eqb}
 use Rattle.model.specs.Map.{isKind}
 use Rattle.model.specs.Record.{recordLength}
 use Rattle.model.specs.Exports.{lengthFor}
 use Rattle.model.proofs.Fitness.{parts-edges, edges-unfit}
+use Rattle.model.proofs.Heads.{recordLength-range}
 
 module _ (k m : ℕ) where
   pub no-kind : isKind k ≡ false → 0 ≡ lengthFor k m
   unfolding lengthFor
   no-kind e = rw e
 
-  pub length-fits : m ≤ 4096 → recordLength k m < 65536
-  unfolding recordLength
-  length-fits h = go (eqb k 1)
-    where
-      go : (b : Bool) → cond b (6 + (3 * m + 7) / 8) (6 + (2 * m + 7) / 8 + (m + 4) / 5) < 65536
-      go true = omega arith
-      go false = omega arith
+  pub length-fits : (m ≡ 0 → ⊥) → m ≤ 4096 → recordLength k m < 65536
+  length-fits some few = let r = recordLength-range k m (omega arith) few in omega arith
 
   module _ (kind : isKind k ≡ true) where
     pub no-edges : m ≡ 0 → 0 ≡ lengthFor k m

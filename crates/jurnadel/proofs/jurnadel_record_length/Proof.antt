@@ -18,7 +18,7 @@ returns-3 c = let kind = sym (c .before .before .before .is-kind .ensures) ∙ n
 
 cast-result : tie.Need-cast-result
 cast-result c = let a = c .before .before .before .before .before .args in
-    let h = length-fits (a .kind) (a .trails) (omega arith) in
+    let h = length-fits (a .kind) (a .trails) (c .before .before .if2 .left) (omega arith) in
     omega (arith, c .record-length .ensures)
 
 returns-4 : tie.Need-returns-4
