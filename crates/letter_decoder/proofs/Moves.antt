@@ -2,18 +2,19 @@
 --
 --   Able l m p s e        the letter l may come, where e edges have begun
 --   moved                 then its step moves on
---   full-down, full-first   m edges have begun: no edge may begin
+--   full-begin            m edges have begun: no edge may begin
 --   root-up, none-second, low-second   no edge is open that could end here
-use Prim.Native.Nat.{ℕ, suc, _+_, _*_, _≤_, _<_}
+use Prim.Native.Nat.{ℕ, zero, suc, _+_, _*_, _≤_, _<_}
 use native.Mathlib.Numerals.{add-one}
 use native.Mathlib.Omega.{arith}
-use mathlib.Core.Path.{_≡_, refl, sym, ap, _∙_, subst}
-use mathlib.Core.Bool.{true, false}
+use mathlib.Core.Path.{_≡_, refl, _∙_}
+use mathlib.Core.Bool.{true}
 use mathlib.Core.List.{List, [], _∷_}
 use lib.ListN.{length}
 use borrow.Author.Tests.{le-leb, lt-leb}
 use Rattle.model.specs.Traversal.{Letter, down, up, first, second}
 use Rattle.words.specs.Word.{nested, head}
+use Rattle.packing.specs.Letters.{digitLetter}
 use Rattle.work.specs.Map.{BELOW, BEGUN}
 use Rattle.work.proofs.Stacks.{length-stack}
 use Rattle.builder.specs.declared.State.{State}
@@ -73,7 +74,7 @@ module _ (m : ℕ) (w : List ℕ) (s : State) (e : ℕ) (f : Fits m w s e) where
   here = partsAt m w s
 
   pub moved : (l : Letter) (x : ℕ) (t : State) (k : ℕ) (w′ : List ℕ) → Able l m here s e → x ≡ edgeOf l here e → x < m
-      → k ≡ begunAfter l e → Stepped l m w s x t w′ → Read l m w s e (Goes t k) w′
+      → k ≡ begunAfter l e → Stepped l m w s x t w′ → Read (l ∷ []) m w s e (Goes t k) w′
   unfolding Read
   moved l x t k w′ a q h r y =
       let z : Counted l m s e t = rw (y .state-is) (after-counted l m here s e x (f .edges) (f .few-open) (f .vertices) a) in
@@ -83,31 +84,38 @@ module _ (m : ℕ) (w : List ℕ) (s : State) (e : ℕ) (f : Fits m w s e) where
         left = λ v n. omega arith;
         nests = λ v. rw (y .parts-are, y .state-is) (after-nests l m here s e x (deep m w s) a v);
         built = stepped-built l m w s x t w′ y e q;
+        kept = y .kept;
       }
 
   -- ---- no word goes on well
 
   module _ (w′ : List ℕ) where
-    pub full-down : m ≤ e → Read down m w s e Stuck w′
+    full-down : m ≤ e → Read (down ∷ []) m w s e Stuck w′
     unfolding Read nested
     full-down h v n =
         let d = deep m w s in let b = d .below-deep in let o = d .begun-deep in let g = f .edges in
         nested-too-short true (suc (s .n)) (s .n) (s .here ∷ here .below) (here .begun) v (omega arith)
 
-    pub full-first : m ≤ e → Read first m w s e Stuck w′
+    full-first : m ≤ e → Read (first ∷ []) m w s e Stuck w′
     unfolding Read nested
     full-first h v n =
         let d = deep m w s in let b = d .below-deep in let o = d .begun-deep in let g = f .edges in
         nested-too-short true (s .n) (s .here) (here .below) (s .here ∷ here .begun) v (omega arith)
 
-    pub root-up : s .depth ≡ 0 → Read up m w s e Stuck w′
+    pub full-begin : m ≤ e → (x : ℕ) → x < 2 → Read (digitLetter (2 * x) ∷ []) m w s e Stuck w′
+    unfolding digitLetter
+    full-begin h zero l = full-down h
+    full-begin h (suc zero) l = full-first h
+    full-begin h (suc (suc x)) l = let z : ⊥ = omega arith in absurd z
+
+    pub root-up : s .depth ≡ 0 → Read (up ∷ []) m w s e Stuck w′
     unfolding Read
     root-up h v n = up-none true (s .n) (s .here) (here .below) (here .begun) v (deep m w s .below-deep ∙ h)
 
-    pub none-second : s .opens ≡ 0 → Read second m w s e Stuck w′
+    pub none-second : s .opens ≡ 0 → Read (second ∷ []) m w s e Stuck w′
     unfolding Read
     none-second h v n = second-none true (s .n) (s .here) (here .below) (here .begun) v (deep m w s .begun-deep ∙ h)
 
-    pub low-second : head (here .begun) < s .here → Read second m w s e Stuck w′
+    pub low-second : head (here .begun) < s .here → Read (second ∷ []) m w s e Stuck w′
     unfolding Read
     low-second h v n = second-low true (s .n) (s .here) (here .below) (here .begun) v (lt-leb (s .here) (head (here .begun)) h)

@@ -1,23 +1,21 @@
--- The loop over the letters: what is left of the word gives the answer, and the darts entered so far with those to come its rotation. Assumes nothing.
+-- The loops over letters: what is left of the word gives the answer, and the darts entered so far with those to come its rotation. Assumes nothing.
 --
+--   moved-none, moved-all   no letter is read yet; all are
+--   moved-on, stuck-on    some more are read, or no word goes on well with them
 --   first-state           where the builder begins
---   Running               what the loop keeps
---   running-start         so at the start
---   running-on            and after a letter
---   read-goes, read-stuck   what reading a letter hands back, by its case
+--   fits-start            it fits
 --   answer-stuck, answer-end   the answer where no word goes on well, and after the last letter
 --   cleared               the work area that the loop begins with
 --   answer-unclean, answer-clean   the answer for the payload
-use Prim.Native.Nat.{ℕ, _+_, _*_, _≤_, _<_}
+use Prim.Native.Nat.{ℕ, _+_, _*_, _≤_}
 use native.Mathlib.Nat.{zero-add}
 use native.Mathlib.Omega.{arith}
 use mathlib.Core.Path.{_≡_, refl, sym, ap, _∙_, subst}
 use mathlib.Core.Bool.{Bool, true, false, true≢false, false≢true}
-use mathlib.Core.List.{List, [], _∷_}
+use mathlib.Core.List.{List, [], _++_, append-nil, append-assoc}
 use lib.ListN.{length, set, drop, replicate, length-replicate, drop-of-length-le}
 use Rattle.model.specs.Numbers.{allBelow}
 use Rattle.model.specs.Traversal.{Letter}
-use Rattle.model.specs.Record.{bytesFor}
 use Rattle.words.specs.Word.{nested, nestedWord, wordDarts, rotationOf}
 use Rattle.packing.specs.Letters.{payloadLetters, lettersClean}
 use Rattle.coding.specs.Payloads.{decodeLetters}
@@ -25,106 +23,100 @@ use Rattle.work.specs.Area.{region, placed, stack}
 use Rattle.work.proofs.Regions.{region-set, length-placed, region-placed}
 use Rattle.builder.specs.declared.State.{State}
 use Rattle.builder.specs.Decoded.{Answered}
-use Rattle.builder.specs.Steps.{partsOf, linked, outcome, outcomeAt}
+use Rattle.builder.specs.Steps.{partsOf, outcome, outcomeAt}
 use Rattle.builder.proofs.Linking.{linked-end, linked-whole}
 use Rattle.letter_decoder.specs.declared.Outcome.{Outcome}
 use Rattle.letter_decoder.specs.declared.Outcome.the-variants.{Goes, Stuck}
 use Rattle.letter_decoder.specs.Reading.{goesOn, Left, Fits, Moved, Read}
 use Rattle.letter_decoder.proofs.Nested.{nested-first-dart}
 
+-- ---- letters one after the other
+
+module _ (ls : List Letter) (m : ℕ) (w : List ℕ) (s : State) (e : ℕ) where
+  pub moved-none : Fits m w s e → Moved ls ls m w s e s e w
+  moved-none f = record { fits = f; left = λ v n. n; nests = λ v. refl; built = λ v. refl; kept = refl }
+
+  pub moved-all : (rest : List Letter) (t : State) (k : ℕ) (w′ : List ℕ) → rest ≡ [] → Moved ls rest m w s e t k w′ → Read ls m w s e (Goes t k) w′
+  unfolding Read
+  moved-all rest t k w′ q x = subst (λ (r : List Letter). Moved ls r m w s e t k w′) q x
+
+  -- `all` is left, and `now` is read next
+  module _ (all : List Letter) (t : State) (k : ℕ) (w′ : List ℕ) (x : Moved ls all m w s e t k w′) (now : List Letter) (o : Outcome) (w″ : List ℕ)
+      (y : Read now m w′ t k o w″) (rest : List Letter) (q : all ≡ now ++ rest) where
+    now-first : (v : List Letter) → all ++ v ≡ now ++ (rest ++ v)
+    now-first v = ap (λ (u : List Letter). u ++ v) q ∙ append-assoc now rest v
+
+    pub moved-on : (u : State) (j : ℕ) → o ≡ Goes u j → Moved ls rest m w s e u j w″
+    unfolding Read
+    moved-on u j g =
+        let z : Moved now [] m w′ t k u j w″ = subst (λ (r : Outcome). Read now m w′ t k r w″) g y in
+        record {
+          fits = z .fits;
+          left = λ v n. z .left (rest ++ v) (subst (Left m t k) (now-first v) (x .left v n));
+          nests = λ v. z .nests (rest ++ v) ∙ ap (goesOn m w′ t) (sym (now-first v)) ∙ x .nests v;
+          built = λ v. z .built (rest ++ v) ∙ ap (outcomeAt m w′ t k) (sym (now-first v)) ∙ x .built v;
+          kept = z .kept ∙ x .kept;
+        }
+
+    pub stuck-on : o ≡ Stuck → Read ls m w s e Stuck w″
+    unfolding Read
+    stuck-on g v n =
+        let z = subst (λ (r : Outcome). Read now m w′ t k r w″) g y in
+        sym (x .nests v) ∙ ap (goesOn m w′ t) (now-first v) ∙ z (rest ++ v) (subst (Left m t k) (now-first v) (x .left v n))
+
+-- ---- the whole word
+
 abbrev pub first-state : State
 first-state = record { n = 1; here = 0; depth = 0; opens = 0; place = 0 }
 
--- v is the whole word, w₀ the work area at the start; i letters are read, and e edges have begun
-pub record Running (m : ℕ) (v : List Letter) (w₀ w : List ℕ) (s : State) (e i : ℕ) : Type 0 where
-  pub fits : Fits m w s e
-  pub read : i ≤ 2 * m
-  pub left : Left m s e (drop i v)
-  pub nests : goesOn m w s (drop i v) ≡ nested true 1 0 [] [] v
-  pub built : outcomeAt m w s e (drop i v) ≡ linked 0 v (wordDarts 0 [] [] v) (replicate (2 * m) 0)
-  pub kept : length w ≡ length w₀
+pub fits-start : (m : ℕ) (w : List ℕ) → 1 ≤ m → m ≤ 4096 → 32 * m ≤ length w → Fits m w first-state 0
+unfolding partsOf stack allBelow
+fits-start m w g h r = record {
+  stands = record { few-edges = h; room = r; few-open = omega arith; place-in = omega arith; trees-in = refl; opens-in = refl };
+  edges = omega arith;
+  few-open = omega arith;
+  vertices = omega arith;
+}
 
--- a letter is read: what it hands back
-module _ (l : Letter) (m : ℕ) (w : List ℕ) (s : State) (e : ℕ) (o : Outcome) (w′ : List ℕ) (x : Read l m w s e o w′) where
-  pub read-goes : (t : State) (k : ℕ) → o ≡ Goes t k → Moved l m w s e t k w′
-  unfolding Read
-  read-goes t k q = subst (λ (y : Outcome). Read l m w s e y w′) q x
+module _ (m : ℕ) (v : List Letter) (w : List ℕ) (size : length v ≡ 2 * m) where
+  all-left : Left m first-state 0 (v ++ [])
+  all-left = let l = ap length (append-nil v) in omega arith
 
-  pub read-stuck : o ≡ Stuck → (v : List Letter) → Left m s e (l ∷ v) → goesOn m w s (l ∷ v) ≡ false
-  unfolding Read
-  read-stuck q = subst (λ (y : Outcome). Read l m w s e y w′) q x
+  pub answer-stuck : (w′ : List ℕ) → Read v m w first-state 0 Stuck w′ → Answered (nestedWord v) (2 * m) false w′
+  unfolding nestedWord partsOf stack Read
+  answer-stuck w′ f =
+      let e : nested true 1 0 [] [] v ≡ false = ap (nested true 1 0 [] []) (sym (append-nil v)) ∙ f [] all-left in
+      record { word-found = λ h. absurd (false≢true h); none-found = λ h. rw e }
 
-module _ (m : ℕ) (v : List Letter) (w₀ : List ℕ) (size : length v ≡ 2 * m) where
-  pub running-start : 1 ≤ m → m ≤ 4096 → 32 * m ≤ length w₀ → region 0 (2 * m) w₀ ≡ replicate (2 * m) 0 → Running m v w₀ w₀ first-state 0 0
-  unfolding partsOf stack allBelow outcome
-  running-start g h r clear = record {
-    fits = record {
-      stands = record { few-edges = h; room = r; few-open = omega arith; place-in = omega arith; trees-in = refl; opens-in = refl };
-      edges = omega arith;
-      few-open = omega arith;
-      vertices = omega arith;
-    };
-    read = omega arith;
-    left = omega arith;
-    nests = refl;
-    built = rw clear;
-    kept = refl;
-  }
+  -- all letters are read
+  module _ (clear : region 0 (2 * m) w ≡ replicate (2 * m) 0) (t : State) (k i : ℕ) (w′ : List ℕ) (y : Moved v (drop i v) m w first-state 0 t k w′)
+      (end : 2 * m ≤ i) where
+    all-read : Moved v [] m w first-state 0 t k w′
+    all-read = subst (λ (r : List Letter). Moved v r m w first-state 0 t k w′) (drop-of-length-le v {i = i} (omega arith)) y
 
-  module _ (w : List ℕ) (s : State) (e i : ℕ) (r : Running m v w₀ w s e i) where
-    -- the letter at place i
-    module _ (l : Letter) (next : drop i v ≡ l ∷ drop (i + 1) v) where
-      here-left : Left m s e (l ∷ drop (i + 1) v)
-      here-left = subst (Left m s e) next (r .left)
+    -- no more than m edges have begun, and each letter began or ended one
+    nothing-open : (t .depth ≡ 0) × (t .opens ≡ 0)
+    nothing-open =
+        let n : 2 * k + 0 ≡ 2 * m + (t .depth + t .opens) = all-read .left [] all-left in
+        let f = all-read .fits .edges in
+        (omega arith, omega arith)
 
-      pub running-on : (w′ : List ℕ) (t : State) (k : ℕ) → i < 2 * m → length w′ ≡ length w → Moved l m w s e t k w′ → Running m v w₀ w′ t k (i + 1)
-      running-on w′ t k h same x = record {
-        fits = x .fits;
-        read = omega arith;
-        left = x .left (drop (i + 1) v) here-left;
-        nests = x .nests (drop (i + 1) v) ∙ ap (goesOn m w s) (sym next) ∙ r .nests;
-        built = x .built (drop (i + 1) v) ∙ ap (outcomeAt m w s e) (sym next) ∙ r .built;
-        kept = same ∙ r .kept;
-      }
+    whole : nested true 1 0 [] [] v ≡ true
+    unfolding nested partsOf stack
+    whole = ap (nested true 1 0 [] []) (sym (append-nil v)) ∙ sym (all-read .nests []) ∙ rw (nothing-open .0, nothing-open .1)
 
-      pub answer-stuck : (w′ : List ℕ) → ((u : List Letter) → Left m s e (l ∷ u) → goesOn m w s (l ∷ u) ≡ false)
-          → Answered (nestedWord v) (2 * m) false w′
-      unfolding nestedWord
-      answer-stuck w′ stuck = record {
-        word-found = λ f. absurd (false≢true f);
-        none-found = λ f. rw (sym (r .nests) ∙ ap (goesOn m w s) next ∙ stuck (drop (i + 1) v) here-left);
-      }
+    plan-built : region 0 (2 * m) (set w′ (t .place) 0) ≡ rotationOf v
+    unfolding partsOf outcome wordDarts stack
+    plan-built =
+        ap (λ (i : ℕ). region 0 (2 * m) (set w′ i 0)) (sym (zero-add (t .place)))
+        ∙ region-set 0 (2 * m) w′ (t .place) 0 (all-read .fits .stands .place-in)
+        ∙ sym (linked-end (t .place) (region 0 (2 * m) w′))
+        ∙ all-read .built []
+        ∙ rw (append-nil v, clear) (linked-whole (2 * m) v size (nested-first-dart true 1 0 v whole))
 
-    -- all letters are read
-    module _ (end : 2 * m ≤ i) where
-      nothing-left : drop i v ≡ []
-      nothing-left = drop-of-length-le v {i = i} (omega arith)
-
-      -- no more than m edges have begun, and each letter began or ended one
-      nothing-open : (s .depth ≡ 0) × (s .opens ≡ 0)
-      nothing-open =
-          let n : 2 * e + length (drop i v) ≡ 2 * m + (s .depth + s .opens) = r .left in
-          let k : length (drop i v) ≡ 0 = ap length nothing-left in
-          let f = r .fits .edges in
-          (omega arith, omega arith)
-
-      whole : nested true 1 0 [] [] v ≡ true
-      unfolding nested partsOf stack
-      whole = sym (r .nests) ∙ ap (goesOn m w s) nothing-left ∙ rw (nothing-open .0, nothing-open .1)
-
-      plan-built : region 0 (2 * m) (set w (s .place) 0) ≡ rotationOf v
-      unfolding partsOf outcome wordDarts
-      plan-built =
-          ap (λ (k : ℕ). region 0 (2 * m) (set w k 0)) (sym (zero-add (s .place)))
-          ∙ region-set 0 (2 * m) w (s .place) 0 (r .fits .stands .place-in)
-          ∙ sym (linked-end (s .place) (region 0 (2 * m) w))
-          ∙ ap (outcomeAt m w s e) (sym nothing-left)
-          ∙ r .built
-          ∙ linked-whole (2 * m) v size (nested-first-dart true 1 0 v whole)
-
-      pub answer-end : Answered (nestedWord v) (2 * m) true (set w (s .place) 0)
-      unfolding nestedWord
-      answer-end = record { word-found = λ f. (v, rw whole, plan-built); none-found = λ f. absurd (true≢false f) }
+    pub answer-end : Answered (nestedWord v) (2 * m) true (set w′ (t .place) 0)
+    unfolding nestedWord
+    answer-end = record { word-found = λ h. (v, rw whole, plan-built); none-found = λ h. absurd (true≢false h) }
 
 -- ---- the payload
 

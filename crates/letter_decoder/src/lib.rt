@@ -1,33 +1,26 @@
-// A payload of kind 4 decoded into the standard plan, in the lent work area: each letter of its word, two bits, is a step of the builder. It knows where a
-// letter stands and which words are nested; no heads of records, no tree bits and no labels.
+// A payload of kind 4 decoded into the standard plan, in the lent work area: each letter of its word, two bits, is a step of the builder. It knows where
+// letters stand and which words are nested; no heads of records, no tree bits and no labels.
 ghost use mathlib.Core.Path.{_≡_};
+ghost use mathlib.Core.List.{_∷_, []};
 ghost use Prim.Native.Nat.{_*_, _≤_, _<_};
-ghost use lib.ListN.{length, getD, replicate};
-ghost use Rattle.model.specs.Traversal.{down, up, first, second};
+ghost use lib.ListN.{length, replicate};
+ghost use Rattle.model.specs.Traversal.{up, second};
 ghost use Rattle.model.specs.Record.{bytesFor};
 ghost use Rattle.words.specs.Word.{nestedWord};
-ghost use Rattle.packing.specs.Unpack.{unpack};
 ghost use Rattle.packing.specs.Letters.{digitLetter, payloadLetters, lettersClean};
 ghost use Rattle.coding.specs.Payloads.{decodeLetters};
 ghost use Rattle.work.specs.Area.{region};
 ghost use Rattle.builder.specs.Decoded.{Answered};
-ghost use Rattle.letter_decoder.specs.Reading.{Fits, Read};
+ghost use Rattle.letter_decoder.specs.Reading.{lettersOf, pairAt, Fits, Read};
 use builder::State;
 
-// The digits of the letters; second is 3.
-const DOWN: u8 = 0;
-
-const UP: u8 = 1;
-
-const FIRST: u8 = 2;
-
-// What reading a letter comes to: the state after it and how many edges have begun, or that no nested word goes on with it.
+// What reading letters comes to: the state after them and how many edges have begun, or that no nested word goes on with them.
 enum Outcome {
     Goes(State, usize),
     Stuck,
 }
 
-// ---- the payload's digits
+// ---- where letters stand
 
 // "unused low bits are 0": where m is odd, the last byte has two letters.
 fn clean(payload: &[u8], m: usize) -> bool
@@ -41,33 +34,37 @@ fn clean(payload: &[u8], m: usize) -> bool
     last % 16 == 0
 }
 
-// The digit at place i.
-fn digit(payload: &[u8], i: usize) -> u8
-    requires { ⌜ i < 4 * length (now payload) ⌝ }
-    ensures { λ r. ⌜ r ≡ getD (unpack 4 4 (length (now (payload .entry))) (now (payload .entry))) i 0 ⌝ }
+// The pair of letters number i, half a byte, in the high bits.
+fn half(payload: &[u8], i: usize) -> u8
+    requires { ⌜ i < 2 * length (now payload) ⌝ }
+    ensures { λ r. ⌜ lettersOf 2 r ≡ pairAt (now (payload .entry)) i ⌝ }
 {
-    let b = payload[i / 4];
-    (b >> (6 - 2 * (i % 4))) % 4
+    let b = payload[i / 2];
+    b << (4 * (i % 2))
 }
 
 // ---- letters, where e edges have begun
 
-// A tree edge begins, if an edge is left.
-fn down(w: &mut [u16], m: usize, s: State, e: usize) -> Outcome
-    requires { ⌜ Fits m (now w) s e ⌝ }
-    ensures { λ r. ⌜ Read down m (now (w .entry)) s e r (now (w .exit)) ⌝ }
+// An edge begins, if one is left: down, or first where `other` is 1.
+fn begin(w: &mut [u16], m: usize, s: State, e: usize, other: u8) -> Outcome
+    requires { ⌜ Fits m (now w) s e × (other < 2) ⌝ }
+    ensures { λ r. ⌜ Read (digitLetter (2 * other) ∷ []) m (now (w .entry)) s e r (now (w .exit)) ⌝ }
 {
     if e >= m {
         return Outcome::Stuck;
     }
-    let t = builder::enter(w, m, s, e);
+    if other == 0 {
+        let t = builder::enter(w, m, s, e);
+        return Outcome::Goes(t, e + 1);
+    }
+    let t = builder::back(w, m, s, e);
     Outcome::Goes(t, e + 1)
 }
 
 // The tree edge opened last ends, if one is open.
 fn up(w: &mut [u16], m: usize, s: State, e: usize) -> Outcome
     requires { ⌜ Fits m (now w) s e ⌝ }
-    ensures { λ r. ⌜ Read up m (now (w .entry)) s e r (now (w .exit)) ⌝ }
+    ensures { λ r. ⌜ Read (up ∷ []) m (now (w .entry)) s e r (now (w .exit)) ⌝ }
 {
     let depth = s.depth;
     if depth == 0 {
@@ -78,22 +75,10 @@ fn up(w: &mut [u16], m: usize, s: State, e: usize) -> Outcome
     Outcome::Goes(t, e)
 }
 
-// An edge outside the tree begins, if an edge is left.
-fn first(w: &mut [u16], m: usize, s: State, e: usize) -> Outcome
-    requires { ⌜ Fits m (now w) s e ⌝ }
-    ensures { λ r. ⌜ Read first m (now (w .entry)) s e r (now (w .exit)) ⌝ }
-{
-    if e >= m {
-        return Outcome::Stuck;
-    }
-    let t = builder::back(w, m, s, e);
-    Outcome::Goes(t, e + 1)
-}
-
-// The edge outside the tree opened last ends, if one is open and it began here or at a later vertex.
+// The edge outside the tree opened last ends, if one is open and began here or at a later vertex.
 fn second(w: &mut [u16], m: usize, s: State, e: usize) -> Outcome
     requires { ⌜ Fits m (now w) s e ⌝ }
-    ensures { λ r. ⌜ Read second m (now (w .entry)) s e r (now (w .exit)) ⌝ }
+    ensures { λ r. ⌜ Read (second ∷ []) m (now (w .entry)) s e r (now (w .exit)) ⌝ }
 {
     let here = s.here;
     let opens = s.opens;
@@ -109,24 +94,48 @@ fn second(w: &mut [u16], m: usize, s: State, e: usize) -> Outcome
     Outcome::Goes(t, e)
 }
 
-// The letter of the digit x.
+// The letter of the two bits x: the high one says whether its edge is outside the tree, the low one whether the edge ends.
 fn step(w: &mut [u16], m: usize, s: State, e: usize, x: u8) -> Outcome
-    requires { ⌜ Fits m (now w) s e ⌝ }
-    ensures { λ r. ⌜ Read (digitLetter x) m (now (w .entry)) s e r (now (w .exit)) ⌝ }
+    requires { ⌜ Fits m (now w) s e × (x < 4) ⌝ }
+    ensures { λ r. ⌜ Read (digitLetter x ∷ []) m (now (w .entry)) s e r (now (w .exit)) ⌝ }
 {
-    if x == DOWN {
-        return down(w, m, s, e);
+    let other = x / 2;
+    let ends = x % 2;
+    if ends == 0 {
+        return begin(w, m, s, e, other);
     }
-    if x == UP {
+    if other == 0 {
         return up(w, m, s, e);
-    }
-    if x == FIRST {
-        return first(w, m, s, e);
     }
     second(w, m, s, e)
 }
 
-// All letters. With no more than m edges begun, 2m letters leave none open; the last dart's successor is dart 0.
+// The two letters in the high bits of x. The loop is unrolled; a second call of `step` would not be inlined.
+fn pair(w: &mut [u16], m: usize, s: State, e: usize, x: u8) -> Outcome
+    requires { ⌜ Fits m (now w) s e ⌝ }
+    ensures { λ r. ⌜ Read (lettersOf 2 x) m (now (w .entry)) s e r (now (w .exit)) ⌝ }
+{
+    let mut t = s;
+    let mut k = e;
+    let mut rest = x;
+    let mut n: usize = 2;
+    while n > 0 {
+        match step(w, m, t, k, rest / 64) {
+            Outcome::Goes(u, j) => {
+                t = u;
+                k = j;
+            }
+            Outcome::Stuck => {
+                return Outcome::Stuck;
+            }
+        }
+        rest = rest << 2;
+        n -= 1;
+    }
+    Outcome::Goes(t, k)
+}
+
+// All letters, two by two. With no more than m edges begun, 2m letters leave none open; the last dart's successor is dart 0.
 fn run(payload: &[u8], m: usize, w: &mut [u16]) -> bool
     requires { ⌜ (1 ≤ m) × (m ≤ 4096) × (length (now payload) ≡ bytesFor m 2) ⌝ }
     requires { ⌜ (32 * m ≤ length (now w)) × (region 0 (2 * m) (now w) ≡ replicate (2 * m) 0) ⌝ }
@@ -141,9 +150,9 @@ fn run(payload: &[u8], m: usize, w: &mut [u16]) -> bool
     };
     let mut e = 0;
     let mut i = 0;
-    while i < 2 * m {
-        let x = digit(payload, i);
-        match step(w, m, s, e, x) {
+    while i < m {
+        let x = half(payload, i);
+        match pair(w, m, s, e, x) {
             Outcome::Goes(t, k) => {
                 s = t;
                 e = k;

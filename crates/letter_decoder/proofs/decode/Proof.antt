@@ -9,7 +9,9 @@ returns : tie.Need-returns
 returns c = answer-unclean _ _ _ _ (sym (c .before .clean .ensures) ∙ not-true _ (c .if1 .taken))
 
 run-requires : tie.Need-run-requires
-run-requires c κs = let p = c .before .before .before .before .before .before .before .before .before .pre in (p .0, cleared _ _ _ (p .1) (c .before .before .before .fill .ensures))
+run-requires c κs =
+    let p = c .before .before .before .before .before .before .before .before .before .pre in
+    (p .0, cleared _ _ _ (p .1) (c .before .before .before .fill .ensures))
 
 returns-2 : tie.Need-returns-2
 returns-2 c =

@@ -1,58 +1,57 @@
 use Prim.Native.Nat.{_+_, _-_, _*_}
 use native.Mathlib.Omega.{arith}
 use mathlib.Core.Path.{_≡_}
-use mathlib.Core.List.{_∷_}
+use mathlib.Core.List.{_++_}
 use lib.ListN.{drop}
-use Rattle.packing.specs.Letters.{digitLetter, payloadLetters}
+use Rattle.packing.specs.Letters.{payloadLetters}
+use Rattle.letter_decoder.specs.Reading.{lettersOf, Moved}
 use Rattle.letter_decoder.proofs.Digits.{letters-count, letters-next}
-use Rattle.letter_decoder.proofs.Runs.{Running, running-start, running-on, read-goes, read-stuck, answer-stuck, answer-end}
+use Rattle.letter_decoder.proofs.Runs.{first-state, fits-start, moved-none, moved-on, stuck-on, answer-stuck, answer-end}
 use borrow.Author.Needs.{needs}
 use Rattle.letter_decoder.proofs.run.Statement.{statement}
 use Rattle.letter_decoder.proofs.run.Tie as tie
 
 abbrev Inv-loop : tie.InvT-loop
-Inv-loop payload m w₀ s₀ e₀ i₀ w s e i = Running m (payloadLetters m payload) w₀ w s e i
+Inv-loop payload m w₀ s₀ e₀ i₀ w s e i = let v = payloadLetters m payload in Moved v (drop (2 * i) v) m w₀ first-state 0 s e w
 
 abbrev μ-loop : tie.MeasureT-loop
-μ-loop payload m w₀ s₀ e₀ i₀ w s e i = 2 * m - i
+μ-loop payload m w₀ s₀ e₀ i₀ w s e i = m - i
 
--- the letter that is read is the next
-next : (c : tie.After-digit Inv-loop μ-loop) →
+-- the letters that are read are the next
+next : (c : tie.After-half Inv-loop μ-loop) →
     let a = c .before .before .before .before .before .args in
     let i = c .before .before .loop .i in
     let v = payloadLetters (a .m) (a .payload .now) in
-    drop i v ≡ digitLetter (c .digit .result) ∷ drop (i + 1) v
+    drop (2 * i) v ≡ lettersOf 2 (c .half .result) ++ drop (2 * (i + 1)) v
 next c =
     let st = c .before .before .before .before .before in
-    let h = letters-next (st .args .payload .now) (st .args .m) (st .pre .0 .2) (c .before .before .loop .i) (c .before .loop-test .taken) in
-    rw (c .digit .ensures) h
+    rw (c .half .ensures) (letters-next (st .args .payload .now) (st .args .m) (st .pre .0 .2) (c .before .before .loop .i) (c .before .loop-test .taken))
 
 loop-holds : tie.Need-loop-holds Inv-loop μ-loop
-loop-holds c = let p = c .before .before .pre in running-start _ _ _ (letters-count _ _ (p .0 .2)) (p .0 .0) (p .0 .1) (p .1 .0) (p .1 .1)
+loop-holds c = let p = c .before .before .pre in moved-none _ _ _ _ _ (fits-start _ _ (p .0 .0) (p .0 .1) (p .1 .0))
 
-step-requires : tie.Need-step-requires Inv-loop μ-loop
-step-requires c κs = c .before .before .before .loop .inv .fits
+pair-requires : tie.Need-pair-requires Inv-loop μ-loop
+pair-requires c κs = c .before .before .before .loop .inv .fits
 
 returns : tie.Need-returns Inv-loop μ-loop
 returns c =
     let st = c .before .before .before .before .before .before .before .before .before .before .before in
-    let v = c .before .before .before .before .step in
-    let at = c .before .before .before .before .before .before .before .before .loop in
-    answer-stuck _ _ _ (letters-count _ _ (st .pre .0 .2)) _ _ _ _ (at .inv) _ (next (c .before .before .before .before .before .before)) _
-    (read-stuck _ _ _ _ _ (v .result) _ (v .ensures) (c .enum-told .given .1))
+    let v = c .before .before .before .before .pair in
+    let i = c .before .before .before .before .before .before .before .before .loop .inv in
+    let q = next (c .before .before .before .before .before .before) in
+    answer-stuck _ _ _ (letters-count _ _ (st .pre .0 .2)) _ (stuck-on _ _ _ _ _ _ _ _ _ i _ (v .result) _ (v .ensures) _ q (c .enum-told .given .1))
 
 loop-again : tie.Need-loop-again Inv-loop μ-loop
 loop-again c =
-    let st = c .before .before .before .before .before .before .before .before .before .before .before .before in
-    let v = c .before .before .before .before .before .step in
-    let at = c .before .before .before .before .before .before .before .before .before .loop in
-    running-on _ _ _ (letters-count _ _ (st .pre .0 .2)) _ _ _ _ (at .inv) _ (next (c .before .before .before .before .before .before .before)) _ _ _ (c .before .before .before .before .before .before .before .before .loop-test .taken) (v .kept .0)
-    (read-goes _ _ _ _ _ (v .result) _ (v .ensures) _ _ (c .before .t .given .1))
+    let v = c .before .before .before .before .before .pair in
+    let i = c .before .before .before .before .before .before .before .before .before .loop .inv in
+    let q = next (c .before .before .before .before .before .before .before) in
+    moved-on _ _ _ _ _ _ _ _ _ i _ (v .result) _ (v .ensures) _ q _ _ (c .before .t .given .1)
 
 returns-2 : tie.Need-returns-2 Inv-loop μ-loop
 returns-2 c =
-    let st = c .before .before .before .before in
-    answer-end _ _ _ (letters-count _ _ (st .pre .0 .2)) _ _ _ _ (c .before .loop .inv) (omega arith)
+    let p = c .before .before .before .before .pre in
+    answer-end _ _ _ (letters-count _ _ (p .0 .2)) (p .1 .1) _ _ (2 * c .before .loop .i) _ (c .before .loop .inv) (omega arith)
 
 pub run-spec : {M : Type 1} → statement M
 run-spec =
@@ -61,9 +60,8 @@ run-spec =
     Inv-loop
     μ-loop
     loop-holds
-    (λ c. search needs)
     (λ c κs. search needs)
-    step-requires
+    pair-requires
     (λ c. search needs)
     (λ c. search needs)
     (λ c. search needs)

@@ -1,6 +1,6 @@
-use Rattle.model.specs.Traversal.{second}
 use native.Mathlib.Omega.{arith}
 use mathlib.Core.Path.{refl}
+use Rattle.model.specs.Traversal.{second}
 use Rattle.letter_decoder.proofs.Moves.{moved, none-second, low-second}
 use borrow.Author.Needs.{needs}
 use Rattle.letter_decoder.proofs.second.Statement.{statement}

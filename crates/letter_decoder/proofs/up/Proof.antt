@@ -1,6 +1,6 @@
-use Rattle.model.specs.Traversal.{up}
 use native.Mathlib.Omega.{arith}
 use mathlib.Core.Path.{refl}
+use Rattle.model.specs.Traversal.{up}
 use Rattle.letter_decoder.proofs.Moves.{moved, root-up}
 use borrow.Author.Needs.{needs}
 use Rattle.letter_decoder.proofs.up.Statement.{statement}
