@@ -1,3 +1,4 @@
 pub mod Parts
 pub mod Linking
 pub mod Steps
+pub mod Whole

@@ -4,6 +4,7 @@
 --   Parts                    the rotation and the stacks: vertices that the present one hangs from, tree edges, vertices where other edges began, those
 --   partsOf m w d o          those of the work area w, where d tree edges and o others are open
 --   partsAt m w s            those in the state s
+--   firstState               the state at the start
 --   stateAfter l p s e       the state after the letter l of edge e, from the parts p and the state s
 --   partsAfter l p s e       the parts after it
 --   edgeOf l p k             the edge of the letter l, where k edges have begun
@@ -44,6 +45,9 @@ partsOf m w d o = record {
 
 abbrev pub partsAt : ℕ → List ℕ → State → Parts
 partsAt m w s = partsOf m w (s .depth) (s .opens)
+
+abbrev pub firstState : State
+firstState = record { n = 1; here = 0; depth = 0; opens = 0; place = 0 }
 
 -- ---- one letter
 

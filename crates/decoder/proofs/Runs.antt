@@ -1,7 +1,7 @@
 -- The loop of turns: the letters read so far and the run from here give the word, and the darts entered so far and those to come its rotation.
 -- Assumes nothing.
 --
---   first-state, first-cursor   where the machine and its cursor begin
+--   first-cursor          where the cursor begins
 --   Running               what the loop keeps
 --   left-is               how much is left to read, by the cursor and the stack
 --   running-start         so at the start
@@ -15,7 +15,7 @@ use native.Mathlib.Omega.{arith}
 use mathlib.Core.Path.{_≡_, refl, sym, ap, _∙_, subst}
 use mathlib.Core.Bool.{Bool, true, false, true≢false, false≢true}
 use mathlib.Core.List.{List, [], _∷_, _++_, append-nil, append-assoc}
-use lib.ListN.{length, set, replicate, length-append, length-drop, length-replicate}
+use lib.ListN.{length, set, replicate, length-append, length-drop}
 use Rattle.model.specs.Numbers.{allBelow}
 use Rattle.model.specs.Traversal.{Letter}
 use Rattle.packing.specs.Payload.{hasLabels, Sized, payloadBits, payloadLabels, payloadClean}
@@ -23,9 +23,8 @@ use Rattle.words.specs.Word.{Machine, Found, found, none, after, done, stuck, t
 use Rattle.machine.specs.Reading.{left, run}
 use Rattle.words.proofs.Found.{wordIn}
 use Rattle.machine.proofs.Runs.{turn-left, turn-none, run-on, run-done, run-stuck, decodeWord-run}
-use Rattle.work.specs.Map.{LABELS, BEGUN}
+use Rattle.work.specs.Map.{BEGUN}
 use Rattle.work.specs.Area.{region, placed, stack}
-use Rattle.work.proofs.Regions.{length-placed, region-placed, region-placed-other}
 use Rattle.work.proofs.Stacks.{length-stack}
 use Rattle.decoder.specs.declared.Cursor.{Cursor}
 use Rattle.decoder.specs.declared.Outcome.{Outcome}
@@ -34,15 +33,11 @@ use Rattle.coding.specs.Payloads.{decodeLabelled}
 use Rattle.unpacker.specs.Unpacked.{labelsAt}
 use Rattle.unpacker.proofs.Payload.{bits-room}
 use Rattle.builder.specs.declared.State.{State}
-use Rattle.builder.specs.Steps.{Parts, partsOf, outcome, outcomeAt}
+use Rattle.builder.specs.Steps.{partsOf, firstState, outcomeAt}
 use Rattle.builder.specs.Decoded.{Answered}
-use Rattle.builder.proofs.Linking.{linked-end, linked-whole}
-use Rattle.builder.proofs.Parts.{dart-entered}
+use Rattle.builder.proofs.Whole.{blank-area, standing-start, whole-built}
 use Rattle.decoder.specs.States.{labelsOf, machineOf, machineAt, Fits, Moved, Turned}
 use Rattle.decoder.proofs.Openings.{first-dart}
-
-abbrev pub first-state : State
-first-state = record { n = 1; here = 0; depth = 0; opens = 0; place = 0 }
 
 abbrev pub first-cursor : Cursor
 first-cursor = record { bits = 0; labels = 0 }
@@ -52,7 +47,7 @@ pub record Running (m : ℕ) (bs w₀ w : List ℕ) (s : State) (l : ℕ) (c : C
   pub fits : Fits m w s c
   pub letters : List Letter
   pub paced : length letters + left (machineAt m bs w s l c) ≡ length bs
-  pub built : (v : List Letter) → outcomeAt m w s (c .labels) v ≡ outcomeAt m w₀ first-state 0 (letters ++ v)
+  pub built : (v : List Letter) → outcomeAt m w s (c .labels) v ≡ outcomeAt m w₀ firstState 0 (letters ++ v)
   pub answer : after letters (run (machineAt m bs w s l c)) ≡ run (start bs (labelsAt m w₀))
   pub kept : length w ≡ length w₀
 
@@ -70,18 +65,11 @@ only-these [] = refl
 only-these (x ∷ xs) = ap (λ (r : List Letter). found (x ∷ r)) (append-nil xs)
 
 module _ (m : ℕ) (bs w₀ : List ℕ) where
-  pub running-start : 1 ≤ m → m ≤ 4096 → 32 * m ≤ length w₀ → Running m bs w₀ w₀ first-state 0 first-cursor
+  pub running-start : 1 ≤ m → m ≤ 4096 → 32 * m ≤ length w₀ → Running m bs w₀ w₀ firstState 0 first-cursor
   unfolding machineOf partsOf labelsOf stack start allBelow
   running-start g h r = record {
     fits = record {
-      stands = record {
-        few-edges = h;
-        room = r;
-        few-open = omega arith;
-        place-in = omega arith;
-        trees-in = refl;
-        opens-in = refl;
-      };
+      stands = standing-start m w₀ g h r;
       bits-in = omega arith;
       labels-in = omega arith;
       edges = omega arith;
@@ -108,7 +96,7 @@ module _ (m : ℕ) (bs w₀ : List ℕ) where
           letters = i .letters ++ x .letters;
           paced = omega arith;
           built = λ v. x .built v ∙ i .built (x .letters ++ v)
-              ∙ ap (outcomeAt m w₀ first-state 0) (sym (append-assoc (i .letters) (x .letters) v));
+              ∙ ap (outcomeAt m w₀ firstState 0) (sym (append-assoc (i .letters) (x .letters) v));
           answer = run-on (i .letters) here (machineAt m bs w′ t k d) (x .letters) (x .turns) ∙ i .answer;
           kept = x .kept ∙ i .kept;
         }
@@ -143,13 +131,10 @@ module _ (m : ℕ) (bs w₀ : List ℕ) where
       begun = ap (λ (r : Found). head (wordDarts 0 [] [] (wordIn r))) (sym whole) ∙ first-dart (start bs (labelsAt m w₀)) (omega arith) refl
 
       plan-built : region 0 (2 * m) w′ ≡ rotationOf (i .letters)
-      unfolding partsOf outcome wordDarts stack
       plan-built =
           ap (region 0 (2 * m)) q
-          ∙ ap (λ (p : Parts). p .rotation) (dart-entered m w (s .depth) (s .opens) (s .place) 0 (i .fits .stands .place-in))
-          ∙ sym (linked-end (s .place) (region 0 (2 * m) w))
-          ∙ i .built []
-          ∙ rw (append-nil (i .letters), clear) (linked-whole (2 * m) (i .letters) all-read begun)
+          ∙ whole-built m w₀ w s (c .labels) (i .letters) clear (i .fits .stands) all-read begun
+          (i .built [] ∙ ap (outcomeAt m w₀ firstState 0) (append-nil (i .letters)))
 
       pub answer-done : Answered (decodeWord bs (labelsAt m w₀)) (2 * m) true w′
       answer-done = record {
@@ -189,15 +174,13 @@ module _ (k m : ℕ) (ps : List ℕ) where
   pub prepared : hasLabels k ≡ true → Sized k m ps → payloadClean k m ps ≡ true → (w w′ : List ℕ) → 32 * m ≤ length w → labelsAt m w ≡ payloadLabels k m ps
       → w′ ≡ placed 0 (replicate (2 * m) 0) w → Prepared k m ps w′
   prepared has h e w w′ r l f =
-      let none : List ℕ = replicate (2 * m) 0 in
-      let n : length none ≡ 2 * m = length-replicate (2 * m) 0 in
-      let fits : 0 + length none ≤ length w = omega arith in
+      let (room, blank, same) = blank-area m w w′ r f in
       record {
         clean = e;
         sizes = (h .some-edge, h .few-edges, bits-room ps m k has h);
-        room = rw (f, length-placed 0 none w fits) r;
-        labelled = rw f (region-placed-other 0 none w fits (LABELS * (2 * m)) m (λ g. omega arith) ∙ l);
-        blank = rw f (region-placed 0 none w fits (2 * m) (sym n));
+        room = room;
+        labelled = same ∙ l;
+        blank = blank;
       }
 
   pub answer-unclean : (n : ℕ) (w : List ℕ) → payloadClean k m ps ≡ false → Answered (decodeLabelled k m ps) n false w

@@ -3,7 +3,6 @@
 --   letter-down, letter-up, letter-first, letter-second   the letter by its digit
 --   letters-left, letters-none   the letters in the high bits of a byte, one after the other
 --   pair-read             the pair of letters number i by shifting
---   letters-count         there are 2m letters
 --   letters-next          the letters from that pair on: the pair and the others
 --   clean-even, clean-odd   for even m no digit is unused; else the last two, four bits
 use Prim.Native.Nat.{ℕ, zero, suc, _+_, _-_, _*_, _/_, _%_, _^_, _<_}
@@ -14,8 +13,8 @@ use mathlib.Core.Logic.{_≢_}
 use mathlib.Core.Bool.{true}
 use mathlib.Core.List.{List, [], _∷_, _++_}
 use lib.Dec.{eqb}
-use lib.ListN.{length, getD, take, drop, length-map, drop-of-length-le, List·getD-map}
-use lib.Seq.{drop-cons, length-take-le, getD-take}
+use lib.ListN.{length, getD, take, drop, drop-of-length-le, List·getD-map}
+use lib.Seq.{drop-cons, getD-take}
 use borrow.Author.Tests.{eq-eqb, eqb-true}
 use Rattle.model.specs.Numbers.{allBelow}
 use Rattle.model.specs.Traversal.{down, up, first, second}
@@ -26,6 +25,7 @@ use Rattle.packing.specs.Unpack.{unpack}
 use Rattle.packing.specs.Letters.{digitLetter, payloadLetters, lettersClean}
 use Rattle.packing.proofs.Packed.{length-unpack}
 use Rattle.packing.proofs.Place.{unpack-read}
+use Rattle.packing.proofs.Letters.{letters-count}
 use Rattle.letter_decoder.specs.Reading.{lettersOf, pairAt}
 
 -- ---- one digit
@@ -118,10 +118,6 @@ module _ (ps : List ℕ) where
     digit-count : length digits ≡ 4 * bytesFor m 2
     digit-count = let e = length-unpack 4 4 (length ps) ps in omega arith
 
-    pub letters-count : length (payloadLetters m ps) ≡ 2 * m
-    unfolding payloadLetters
-    letters-count = length-map (take (2 * m) digits) digitLetter ∙ length-take-le (2 * m) digits (let e = digit-count in omega arith)
-
     letter-at : (i : ℕ) → i < 2 * m → getD (payloadLetters m ps) i (digitLetter 0) ≡ digitLetter (getD digits i 0)
     unfolding payloadLetters
     letter-at i h = List·getD-map digitLetter (take (2 * m) digits) i 0 ∙ ap digitLetter (getD-take (2 * m) digits i 0 h)
@@ -130,7 +126,7 @@ module _ (ps : List ℕ) where
     unfolding payloadLetters pairAt
     letters-next i h =
         let v = payloadLetters m ps in
-        let c = letters-count in
+        let c = letters-count m ps sized in
         let n : 2 * (i + 1) ≡ suc (suc (2 * i)) = omega arith in
         let o : 2 * i + 1 ≡ suc (2 * i) = omega arith in
         rw (

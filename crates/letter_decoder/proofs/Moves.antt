@@ -15,10 +15,9 @@ use borrow.Author.Tests.{le-leb, lt-leb}
 use Rattle.model.specs.Traversal.{Letter, down, up, first, second}
 use Rattle.words.specs.Word.{nested, head}
 use Rattle.packing.specs.Letters.{digitLetter}
-use Rattle.work.specs.Map.{BELOW, BEGUN}
-use Rattle.work.proofs.Stacks.{length-stack}
 use Rattle.builder.specs.declared.State.{State}
-use Rattle.builder.specs.Steps.{Parts, partsOf, partsAt, stateAfter, partsAfter, edgeOf, begunAfter, Stepped}
+use Rattle.builder.specs.Steps.{Parts, partsAt, stateAfter, partsAfter, edgeOf, begunAfter, Stepped}
+use Rattle.builder.proofs.Parts.{below-long, begun-long}
 use Rattle.builder.proofs.Steps.{stepped-stands, stepped-built}
 use Rattle.letter_decoder.specs.declared.Outcome.the-variants.{Goes, Stuck}
 use Rattle.letter_decoder.specs.Reading.{Fits, Read}
@@ -32,24 +31,16 @@ Able second m p s e = (0 < s .opens) × (s .here ≤ head (p .begun))
 
 -- ---- by letter
 
--- the stacks have as many entries as the state says
-record Deep (p : Parts) (s : State) : Type 0 where
-  below-deep : length (p .below) ≡ s .depth
-  begun-deep : length (p .begun) ≡ s .opens
-
-deep : (m : ℕ) (w : List ℕ) (s : State) → Deep (partsAt m w s) s
-unfolding partsOf
-deep m w s = record { below-deep = length-stack (BELOW * (2 * m)) (s .depth) w; begun-deep = length-stack (BEGUN * (2 * m)) (s .opens) w }
-
-after-nests : (l : Letter) (m : ℕ) (p : Parts) (s : State) (e x : ℕ) → Deep p s → Able l m p s e → (v : List Letter)
+after-nests : (l : Letter) (m : ℕ) (p : Parts) (s : State) (e x : ℕ) → length (p .below) ≡ s .depth → length (p .begun) ≡ s .opens → Able l m p s e
+    → (v : List Letter)
     → nested true (stateAfter l p s x .n) (stateAfter l p s x .here) (partsAfter l p s x .below) (partsAfter l p s x .begun) v
     ≡ nested true (s .n) (s .here) (p .below) (p .begun) (l ∷ v)
 unfolding nested
-after-nests down m p s e x d a v = rw (add-one (s .n))
-after-nests up m p s e x d a v = let b = d .below-deep in nested-up true (s .n) (s .here) (p .below) (p .begun) v (omega arith)
-after-nests first m p s e x d a v = refl
-after-nests second m p s e x d a v =
-    let b = d .begun-deep in let o = a .0 in
+after-nests down m p s e x b o a v = rw (add-one (s .n))
+after-nests up m p s e x b o a v = nested-up true (s .n) (s .here) (p .below) (p .begun) v (omega arith)
+after-nests first m p s e x b o a v = refl
+after-nests second m p s e x b o a v =
+    let some = a .0 in
     nested-second true (s .n) (s .here) (p .below) (p .begun) v (omega arith) (le-leb (s .here) (head (p .begun)) (a .1))
 
 -- how the numbers change
@@ -73,6 +64,12 @@ module _ (m : ℕ) (w : List ℕ) (s : State) (e : ℕ) (f : Fits m w s e) where
   abbrev here : Parts
   here = partsAt m w s
 
+  below-count : length (here .below) ≡ s .depth
+  below-count = below-long m w (s .depth) (s .opens)
+
+  begun-count : length (here .begun) ≡ s .opens
+  begun-count = begun-long m w (s .depth) (s .opens)
+
   pub moved : (l : Letter) (x : ℕ) (t : State) (k : ℕ) (w′ : List ℕ) → Able l m here s e → x ≡ edgeOf l here e → x < m
       → k ≡ begunAfter l e → Stepped l m w s x t w′ → Read (l ∷ []) m w s e (Goes t k) w′
   unfolding Read
@@ -82,7 +79,7 @@ module _ (m : ℕ) (w : List ℕ) (s : State) (e : ℕ) (f : Fits m w s e) where
       rw r record {
         fits = record { stands = stepped-stands l m w s x t w′ y (f .stands) h (omega arith); edges = z₁; few-open = z₂; vertices = z₃ };
         left = λ v n. omega arith;
-        nests = λ v. rw (y .parts-are, y .state-is) (after-nests l m here s e x (deep m w s) a v);
+        nests = λ v. rw (y .parts-are, y .state-is) (after-nests l m here s e x below-count begun-count a v);
         built = stepped-built l m w s x t w′ y e q;
         kept = y .kept;
       }
@@ -93,13 +90,13 @@ module _ (m : ℕ) (w : List ℕ) (s : State) (e : ℕ) (f : Fits m w s e) where
     full-down : m ≤ e → Read (down ∷ []) m w s e Stuck w′
     unfolding Read nested
     full-down h v n =
-        let d = deep m w s in let b = d .below-deep in let o = d .begun-deep in let g = f .edges in
+        let b = below-count in let o = begun-count in let g = f .edges in
         nested-too-short true (suc (s .n)) (s .n) (s .here ∷ here .below) (here .begun) v (omega arith)
 
     full-first : m ≤ e → Read (first ∷ []) m w s e Stuck w′
     unfolding Read nested
     full-first h v n =
-        let d = deep m w s in let b = d .below-deep in let o = d .begun-deep in let g = f .edges in
+        let b = below-count in let o = begun-count in let g = f .edges in
         nested-too-short true (s .n) (s .here) (here .below) (s .here ∷ here .begun) v (omega arith)
 
     pub full-begin : m ≤ e → (x : ℕ) → x < 2 → Read (digitLetter (2 * x) ∷ []) m w s e Stuck w′
@@ -110,11 +107,11 @@ module _ (m : ℕ) (w : List ℕ) (s : State) (e : ℕ) (f : Fits m w s e) where
 
     pub root-up : s .depth ≡ 0 → Read (up ∷ []) m w s e Stuck w′
     unfolding Read
-    root-up h v n = up-none true (s .n) (s .here) (here .below) (here .begun) v (deep m w s .below-deep ∙ h)
+    root-up h v n = up-none true (s .n) (s .here) (here .below) (here .begun) v (below-count ∙ h)
 
     pub none-second : s .opens ≡ 0 → Read (second ∷ []) m w s e Stuck w′
     unfolding Read
-    none-second h v n = second-none true (s .n) (s .here) (here .below) (here .begun) v (deep m w s .begun-deep ∙ h)
+    none-second h v n = second-none true (s .n) (s .here) (here .below) (here .begun) v (begun-count ∙ h)
 
     pub low-second : head (here .begun) < s .here → Read (second ∷ []) m w s e Stuck w′
     unfolding Read

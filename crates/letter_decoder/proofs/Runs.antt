@@ -2,29 +2,24 @@
 --
 --   moved-none, moved-all   no letter is read yet; all are
 --   moved-on, stuck-on    some more are read, or no word goes on well with them
---   first-state           where the builder begins
---   fits-start            it fits
+--   fits-start            the start fits
 --   answer-stuck, answer-end   the answer where no word goes on well, and after the last letter
---   cleared               the work area that the loop begins with
 --   answer-unclean, answer-clean   the answer for the payload
 use Prim.Native.Nat.{ℕ, _+_, _*_, _≤_}
-use native.Mathlib.Nat.{zero-add}
 use native.Mathlib.Omega.{arith}
 use mathlib.Core.Path.{_≡_, refl, sym, ap, _∙_, subst}
 use mathlib.Core.Bool.{Bool, true, false, true≢false, false≢true}
 use mathlib.Core.List.{List, [], _++_, append-nil, append-assoc}
-use lib.ListN.{length, set, drop, replicate, length-replicate, drop-of-length-le}
-use Rattle.model.specs.Numbers.{allBelow}
+use lib.ListN.{length, set, drop, replicate, drop-of-length-le}
 use Rattle.model.specs.Traversal.{Letter}
-use Rattle.words.specs.Word.{nested, nestedWord, wordDarts, rotationOf}
+use Rattle.words.specs.Word.{nested, nestedWord, rotationOf}
 use Rattle.packing.specs.Letters.{payloadLetters, lettersClean}
 use Rattle.coding.specs.Payloads.{decodeLetters}
-use Rattle.work.specs.Area.{region, placed, stack}
-use Rattle.work.proofs.Regions.{region-set, length-placed, region-placed}
+use Rattle.work.specs.Area.{region, stack}
 use Rattle.builder.specs.declared.State.{State}
 use Rattle.builder.specs.Decoded.{Answered}
-use Rattle.builder.specs.Steps.{partsOf, outcome, outcomeAt}
-use Rattle.builder.proofs.Linking.{linked-end, linked-whole}
+use Rattle.builder.specs.Steps.{partsOf, firstState, outcomeAt}
+use Rattle.builder.proofs.Whole.{standing-start, whole-built}
 use Rattle.letter_decoder.specs.declared.Outcome.{Outcome}
 use Rattle.letter_decoder.specs.declared.Outcome.the-variants.{Goes, Stuck}
 use Rattle.letter_decoder.specs.Reading.{goesOn, Left, Fits, Moved, Read}
@@ -66,33 +61,24 @@ module _ (ls : List Letter) (m : ℕ) (w : List ℕ) (s : State) (e : ℕ) where
 
 -- ---- the whole word
 
-abbrev pub first-state : State
-first-state = record { n = 1; here = 0; depth = 0; opens = 0; place = 0 }
-
-pub fits-start : (m : ℕ) (w : List ℕ) → 1 ≤ m → m ≤ 4096 → 32 * m ≤ length w → Fits m w first-state 0
-unfolding partsOf stack allBelow
-fits-start m w g h r = record {
-  stands = record { few-edges = h; room = r; few-open = omega arith; place-in = omega arith; trees-in = refl; opens-in = refl };
-  edges = omega arith;
-  few-open = omega arith;
-  vertices = omega arith;
-}
+pub fits-start : (m : ℕ) (w : List ℕ) → 1 ≤ m → m ≤ 4096 → 32 * m ≤ length w → Fits m w firstState 0
+fits-start m w g h r = record { stands = standing-start m w g h r; edges = omega arith; few-open = omega arith; vertices = omega arith }
 
 module _ (m : ℕ) (v : List Letter) (w : List ℕ) (size : length v ≡ 2 * m) where
-  all-left : Left m first-state 0 (v ++ [])
+  all-left : Left m firstState 0 (v ++ [])
   all-left = let l = ap length (append-nil v) in omega arith
 
-  pub answer-stuck : (w′ : List ℕ) → Read v m w first-state 0 Stuck w′ → Answered (nestedWord v) (2 * m) false w′
+  pub answer-stuck : (w′ : List ℕ) → Read v m w firstState 0 Stuck w′ → Answered (nestedWord v) (2 * m) false w′
   unfolding nestedWord partsOf stack Read
   answer-stuck w′ f =
       let e : nested true 1 0 [] [] v ≡ false = ap (nested true 1 0 [] []) (sym (append-nil v)) ∙ f [] all-left in
       record { word-found = λ h. absurd (false≢true h); none-found = λ h. rw e }
 
   -- all letters are read
-  module _ (clear : region 0 (2 * m) w ≡ replicate (2 * m) 0) (t : State) (k i : ℕ) (w′ : List ℕ) (y : Moved v (drop i v) m w first-state 0 t k w′)
+  module _ (clear : region 0 (2 * m) w ≡ replicate (2 * m) 0) (t : State) (k i : ℕ) (w′ : List ℕ) (y : Moved v (drop i v) m w firstState 0 t k w′)
       (end : 2 * m ≤ i) where
-    all-read : Moved v [] m w first-state 0 t k w′
-    all-read = subst (λ (r : List Letter). Moved v r m w first-state 0 t k w′) (drop-of-length-le v {i = i} (omega arith)) y
+    all-read : Moved v [] m w firstState 0 t k w′
+    all-read = subst (λ (r : List Letter). Moved v r m w firstState 0 t k w′) (drop-of-length-le v {i = i} (omega arith)) y
 
     -- no more than m edges have begun, and each letter began or ended one
     nothing-open : (t .depth ≡ 0) × (t .opens ≡ 0)
@@ -106,28 +92,15 @@ module _ (m : ℕ) (v : List Letter) (w : List ℕ) (size : length v ≡ 2 * m) 
     whole = ap (nested true 1 0 [] []) (sym (append-nil v)) ∙ sym (all-read .nests []) ∙ rw (nothing-open .0, nothing-open .1)
 
     plan-built : region 0 (2 * m) (set w′ (t .place) 0) ≡ rotationOf v
-    unfolding partsOf outcome wordDarts stack
     plan-built =
-        ap (λ (i : ℕ). region 0 (2 * m) (set w′ i 0)) (sym (zero-add (t .place)))
-        ∙ region-set 0 (2 * m) w′ (t .place) 0 (all-read .fits .stands .place-in)
-        ∙ sym (linked-end (t .place) (region 0 (2 * m) w′))
-        ∙ all-read .built []
-        ∙ rw (append-nil v, clear) (linked-whole (2 * m) v size (nested-first-dart true 1 0 v whole))
+        whole-built m w w′ t k v clear (all-read .fits .stands) size (nested-first-dart true 1 0 v whole)
+        (all-read .built [] ∙ ap (outcomeAt m w firstState 0) (append-nil v))
 
     pub answer-end : Answered (nestedWord v) (2 * m) true (set w′ (t .place) 0)
     unfolding nestedWord
     answer-end = record { word-found = λ h. (v, rw whole, plan-built); none-found = λ h. absurd (true≢false h) }
 
 -- ---- the payload
-
--- the rotation is filled with zeros
-pub cleared : (m : ℕ) (w w′ : List ℕ) → 32 * m ≤ length w → w′ ≡ placed 0 (replicate (2 * m) 0) w
-    → (32 * m ≤ length w′) × (region 0 (2 * m) w′ ≡ replicate (2 * m) 0)
-cleared m w w′ r f =
-    let none : List ℕ = replicate (2 * m) 0 in
-    let n : length none ≡ 2 * m = length-replicate (2 * m) 0 in
-    let fits : 0 + length none ≤ length w = omega arith in
-    (rw (f, length-placed 0 none w fits) r, rw f (region-placed 0 none w fits (2 * m) (sym n)))
 
 module _ (m : ℕ) (ps : List ℕ) where
   pub answer-unclean : (n : ℕ) (w : List ℕ) → lettersClean m ps ≡ false → Answered (decodeLetters m ps) n false w

@@ -8,15 +8,13 @@
 --   payload-even, payload-odd   the full bytes are the payload, or the last two letters follow
 --   whole-record         head and payload are the record
 use Prim.Native.Nat.{ℕ, zero, suc, _+_, _-_, _*_, _/_, _%_, _≤_, _<_}
-use native.Mathlib.Nat.{not-suc-le-zero, le-of-suc-le-suc, add-assoc, mul-comm}
+use native.Mathlib.Nat.{not-suc-le-zero, le-of-suc-le-suc}
 use native.Mathlib.Omega.{arith}
 use native.Mathlib.Numerals.{add-one}
 use mathlib.Core.Path.{_≡_, refl, sym, ap, _∙_}
-use mathlib.Core.Bool.{true}
 use mathlib.Core.List.{List, [], _∷_, _++_, map}
 use lib.ListN.{length, getD, set, drop, length-drop}
 use lib.Seq.{getD-drop}
-use Rattle.model.specs.Numbers.{allBelow}
 use Rattle.model.specs.Traversal.{Letter, down, up, first, second, code}
 use Rattle.model.specs.Record.{digitsFrom, digits, pack, le16, bytesFor, recordLength, headed}
 use Rattle.model.proofs.Fitness.{below-all}
@@ -27,7 +25,7 @@ use Rattle.packing.proofs.Letters.{digits-small, letters-long}
 use Rattle.work.specs.Map.{LETTERS}
 use Rattle.work.specs.Area.{placed}
 use Rattle.work.specs.Letters.{lettersIn, Coded}
-use Rattle.work.proofs.Regions.{getD-region, placed-none, placed-next, placed-snoc, front-placed}
+use Rattle.work.proofs.Regions.{getD-region, placed-next, placed-snoc, front-placed}
 use Rattle.work.proofs.Letters.{length-letters}
 use Rattle.letter_packer.specs.Packed.{digitsAt, Packed}
 

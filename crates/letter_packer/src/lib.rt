@@ -1,10 +1,9 @@
 // From the contour word in the work area to the bytes of a record of kind 4: two bits a letter, four letters a byte. It knows letters and places, no plans.
 ghost use mathlib.Core.Path.{_≡_};
-ghost use mathlib.Core.List.{map};
 ghost use Prim.Native.Nat.{_+_, _*_, _/_, _^_, _≤_, _<_};
-ghost use lib.ListN.{length, getD, drop};
+ghost use lib.ListN.{length};
 ghost use Rattle.model.specs.Record.{digits, pack, bytesFor, recordLength};
-ghost use Rattle.packing.specs.Letters.{letterDigit, lettersPayload};
+ghost use Rattle.packing.specs.Letters.{lettersPayload};
 ghost use Rattle.work.specs.Map.{LETTERS};
 ghost use Rattle.work.specs.Area.{placed};
 ghost use Rattle.work.specs.Letters.{lettersIn, Coded};

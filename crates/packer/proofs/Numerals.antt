@@ -7,13 +7,13 @@
 --   all-group              the digits of a group are small where all are
 --   packed-more            one group more
 use Prim.Native.Nat.{ℕ, zero, suc, _+_, _*_, _^_, _≤_, _<_}
-use native.Mathlib.Nat.{suc-mul, zero-mul, add-zero, add-comm, mul-le-mul-right, pow-le-pow-right}
+use native.Mathlib.Nat.{suc-mul, add-zero, mul-le-mul-right, pow-le-pow-right}
 use native.Mathlib.Omega.{arith}
 use native.Mathlib.Numerals.{add-one}
-use mathlib.Core.Path.{_≡_, refl, sym, ap, _∙_}
+use mathlib.Core.Path.{_≡_, refl, sym, _∙_}
 use mathlib.Core.Bool.{true}
-use mathlib.Core.List.{List, [], _∷_, _++_}
-use lib.ListN.{length, getD, set, take, drop, List·getD-eq-default}
+use mathlib.Core.List.{List, [], _∷_}
+use lib.ListN.{length, getD, set, take, List·getD-eq-default}
 use lib.Seq.{drop-drop, getD-drop, getD-take, length-slice}
 use Rattle.model.specs.Numbers.{allBelow}
 use Rattle.model.specs.Record.{digitsFrom, digits, pack}

@@ -7,19 +7,18 @@
 --   Parts k m bs ls      bits and labels in the right number and below their bases
 --   unpayload-parts      such are taken out of any payload of the right length
 --   payload-unpayload    a clean payload is made of the bits and labels that are taken out of it
-use Prim.Native.Nat.{ℕ, _+_, _-_, _*_, _^_, _≤_, _<_}
+use Prim.Native.Nat.{ℕ, _+_, _-_, _*_}
 use native.Mathlib.Omega.{arith}
 use mathlib.Core.Path.{_≡_, sym, ap, _∙_}
-use mathlib.Core.Bool.{Bool, true, false, _&&_, cond}
+use mathlib.Core.Bool.{true, _&&_}
 use mathlib.Core.List.{List, _++_, append-assoc}
-use lib.Dec.{eqb}
 use lib.ListN.{length, take, drop, replicate, length-append, length-drop, take-append-drop}
 use lib.Seq.{take-at, drop-at, take-add, length-take-le, take-append-le}
 use Rattle.model.specs.Numbers.{allBelow}
 use Rattle.model.specs.Record.{pack, bytesFor, recordLength, payload, labelBase}
 use Rattle.model.proofs.Booleans.{and-left, and-right, both}
 use Rattle.model.proofs.Below.{below-append, below-take, below-drop, below-mono}
-use Rattle.packing.specs.Unpack.{unpack, bits, groups}
+use Rattle.packing.specs.Unpack.{bits, groups}
 use Rattle.packing.specs.Payload.{hasLabels, blankFrom, payloadBits, payloadLabels, payloadClean}
 use Rattle.packing.proofs.Packed.{pack-length, pack-below, unpack-append, length-unpack, unpack-below, unpack-packed, blank-past, pack-front}
 use Rattle.packing.proofs.Labelled.{labelled-cases}

@@ -1,6 +1,7 @@
 use mathlib.Core.Path.{sym, _∙_}
 use borrow.Author.Tests.{not-true, not-false}
-use Rattle.letter_decoder.proofs.Runs.{cleared, answer-unclean, answer-clean}
+use Rattle.builder.proofs.Whole.{blank-area}
+use Rattle.letter_decoder.proofs.Runs.{answer-unclean, answer-clean}
 use borrow.Author.Needs.{needs}
 use Rattle.letter_decoder.proofs.decode.Statement.{statement}
 use Rattle.letter_decoder.proofs.decode.Tie as tie
@@ -11,7 +12,8 @@ returns c = answer-unclean _ _ _ _ (sym (c .before .clean .ensures) ∙ not-true
 run-requires : tie.Need-run-requires
 run-requires c κs =
     let p = c .before .before .before .before .before .before .before .before .before .pre in
-    (p .0, cleared _ _ _ (p .1) (c .before .before .before .fill .ensures))
+    let (room, blank, _) = blank-area _ _ _ (p .1) (c .before .before .before .fill .ensures) in
+    (p .0, (room, blank))
 
 returns-2 : tie.Need-returns-2
 returns-2 c =

@@ -4,15 +4,17 @@ use mathlib.Core.Path.{_≡_}
 use mathlib.Core.List.{_++_}
 use lib.ListN.{drop}
 use Rattle.packing.specs.Letters.{payloadLetters}
+use Rattle.packing.proofs.Letters.{letters-count}
+use Rattle.builder.specs.Steps.{firstState}
 use Rattle.letter_decoder.specs.Reading.{lettersOf, Moved}
-use Rattle.letter_decoder.proofs.Digits.{letters-count, letters-next}
-use Rattle.letter_decoder.proofs.Runs.{first-state, fits-start, moved-none, moved-on, stuck-on, answer-stuck, answer-end}
+use Rattle.letter_decoder.proofs.Digits.{letters-next}
+use Rattle.letter_decoder.proofs.Runs.{fits-start, moved-none, moved-on, stuck-on, answer-stuck, answer-end}
 use borrow.Author.Needs.{needs}
 use Rattle.letter_decoder.proofs.run.Statement.{statement}
 use Rattle.letter_decoder.proofs.run.Tie as tie
 
 abbrev Inv-loop : tie.InvT-loop
-Inv-loop payload m w₀ s₀ e₀ i₀ w s e i = let v = payloadLetters m payload in Moved v (drop (2 * i) v) m w₀ first-state 0 s e w
+Inv-loop payload m w₀ s₀ e₀ i₀ w s e i = let v = payloadLetters m payload in Moved v (drop (2 * i) v) m w₀ firstState 0 s e w
 
 abbrev μ-loop : tie.MeasureT-loop
 μ-loop payload m w₀ s₀ e₀ i₀ w s e i = m - i
