@@ -24,12 +24,13 @@ requested =
     ∷ record { kind = 1; root = 5; rotation = 0 ∷ 2 ∷ 5 ∷ 4 ∷ 3 ∷ 1 ∷ []; says = refused 12 }
     ∷ record { kind = 1; root = 0; rotation = 0 ∷ 1 ∷ []; says = refused 12 }
     ∷ record { kind = 1; root = 1; rotation = 0 ∷ 1 ∷ []; says = refused 12 }
-    -- (c) "A single loop gives 07 00 04 00 01 00 B0." One trail, the triangle, three parallel trails, the spur. 9 and 10 are given as in any kind; 11 in the others; 3 and 5 are no kinds.
+    -- (c) "A single loop gives 07 00 04 00 01 00 B0." One trail, the triangle, three parallel trails, the spur, a loop around a dead end. 9 and 10 are given as in any kind; 11 in the others; 3 and 5 are no kinds.
     ∷ record { kind = 4; root = 0; rotation = 1 ∷ 0 ∷ []; says = record-is (0x07 ∷ 0x00 ∷ 0x04 ∷ 0x00 ∷ 0x01 ∷ 0x00 ∷ 0xB0 ∷ []) }
     ∷ record { kind = 4; root = 0; rotation = 0 ∷ 1 ∷ []; says = record-is (0x07 ∷ 0x00 ∷ 0x04 ∷ 0x00 ∷ 0x01 ∷ 0x00 ∷ 0x10 ∷ []) }
     ∷ record { kind = 4; root = 0; rotation = 5 ∷ 2 ∷ 1 ∷ 4 ∷ 3 ∷ 0 ∷ []; says = record-is (0x08 ∷ 0x00 ∷ 0x04 ∷ 0x00 ∷ 0x03 ∷ 0x00 ∷ 0x09 ∷ 0x70 ∷ []) }
     ∷ record { kind = 4; root = 0; rotation = 5 ∷ 2 ∷ 4 ∷ 0 ∷ 1 ∷ 3 ∷ []; says = record-is (0x08 ∷ 0x00 ∷ 0x04 ∷ 0x00 ∷ 0x03 ∷ 0x00 ∷ 0x29 ∷ 0xF0 ∷ []) }
     ∷ record { kind = 4; root = 0; rotation = 0 ∷ 2 ∷ 5 ∷ 4 ∷ 3 ∷ 1 ∷ []; says = record-is (0x08 ∷ 0x00 ∷ 0x04 ∷ 0x00 ∷ 0x03 ∷ 0x00 ∷ 0x09 ∷ 0xD0 ∷ []) }
+    ∷ record { kind = 4; root = 0; rotation = 2 ∷ 1 ∷ 4 ∷ 0 ∷ 3 ∷ 5 ∷ []; says = record-is (0x08 ∷ 0x00 ∷ 0x04 ∷ 0x00 ∷ 0x03 ∷ 0x00 ∷ 0x18 ∷ 0x70 ∷ []) }
     ∷ record { kind = 4; root = 0; rotation = 0 ∷ 1 ∷ 2 ∷ 3 ∷ []; says = refused 9 }
     ∷ record { kind = 4; root = 0; rotation = 3 ∷ 2 ∷ 4 ∷ 5 ∷ 1 ∷ 0 ∷ []; says = not-planar (pos 0) }
     ∷ record { kind = 1; root = 0; rotation = 1 ∷ 0 ∷ []; says = refused 11 }
