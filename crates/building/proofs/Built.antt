@@ -12,7 +12,7 @@ use lib.ListN.{length}
 use Rattle.model.specs.Numbers.{isPermutation}
 use Rattle.model.specs.Map.{darts, dartCountFits, connected, hasDeadEnd, takesLoops, degreeRefused, fit}
 use Rattle.model.specs.Traversal.{Letter, word, standardPlan}
-use Rattle.model.proofs.Fitness.{parts-fit, count-positive, loop-taken}
+use Rattle.model.proofs.Fitness.{parts-fit, count-positive, no-loop-refused}
 use Rattle.words.specs.Word.{bareLeaf, valid, rotationOf, planOf}
 use Rattle.words.specs.Toured.{Toured, Bracketed}
 use Rattle.words.specs.Brackets.{letter}
@@ -102,6 +102,6 @@ module _ (k : ℕ) (w : List Letter) (v : valid k w ≡ true) where
     entries = entries;
     joined = joined;
     flat = bracketed-planar (planOf w) toured count entries bracketed;
-    loops = loop-taken k (rotationOf w) (λ e. built-no-loop w brackets (strict e));
+    loops = no-loop-refused k (rotationOf w) (λ e. built-no-loop w brackets (strict e));
     degrees = degrees;
   })

@@ -6,7 +6,7 @@
 --   count-positive, count-even   its first two parts
 --   even-darts                   the dart count is twice the number of edges
 --   connected-at, at-connected   every dart is reached
---   loopless, loop-taken         a kind that takes no loops has a fit plan without loops; in one that does, or where there is none, 11 is not given
+--   loopless, no-loop-refused    where 11 is not given and the kind takes no loops there is none; and 11 is not given if there is none, or the kind takes them
 --   loopless-at, at-loopless     no edge has both its darts at one vertex
 --   dead-end-at, at-dead-end     some dart is alone at its vertex, which is not the root's
 use mathlib.Core.Path.{_≡_, refl, ap}
@@ -65,9 +65,9 @@ pub loopless : (k : ℕ) (rot : List ℕ) → loopRefused k rot ≡ false → ta
 unfolding loopRefused
 loopless k rot e t = rw t at e
 
-pub loop-taken : (k : ℕ) (rot : List ℕ) → (takesLoops k ≡ false → hasLoop rot ≡ false) → loopRefused k rot ≡ false
+pub no-loop-refused : (k : ℕ) (rot : List ℕ) → (takesLoops k ≡ false → hasLoop rot ≡ false) → loopRefused k rot ≡ false
 unfolding loopRefused
-loop-taken k rot h = go (takesLoops k) h
+no-loop-refused k rot h = go (takesLoops k) h
   where
     go : (b : Bool) → (b ≡ false → hasLoop rot ≡ false) → (not b && hasLoop rot) ≡ false
     go true h = refl

@@ -110,7 +110,7 @@ hasDeadEnd p =
 
 -- ---- fitness
 
--- 2. "The kind is not 1 or 2"; document 02 (c): "2 now admits" kind 4
+-- 2. "The kind is not 1 or 2"; of kind 4, document 02 (c): "2 now admits it"
 unfoldable pub isKind : ℕ → Bool
 isKind k = eqb k 1 || (eqb k 2 || eqb k 4)
 

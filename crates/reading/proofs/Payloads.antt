@@ -1,7 +1,7 @@
 -- The payload of a record whose head passes, as the slice past its six bytes, and what decoding it says of the record.
 --
---   letters-sized, letters-answered   kind 4: its payload's length, and that what its letters answer is the answer
---   labels-asked, labels-answered   another kind: it has labels, and the same of its tree bits and labels
+--   letters-asked, letters-answered   kind 4: what reading its letters asks, and that it gives the answer
+--   labels-asked, labels-answered   another kind: the same of reading its tree bits and labels
 --   payload-sized        it is as long as the payload of its kind and size
 --   record-decoded       the answer for the payload is the answer for the record
 use Prim.Native.Nat.{ℕ, _+_, _-_, _*_, _≤_}
@@ -26,8 +26,8 @@ unfolding recordLength
 four-long k m e = rw e
 
 module _ (k m : ℕ) (ps : List ℕ) (s : Sized k m ps) where
-  pub letters-sized : k ≡ 4 → (1 ≤ m) × (m ≤ 4096) × (length ps ≡ bytesFor m 2)
-  letters-sized e = let l = s .long in let q = four-long k m e in (s .some-edge, s .few-edges, omega arith)
+  pub letters-asked : k ≡ 4 → (1 ≤ m) × (m ≤ 4096) × (length ps ≡ bytesFor m 2)
+  letters-asked e = let l = s .long in let q = four-long k m e in (s .some-edge, s .few-edges, omega arith)
 
   pub labels-asked : k ≢ 4 → (hasLabels k ≡ true) × Sized k m ps
   labels-asked d = (labelled-other k (s .kind) d, s)

@@ -17,7 +17,7 @@ use Rattle.model.specs.Map.{Plan, darts, opposite, next, vertexOf, faceNext, ed
 use Rattle.model.specs.Map.{connected, characteristic, planar, hasLoop, hasDeadEnd, degreeRefused, fit}
 use Rattle.model.specs.Renumbering.{Renumbering}
 use Rattle.model.proofs.Booleans.{some-no, no-some}
-use Rattle.model.proofs.Fitness.{count-even, fit-parts, parts-fit, loopless, loop-taken}
+use Rattle.model.proofs.Fitness.{count-even, fit-parts, parts-fit, loopless, no-loop-refused}
 use Rattle.model.proofs.Opposite.{opposite-bound}
 use Rattle.orbits.specs.Permutation.{Perm}
 use Rattle.orbits.proofs.Transversal.{cycles-conj}
@@ -120,6 +120,6 @@ carries-fit k p q f r e =
       entries = carries-permutation p (a .count) (a .root) (a .entries) q f r;
       joined = iso-connected two (a .entries) (iso-of r) (omega (arith, a .root)) (a .joined);
       flat = iso-planar two (a .entries) (iso-of r) (a .flat);
-      loops = loop-taken k (q .rotation) (λ e. iso-loop two (a .entries) (iso-of r) (loopless k (p .rotation) (a .loops) e));
+      loops = no-loop-refused k (q .rotation) (λ e. iso-loop two (a .entries) (iso-of r) (loopless k (p .rotation) (a .loops) e));
       degrees = degree-carried k p q (iso-dead-end two (a .entries) (iso-of r) (p .root) (q .root) (a .root) (r .root-to-root)) (a .degrees);
     })

@@ -1,10 +1,10 @@
-use Rattle.reading.proofs.Payloads.{letters-sized, letters-answered, labels-asked, labels-answered}
+use Rattle.reading.proofs.Payloads.{letters-asked, letters-answered, labels-asked, labels-answered}
 use borrow.Author.Needs.{needs}
 use Rattle.reading.proofs.decode.Statement.{statement}
 use Rattle.reading.proofs.decode.Tie as tie
 
 decode-requires : tie.Need-decode-requires
-decode-requires c κs = let p = c .before .before .before .before .pre in (letters-sized _ _ _ (p .0) (c .before .if1 .taken), p .1)
+decode-requires c κs = let p = c .before .before .before .before .pre in (letters-asked _ _ _ (p .0) (c .before .if1 .taken), p .1)
 
 returns : tie.Need-returns
 returns c = letters-answered _ _ _ _ _ (c .before .before .before .before .if1 .taken) (c .before .before .decode .ensures)
