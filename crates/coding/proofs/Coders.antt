@@ -21,7 +21,7 @@ use Rattle.words.proofs.Positions.{word-length}
 use Rattle.words.proofs.Validity.{valid-kind, valid-fits}
 use Rattle.building.proofs.Built.{built-word, built-fit}
 use Rattle.packing.specs.Payload.{Sized}
-use Rattle.packing.proofs.Labelled.{labelled-not-four, labelled-or-four}
+use Rattle.packing.proofs.Labelled.{labelled-strict, labelled-or-four}
 use Rattle.packing.proofs.Letters.{letters-bytes}
 use Rattle.renumbering.proofs.Walk.{carries-word}
 use Rattle.lists.specs.Coder.{Coder}
@@ -36,7 +36,7 @@ module _ (k : ℕ) (w : List Letter) (v : valid k w ≡ true) where
   long : 6 + length (encodePayload k w) ≡ recordLength k (length w / 2)
   unfolding encodePayload
   long = labelled-or-four k (valid-kind k w v)
-      (λ has. rw (labelled-not-four k has) (labelled-sized k has w v))
+      (λ has. rw (labelled-strict k has) (labelled-sized k has w v))
       (λ e. rw e (letters-sized w (rw e at v)))
 
   pub encode-sized : Sized k (length w / 2) (encodePayload k w)
@@ -47,13 +47,13 @@ module _ (k : ℕ) (w : List Letter) (v : valid k w ≡ true) where
   pub encode-bytes : allBelow 256 (encodePayload k w) ≡ true
   unfolding encodePayload
   encode-bytes = labelled-or-four k (valid-kind k w v)
-      (λ has. rw (labelled-not-four k has) (labelled-bytes k has w v))
+      (λ has. rw (labelled-strict k has) (labelled-bytes k has w v))
       (λ e. rw e (letters-bytes w))
 
   pub encode-decodes : decodePayload k (length w / 2) (encodePayload k w) ≡ found w
   unfolding encodePayload decodePayload
   encode-decodes = labelled-or-four k (valid-kind k w v)
-      (λ has. rw (labelled-not-four k has) (labelled-decodes k has w v))
+      (λ has. rw (labelled-strict k has) (labelled-decodes k has w v))
       (λ e. rw e (letters-decode w (rw e at v)))
 
 -- ---- from payloads to words
@@ -66,7 +66,7 @@ decode-encodes k m ps w s bytes e =
     let few = s .few-edges in
     let count = parts-count (2 * m) (omega arith) (omega arith) (omega arith) in
     labelled-or-four k (s .kind)
-    (λ has. rw (labelled-not-four k has) (decodes-labelled k has m ps w count (s .long) bytes (rw (labelled-not-four k has) at e)))
+    (λ has. rw (labelled-strict k has) (decodes-labelled k has m ps w count (s .long) bytes (rw (labelled-strict k has) at e)))
     (λ four. rw four (decodes-letters m ps w count (rw four at (s .long)) bytes (rw four at e)))
 
 -- ---- the coders
@@ -74,7 +74,7 @@ decode-encodes k m ps w s bytes e =
 pub payload-of-word : (k : ℕ) (p : Plan) → fit k p ≡ true → payloadOf k p ≡ encodePayload k (word p)
 unfolding payloadOf encodePayload
 payload-of-word k p e = labelled-or-four k (fit-parts k p e .kind)
-    (λ has. rw (labelled-not-four k has) (payload-labelled k has p e))
+    (λ has. rw (labelled-strict k has) (payload-labelled k has p e))
     (λ four. rw four (payload-letters p (rw four at e)))
 
 unfoldable pub coders : (k : ℕ) → isKind k ≡ true → Coder k

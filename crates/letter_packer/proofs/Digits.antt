@@ -13,20 +13,20 @@ use native.Mathlib.Omega.{arith}
 use native.Mathlib.Numerals.{add-one}
 use mathlib.Core.Path.{_≡_, refl, sym, ap, _∙_}
 use mathlib.Core.List.{List, [], _∷_, _++_, map}
-use lib.ListN.{length, getD, set, drop, length-drop}
+use lib.ListN.{length, getD, set, drop, length-drop, length-map}
 use lib.Seq.{getD-drop}
 use Rattle.model.specs.Traversal.{Letter, down, up, first, second, code}
-use Rattle.model.specs.Record.{digitsFrom, digits, pack, le16, bytesFor, recordLength, headed}
+use Rattle.model.specs.Record.{digitsFrom, digits, pack, le16, bytesFor, recordLength}
 use Rattle.model.proofs.Fitness.{below-all}
-use Rattle.model.proofs.Heads.{recordLength-range}
 use Rattle.packing.specs.Letters.{letterDigit, lettersPayload}
 use Rattle.packing.proofs.Packed.{pack-length, pack-more}
 use Rattle.packing.proofs.Letters.{digits-small, letters-long}
 use Rattle.work.specs.Map.{LETTERS}
 use Rattle.work.specs.Area.{placed}
 use Rattle.work.specs.Letters.{lettersIn, Coded}
-use Rattle.work.proofs.Regions.{getD-region, placed-next, placed-snoc, front-placed}
+use Rattle.work.proofs.Regions.{getD-region, placed-snoc}
 use Rattle.work.proofs.Letters.{length-letters}
+use Rattle.packer.proofs.Heads.{head-payload}
 use Rattle.letter_packer.specs.Packed.{digitsAt, Packed}
 
 -- ---- codes and digits
@@ -43,10 +43,6 @@ code-at [] i h = absurd (not-suc-le-zero h)
 code-at (l ∷ v) zero h = code-digit l
 code-at (l ∷ v) (suc i) h = code-at v i (le-of-suc-le-suc h)
 
-length-digits : (v : List Letter) → length (map letterDigit v) ≡ length v
-length-digits [] = refl
-length-digits (l ∷ v) = ap suc (length-digits v)
-
 -- ---- entries of the word
 
 abbrev pub Entry : ℕ → List ℕ → ℕ → ℕ → Type 0
@@ -57,7 +53,7 @@ module _ (n : ℕ) (w : List ℕ) (room : 16 * n ≤ length w) (coded : Coded n 
   ds = map letterDigit (lettersIn n w)
 
   length-ds : length ds ≡ n
-  length-ds = length-digits (lettersIn n w) ∙ length-letters n w (omega arith)
+  length-ds = length-map (lettersIn n w) letterDigit ∙ length-letters n w (omega arith)
 
   pub entry : (i : ℕ) → i < n → Entry n w i (getD w (LETTERS * n + i) 0)
   unfolding digitsAt
@@ -178,16 +174,8 @@ payload-long : (m : ℕ) (w : List ℕ) → 32 * m ≤ length w → 6 + length (
 unfolding recordLength
 payload-long m w r = let a = letters-long (lettersIn (2 * m) w) in let b = length-letters (2 * m) w (omega arith) in omega arith
 
-pub whole-record : (m total : ℕ) (w out mid out′ : List ℕ) → total ≡ recordLength 4 m → 1 ≤ m → m ≤ 4096 → 32 * m ≤ length w
-    → recordLength 4 m ≤ length out → mid ≡ placed 0 (le16 total ++ (le16 4 ++ le16 m)) out
-    → out′ ≡ placed 6 (lettersPayload (lettersIn (2 * m) w)) mid → Packed m w out total out′
-unfolding headed le16
-whole-record m total w out mid out′ t o h r l p q =
-    let s = recordLength-range 4 m o h in
-    let tail = lettersPayload (lettersIn (2 * m) w) in
+pub whole-record : (m total : ℕ) (w out mid out′ : List ℕ) → total ≡ recordLength 4 m → 32 * m ≤ length w → recordLength 4 m ≤ length out
+    → mid ≡ placed 0 (le16 total ++ (le16 4 ++ le16 m)) out → out′ ≡ placed 6 (lettersPayload (lettersIn (2 * m) w)) mid → Packed m w out total out′
+whole-record m total w out mid out′ t r l p q =
     let long = payload-long m w r in
-    record {
-      answered = t;
-      filled = rw (q, p, t ∙ sym long) (placed-next 0 (le16 (6 + length tail) ++ (le16 4 ++ le16 m)) tail out (omega arith))
-          ∙ front-placed (headed 4 m tail) out;
-    }
+    record { answered = t; filled = head-payload 4 m total _ out mid out′ (t ∙ sym long) (omega arith) p q }

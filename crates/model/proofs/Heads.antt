@@ -3,7 +3,7 @@
 --   le16-word16          two bytes are the field of their number
 --   le16-bytes           two bytes
 --   kind-cases           what holds of 1, 2 and 4 holds of every kind
---   kind-one, kind-two, kind-other   the length of a record of kind 1, of kind 2, and of another
+--   kind-one, kind-two, kind-four, kind-other   the length of a record of kind 1, of kind 2, of kind 4, and of one that is not 1 or 2
 --   recordLength-range   a record has from 7 to 2054 bytes
 --   Whole, Kinded, Counted        what the checks so far have shown: the length, and the kind, and the number of edges
 --   refuse-short, refuse-length, refuse-kind, refuse-count, refuse-size, refuse-nothing   the head refusal, check by check
@@ -58,6 +58,10 @@ kind-one k m e = rw (eq-eqb _ _ e)
 pub kind-two : (k m : ℕ) → k ≡ 2 → 6 + (2 * m + 7) / 8 + (m + 4) / 5 ≡ recordLength k m
 unfolding recordLength
 kind-two k m e = rw e
+
+pub kind-four : (k m : ℕ) → k ≡ 4 → 6 + (m + 1) / 2 ≡ recordLength k m
+unfolding recordLength
+kind-four k m e = rw e
 
 pub kind-other : (k m : ℕ) → (k ≡ 1 → ⊥) → (k ≡ 2 → ⊥) → 6 + (m + 1) / 2 ≡ recordLength k m
 unfolding recordLength

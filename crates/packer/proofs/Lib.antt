@@ -1,2 +1,3 @@
 mod Numerals
+pub mod Heads
 mod Parts

@@ -1,45 +1,30 @@
 -- The parts of a record, one after the other.
 --
---   two-bytes          two stores put a number in two bytes
---   head-placed        three numbers, one after the other
 --   one-run, bits-run, labels-run   which entries of the work area are tree bits and labels
 --   plain-placed, starred-placed   the payload, by its groups
 --   plain-asked, starred-asked, plain-payload, starred-payload   what a payload asks for, and what it is, by kind
 --   whole-record       head and payload are the record
-use Prim.Native.Nat.{ℕ, _+_, _*_, _/_, _%_, _≤_}
+use Prim.Native.Nat.{ℕ, _+_, _*_, _/_, _≤_}
 use native.Mathlib.Omega.{arith}
-use native.Mathlib.Numerals.{add-one}
 use mathlib.Core.Path.{_≡_, sym, _∙_}
 use mathlib.Core.Logic.{_≢_}
 use mathlib.Core.Bool.{true}
-use mathlib.Core.List.{List, [], _++_}
-use lib.ListN.{length, set, length-set}
+use mathlib.Core.List.{List, _++_}
+use lib.ListN.{length}
 use borrow.Author.Tests.{eq-eqb, ne-eqb}
 use Rattle.model.specs.Numbers.{allBelow}
-use Rattle.model.specs.Record.{pack, le16, bytesFor, labelBase, recordLength, payload, headed}
+use Rattle.model.specs.Record.{pack, le16, bytesFor, labelBase, recordLength, payload}
 use Rattle.packing.specs.Payload.{hasLabels}
 use Rattle.packing.proofs.Packed.{pack-length}
 use Rattle.packing.proofs.Labelled.{labelled-two}
 use Rattle.packing.proofs.Payload.{payload-length}
-use Rattle.model.proofs.Heads.{kind-one, kind-two, recordLength-range}
+use Rattle.model.proofs.Heads.{kind-one, kind-two}
 use Rattle.work.specs.Map.{BITS, LABELS}
 use Rattle.work.specs.Area.{placed}
 use Rattle.work.specs.Letters.{workBits, workLabels}
-use Rattle.work.proofs.Regions.{region-is, region-split, placed-none, placed-cons, placed-next, front-placed}
+use Rattle.work.proofs.Regions.{region-is, region-split, placed-next}
 use Rattle.packer.specs.Packed.{between, Packed}
-
-pub two-bytes : (at x : ℕ) (out : List ℕ) → at + 2 ≤ length out → set (set out at (x % 256)) (at + 1) (x / 256 % 256) ≡ placed at (le16 x) out
-unfolding le16
-two-bytes at x out h =
-    let l = length-set out at (x % 256) in
-    rw (placed-cons at (x % 256) _ out (omega arith), ← add-one at)
-    (sym (placed-cons (at + 1) (x / 256 % 256) [] (set out at (x % 256)) (omega arith) ∙ placed-none _ _))
-
-pub head-placed : (l k m : ℕ) (out out₁ out₂ out₃ : List ℕ) → 6 ≤ length out
-    → out₁ ≡ placed 0 (le16 l) out → out₂ ≡ placed 2 (le16 k) out₁ → out₃ ≡ placed 4 (le16 m) out₂ → out₃ ≡ placed 0 (le16 l ++ (le16 k ++ le16 m)) out
-unfolding le16
-head-placed l k m out out₁ out₂ out₃ h p q r =
-    rw (r, q, p, placed-next 0 (le16 l) (le16 k) out (omega arith)) (placed-next 0 (le16 l ++ le16 k) (le16 m) out (omega arith))
+use Rattle.packer.proofs.Heads.{head-payload}
 
 -- ---- payloads
 
@@ -98,16 +83,9 @@ module _ (k m at : ℕ) (bits labels out out′ : List ℕ) where
   unfolding payload
   starred-payload d p = rw (ne-eqb k 1 d) p
 
-pub whole-record : (k m total : ℕ) (w out mid out′ : List ℕ) → hasLabels k ≡ true → total ≡ recordLength k m → 1 ≤ m → m ≤ 4096 → recordLength k m ≤ length out
+pub whole-record : (k m total : ℕ) (w out mid out′ : List ℕ) → hasLabels k ≡ true → total ≡ recordLength k m → recordLength k m ≤ length out
     → mid ≡ placed 0 (le16 total ++ (le16 k ++ le16 m)) out → out′ ≡ placed 6 (payload k m (workBits (2 * m) w) (workLabels (2 * m) w)) mid
     → Packed k m w out total out′
-unfolding headed le16
-whole-record k m total w out mid out′ has t o h l p q =
-    let s = recordLength-range k m o h in
-    let tail = payload k m (workBits (2 * m) w) (workLabels (2 * m) w) in
+whole-record k m total w out mid out′ has t l p q =
     let long = payload-length k m (workBits (2 * m) w) (workLabels (2 * m) w) has in
-    record {
-      answered = t;
-      filled = rw (q, p, t ∙ sym long) (placed-next 0 (le16 (6 + length tail) ++ (le16 k ++ le16 m)) tail out (omega arith))
-          ∙ front-placed (headed k m tail) out;
-    }
+    record { answered = t; filled = head-payload k m total _ out mid out′ (t ∙ sym long) (omega arith) p q }

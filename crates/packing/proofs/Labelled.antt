@@ -1,8 +1,7 @@
 -- Kinds whose records hold tree bits and labels: 1 and 2. Assumes nothing.
 --
 --   labelled-cases       what holds of 1 and 2 holds of every such kind
---   labelled-kind, labelled-strict   it is a kind, and takes no loops
---   labelled-not-four    it is not 4
+--   labelled-kind, labelled-strict   it is a kind, and takes no loops, so is not 4
 --   labelled-two         it is 2 if it is not 1
 --   labelled-other, labelled-or-four   every kind but 4 is such a kind
 use Prim.Native.Nat.{ℕ}
@@ -31,9 +30,6 @@ labelled-strict = labelled-cases (λ (x : ℕ). takesLoops x ≡ false) refl ref
 pub labelled-other : (k : ℕ) → isKind k ≡ true → k ≢ 4 → hasLabels k ≡ true
 unfolding hasLabels
 labelled-other k kind = kind-cases (λ (x : ℕ). x ≢ 4 → hasLabels x ≡ true) (λ d. refl) (λ d. refl) (λ d. absurd (d refl)) k kind
-
-pub labelled-not-four : (k : ℕ) → hasLabels k ≡ true → eqb k 4 ≡ false
-labelled-not-four = labelled-strict
 
 pub labelled-two : (k : ℕ) → hasLabels k ≡ true → k ≢ 1 → k ≡ 2
 labelled-two = labelled-cases (λ (x : ℕ). x ≢ 1 → x ≡ 2) (λ d. absurd (d refl)) (λ d. refl)

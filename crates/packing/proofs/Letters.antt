@@ -12,7 +12,7 @@ use native.Mathlib.Omega.{arith}
 use mathlib.Core.Path.{_≡_, refl, ap, _∙_}
 use mathlib.Core.Bool.{true}
 use mathlib.Core.List.{List, [], _∷_, _++_, map}
-use lib.ListN.{length, take, drop}
+use lib.ListN.{length, take, drop, length-map}
 use lib.Seq.{take-at, length-take-le}
 use Rattle.model.specs.Numbers.{allBelow}
 use Rattle.model.specs.Traversal.{Letter, down, up, first, second, Visit}
@@ -55,10 +55,6 @@ unfolding allBelow
 digits-small [] = refl
 digits-small (l ∷ w) = below-cons 4 (letterDigit l) (digitsIn w) (digit-small l) (digits-small w)
 
-digits-long : (w : List Letter) → length (digitsIn w) ≡ length w
-digits-long [] = refl
-digits-long (l ∷ w) = ap suc (digits-long w)
-
 digits-letters : (w : List Letter) → map digitLetter (digitsIn w) ≡ w
 digits-letters [] = refl
 digits-letters (l ∷ w) = rw (digit-letter l, digits-letters w)
@@ -66,10 +62,6 @@ digits-letters (l ∷ w) = rw (digit-letter l, digits-letters w)
 letters-digits : (ds : List ℕ) → allBelow 4 ds ≡ true → digitsIn (map digitLetter ds) ≡ ds
 letters-digits [] e = refl
 letters-digits (d ∷ ds) e = rw (letter-digit d (below-head 4 d ds e), letters-digits ds (below-tail 4 d ds e))
-
-letters-mapped : (ds : List ℕ) → length (map digitLetter ds) ≡ length ds
-letters-mapped [] = refl
-letters-mapped (d ∷ ds) = ap suc (letters-mapped ds)
 
 -- ---- from letters to a payload
 
@@ -86,7 +78,7 @@ module _ (w : List Letter) where
     pub letters-back : payloadLetters m (lettersPayload w) ≡ w
     unfolding payloadLetters lettersPayload
     letters-back =
-        let l = digits-long w in
+        let l = length-map w letterDigit in
         rw (
           unpack-packed 4 4 (omega arith) (bytesFor (length w) 4) (digitsIn w) (digits-small w) (omega arith),
           take-at (digitsIn w) _ (2 * m) (l ∙ size),
@@ -95,7 +87,7 @@ module _ (w : List Letter) where
     pub letters-clean : lettersClean m (lettersPayload w) ≡ true
     unfolding lettersClean lettersPayload
     letters-clean =
-        blank-past 4 4 (omega arith) (bytesFor (length w) 4) (digitsIn w) (2 * m) (digits-long w ∙ size) (digits-small w) (omega arith)
+        blank-past 4 4 (omega arith) (bytesFor (length w) 4) (digitsIn w) (2 * m) (length-map w letterDigit ∙ size) (digits-small w) (omega arith)
 
 -- ---- from a payload to letters
 
@@ -108,14 +100,14 @@ module _ (m : ℕ) (ps : List ℕ) (size : length ps ≡ bytesFor m 2) where
 
   pub letters-count : length (payloadLetters m ps) ≡ 2 * m
   unfolding payloadLetters
-  letters-count = letters-mapped found ∙ found-count
+  letters-count = length-map found digitLetter ∙ found-count
 
   pub letters-again : allBelow 256 ps ≡ true → lettersClean m ps ≡ true → lettersPayload (payloadLetters m ps) ≡ ps
   unfolding lettersPayload payloadLetters lettersClean
   letters-again bytes clean =
       let few : bytesFor (2 * m) 4 ≡ bytesFor m 2 = omega arith in
       rw (
-        letters-mapped found,
+        length-map found digitLetter,
         found-count,
         few,
         letters-digits found (below-take 4 (2 * m) _ (unpack-below 4 4 (omega arith) (length ps) ps)),

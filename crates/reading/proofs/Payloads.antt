@@ -4,7 +4,7 @@
 --   labels-asked, labels-answered   another kind: the same of reading its tree bits and labels
 --   payload-sized        it is as long as the payload of its kind and size
 --   record-decoded       the answer for the payload is the answer for the record
-use Prim.Native.Nat.{ℕ, _+_, _-_, _*_, _≤_}
+use Prim.Native.Nat.{ℕ, _-_, _*_, _≤_}
 use native.Mathlib.Omega.{arith}
 use mathlib.Core.Path.{_≡_}
 use mathlib.Core.Logic.{_≢_}
@@ -13,21 +13,17 @@ use mathlib.Core.List.{List}
 use lib.ListN.{length, take, drop, length-drop}
 use lib.Seq.{take-all}
 use borrow.Author.Tests.{ne-eqb}
-use Rattle.model.specs.Record.{bytesFor, recordLength}
+use Rattle.model.specs.Record.{bytesFor}
 use Rattle.model.specs.Shelf.{kindOf, edgesOf, passes}
-use Rattle.model.proofs.Heads.{passes-facts}
+use Rattle.model.proofs.Heads.{kind-four, passes-facts}
 use Rattle.packing.specs.Payload.{hasLabels, Sized}
 use Rattle.packing.proofs.Labelled.{labelled-other}
 use Rattle.coding.specs.Payloads.{decodeLabelled, decodeLetters, decodePayload, decodeRecord}
 use Rattle.builder.specs.Decoded.{Answered}
 
-four-long : (k m : ℕ) → k ≡ 4 → 6 + bytesFor m 2 ≡ recordLength k m
-unfolding recordLength
-four-long k m e = rw e
-
 module _ (k m : ℕ) (ps : List ℕ) (s : Sized k m ps) where
   pub letters-asked : k ≡ 4 → (1 ≤ m) × (m ≤ 4096) × (length ps ≡ bytesFor m 2)
-  letters-asked e = let l = s .long in let q = four-long k m e in (s .some-edge, s .few-edges, omega arith)
+  letters-asked e = let l = s .long in let q = kind-four k m e in (s .some-edge, s .few-edges, omega arith)
 
   pub labels-asked : k ≢ 4 → (hasLabels k ≡ true) × Sized k m ps
   labels-asked d = (labelled-other k (s .kind) d, s)

@@ -1,6 +1,7 @@
+use mathlib.Core.Path.{refl}
 use lib.Dec.{lit≤}
 use native.Mathlib.Omega.{arith}
-use Rattle.model.proofs.Heads.{kind-other, recordLength-range}
+use Rattle.model.proofs.Heads.{kind-four, recordLength-range}
 use Rattle.letter_packer.proofs.Digits.{whole-record}
 use borrow.Author.Needs.{needs}
 use Rattle.letter_packer.proofs.pack.Statement.{statement}
@@ -20,14 +21,14 @@ put-payload-requires : tie.Need-put-payload-requires
 put-payload-requires c κs =
     let st = c .before .before .before .before .before .before .before .before in
     let k = c .before .before .before .put-head .kept .0 in
-    let l = kind-other 4 (st .args .m) (λ e. omega arith) (λ e. omega arith) in
+    let l = kind-four 4 (st .args .m) refl in
     (st .pre .1, st .pre .2, st .pre .3, lit≤ tt, omega (arith, st .pre))
 
 returns : tie.Need-returns
 returns c =
     let h = c .before .before .before .before .before .before in
     let st = h .before .before .before .before .before in
-    whole-record (st .args .m) _ _ _ _ _ (h .before .before .record-length .ensures) (st .pre .0) (st .pre .1) (st .pre .2) (st .pre .4)
+    whole-record (st .args .m) _ _ _ _ _ (h .before .before .record-length .ensures) (st .pre .2) (st .pre .4)
     (h .put-head .ensures) (c .before .before .put-payload .ensures)
 
 pub pack-spec : {M : Type 1} → statement M

@@ -31,7 +31,7 @@ returns : tie.Need-returns
 returns c =
     let h = c .before .before .before .before .before .before in
     let st = h .before .before .before .before .before in
-    whole-record (st .args .kind) (st .args .m) _ _ _ _ _ (st .pre .0) (h .before .before .record-length .ensures) (st .pre .1) (st .pre .2) (st .pre .4)
+    whole-record (st .args .kind) (st .args .m) _ _ _ _ _ (st .pre .0) (h .before .before .record-length .ensures) (st .pre .4)
     (h .put-head .ensures) (c .before .before .put-payload .ensures)
 
 pub pack-spec : {M : Type 1} → statement M

@@ -1,6 +1,6 @@
 use native.Mathlib.Omega.{arith}
 use lib.ListN.{length-set}
-use Rattle.packer.proofs.Parts.{two-bytes}
+use Rattle.packer.proofs.Heads.{two-bytes}
 use borrow.Author.Needs.{needs}
 use Rattle.packer.proofs.put16.Statement.{statement}
 use Rattle.packer.proofs.put16.Tie as tie

@@ -1,5 +1,5 @@
 use native.Mathlib.Omega.{arith}
-use Rattle.packer.proofs.Parts.{head-placed}
+use Rattle.packer.proofs.Heads.{head-placed}
 use borrow.Author.Needs.{needs}
 use Rattle.packer.proofs.put_head.Statement.{statement}
 use Rattle.packer.proofs.put_head.Tie as tie
