@@ -2,6 +2,8 @@
 --
 --   number-of-written    the number of writing's answer is its first refusal
 --   written-zero         0 is a record's length
+--   number-of-measured   the number of measuring's answer is its first refusal
+--   measured-zero        0 is the number of faces
 --   number-of-shelved    the number of shelving's answer is its first refusal
 --   shelved-zero         0 is a record's number with the new used length
 --   number-of-read       the number of reading's answer is the first of its refusals but 13, if one holds
@@ -20,11 +22,13 @@ use borrow.Author.Tests.{eqb-true, eq-eqb}
 use Rattle.model.specs.declared.Written.the-variants as written
 use Rattle.model.specs.declared.ReadBack.{ReadBack}
 use Rattle.model.specs.declared.ReadBack.the-variants as readback
+use Rattle.model.specs.declared.Measured.the-variants as measured
 use Rattle.model.specs.declared.Shelved.the-variants as shelved
-use Rattle.model.specs.Map.{Plan, edges, characteristic}
+use Rattle.model.specs.Map.{Plan, edges, faceLengths, characteristic}
 use Rattle.model.specs.Record.{recordLength}
 use Rattle.model.specs.Shelf.{edgesOf, recordsIn, firstEqual}
 use Rattle.model.specs.Calls.{writeRefusal, writeAnswer, numberOfWritten, readRefusal, HasRecord, Reads, refused, read, unreadable, numberOfRead}
+use Rattle.model.specs.Calls.{measureRefusal, measureAnswer, numberOfMeasured}
 use Rattle.model.specs.Calls.{shelveRefusal, shelveAnswer, numberOfShelved}
 
 -- ---- writing
@@ -44,6 +48,22 @@ pub written-zero : (k : ℕ) (p : Plan) (w o : ℕ) → numberOfWritten (writeAn
     → writeAnswer k p w o ≡ written.Length (recordLength k (edges (p .rotation)))
 unfolding writeAnswer
 written-zero k p w o z = let e = sym (number-of-written k p w o) ∙ z in simp (eq-eqb (writeRefusal k p w o) 0 e)
+
+-- ---- measuring
+
+pub number-of-measured : (rot : List ℕ) (w l : ℕ) → numberOfMeasured (measureAnswer rot w l) ≡ measureRefusal rot w l
+unfolding measureAnswer
+number-of-measured rot w l = go (measureRefusal rot w l) (eqb (measureRefusal rot w l) 0) (eqb (measureRefusal rot w l) 10) refl refl
+  where
+    go : (r : ℕ) (b c : Bool) → eqb r 0 ≡ b → eqb r 10 ≡ c
+        → numberOfMeasured (cond b (measured.Count (length (faceLengths rot))) (cond c (measured.NotPlanar (characteristic rot)) (measured.Refused r))) ≡ r
+    go r true c e f = sym (eqb-true r 0 e)
+    go r false true e f = sym (eqb-true r 10 f)
+    go r false false e f = refl
+
+pub measured-zero : (rot : List ℕ) (w l : ℕ) → numberOfMeasured (measureAnswer rot w l) ≡ 0 → measureAnswer rot w l ≡ measured.Count (length (faceLengths rot))
+unfolding measureAnswer
+measured-zero rot w l z = let e = sym (number-of-measured rot w l) ∙ z in simp (eq-eqb (measureRefusal rot w l) 0 e)
 
 -- ---- shelving
 

@@ -6,15 +6,17 @@
 --   labels-opened        the labelled tree
 --   record-opened        whether a plan is fit, and its record
 --   writing-opened       writing's answer and output, and what a line of a table says of them
-use Rattle.model.specs.Numbers.{count, some, elem, distinct, allBelow, isPermutation, position, least, cycles, firstRefusal}
-use Rattle.model.specs.Map.{opposite, next, vertexOf, faceNext, edges, vertices, faces, degreeOne, spread, spreads, reached, connected}
+--   measuring-opened     measuring's answer and the list after it
+use Rattle.model.specs.Numbers.{count, some, elem, distinct, allBelow, isPermutation, position, least, cycles, cycleSize, sizesBelow, cycleSizes}
+use Rattle.model.specs.Numbers.{firstRefusal}
+use Rattle.model.specs.Map.{opposite, next, vertexOf, faceNext, edges, vertices, faces, faceLengths, degreeOne, spread, spreads, reached, connected}
 use Rattle.model.specs.Map.{characteristic, planar, hasLoop, hasDeadEnd, isKind, dartCountFits, loopRefused, degreeRefused, fit}
 use Rattle.model.specs.Traversal.{letterAt, onward, seenAfter, walk, visits, number, standardNumbers, renumbered, standardPlan}
 use Rattle.model.specs.LabelledTree.{codesOf, codes, unlabelled, isUpper, gone, before, labelOne, removeCut, takeLeaf, takeOne, takeLeaves}
 use Rattle.model.specs.LabelledTree.{treeLabels, labelOf, bitsOf, along, labels, treeBits}
 use Rattle.model.specs.Record.{digitsFrom, pack, le16, recordLength, payload, contourBits, headed, payloadOf, recordOf}
 use Rattle.model.specs.Shelf.{same}
-use Rattle.model.specs.Calls.{front, earlyRefusals, lateRefusals, writeRefusal, writeAnswer, writtenOutput}
+use Rattle.model.specs.Calls.{front, earlyRefusals, lateRefusals, writeRefusal, writeAnswer, writtenOutput, measureRefusal, measureAnswer, measuredList}
 use Rattle.model.proofs.Line.{answer, output, writes, refuses, agrees, holds}
 
 unfoldable pub map-opened : Unit {0}
@@ -40,3 +42,7 @@ record-opened = tt
 unfoldable pub writing-opened : Unit {0}
 unfolding record-opened front firstRefusal earlyRefusals lateRefusals writeRefusal writeAnswer writtenOutput answer output writes refuses agrees holds
 writing-opened = tt
+
+unfoldable pub measuring-opened : Unit {0}
+unfolding fit-opened cycleSize sizesBelow cycleSizes faceLengths front firstRefusal measureRefusal measureAnswer measuredList
+measuring-opened = tt

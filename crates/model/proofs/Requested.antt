@@ -3,15 +3,20 @@
 --   requested            the lines, request by request
 --   requested-hold       the definitions yield every line
 --   compared-hold        how many records a search compares
+--   lengths-hold         how many darts the areas have, and the list after measuring
+--   measured-hold        what measuring refuses
 use mathlib.Core.Path.{_≡_, refl}
 use mathlib.Core.List.{List, [], _∷_}
 use Prim.Native.Nat.{ℕ}
 use lib.Dec.{T}
 use lib.IntN.{pos}
 use lib.ListN.{getD, take}
+use Rattle.model.specs.declared.Measured.the-variants.{Count, Refused, NotPlanar}
 use Rattle.model.specs.Shelf.{same, firstEqual, met, asLong, compared}
+use Rattle.model.specs.Map.{faceLengths}
+use Rattle.model.specs.Calls.{measureAnswer, measuredList}
 use Rattle.model.proofs.Line.{Writes, record-is, refused, not-planar, allHold}
-use Rattle.model.proofs.Opened.{writing-opened}
+use Rattle.model.proofs.Opened.{writing-opened, measuring-opened}
 
 -- (a) "Order 0 2 5 4 3 1, start 0, is then 08 00 01 00 03 00 E1 00": from any other start its dead end is not the start's. One trail has two dead ends.
 unfoldable pub requested : List Writes
@@ -62,3 +67,23 @@ pub compared-hold : (comparedAmong 0 0 ≡ 0) × (comparedAmong 1 1 ≡ 0) × (c
     × (comparedAmong 5 4 ≡ 4) × (comparedAmong 5 0 ≡ 1)
 unfolding shelved compared met asLong firstEqual same
 compared-hold = (refl, refl, refl, refl, refl, refl, refl)
+
+-- (d) "for each area its number of darts, areas in the order of their lowest dart"
+abbrev pub triangle : List ℕ
+triangle = 5 ∷ 2 ∷ 1 ∷ 4 ∷ 3 ∷ 0 ∷ []
+
+abbrev pub torus : List ℕ
+torus = 3 ∷ 2 ∷ 4 ∷ 5 ∷ 1 ∷ 0 ∷ []
+
+pub lengths-hold : (faceLengths triangle ≡ 3 ∷ 3 ∷ []) × (faceLengths (0 ∷ 1 ∷ []) ≡ 2 ∷ []) × (faceLengths (1 ∷ 0 ∷ []) ≡ 1 ∷ 1 ∷ [])
+    × (faceLengths (0 ∷ 2 ∷ 5 ∷ 4 ∷ 3 ∷ 1 ∷ []) ≡ 4 ∷ 2 ∷ []) × (faceLengths (4 ∷ 2 ∷ 1 ∷ 0 ∷ 3 ∷ 5 ∷ []) ≡ 2 ∷ 4 ∷ [])
+    × (measuredList triangle 96 (7 ∷ 7 ∷ 7 ∷ []) ≡ 3 ∷ 3 ∷ 7 ∷ []) × (measuredList triangle 96 (7 ∷ []) ≡ 7 ∷ [])
+unfolding measuring-opened
+lengths-hold = (refl, refl, refl, refl, refl, refl, refl)
+
+-- "It meets refusals 3, 6, 7, 9, 10, then 8 if the list is too short": each where the next ones hold too
+pub measured-hold : (measureAnswer triangle 96 2 ≡ Count 2) × (measureAnswer (0 ∷ 0 ∷ 0 ∷ []) 0 0 ≡ Refused 3) × (measureAnswer (0 ∷ 0 ∷ []) 0 0 ≡ Refused 6)
+    × (measureAnswer (0 ∷ 1 ∷ 2 ∷ 3 ∷ []) 63 0 ≡ Refused 7) × (measureAnswer (0 ∷ 1 ∷ 2 ∷ 3 ∷ []) 64 0 ≡ Refused 9)
+    × (measureAnswer torus 96 0 ≡ NotPlanar (pos 0)) × (measureAnswer triangle 96 1 ≡ Refused 8)
+unfolding measuring-opened
+measured-hold = (refl, refl, refl, refl, refl, refl, refl)

@@ -11,13 +11,18 @@
 --   HasRecord r p         p is fit for the kind that r names, and r is its record
 --   Reads                 what reading answers and the output after it
 --   ReadCall              all that reading promises
+--   measureRefusal        the first refusal of measuring the faces; 0 if none
+--   measureAnswer         the answer of measuring
+--   measuredList          the list after measuring
+--   Measures              all that measuring promises
 --   shelveRefusal, shelveAnswer, shelvedBytes   shelving: first refusal, answer, the shelf afterwards
 --   Stored                all that shelving promises
 --   fetchRefusal, fetched fetching: the number that is set, and the part that is returned
 --   Fetched               the bytes and the number that fetching promises
---   numberOfWritten, numberOfRead, numberOfShelved   the paper's number for each case of an answer
+--   numberOfWritten, numberOfRead, numberOfMeasured, numberOfShelved   the paper's number for each case of an answer
 --   lengthOfWritten, characteristicOfWritten   the values of writing's answer
 --   edgesOfRead           the value of reading's answer
+--   countOfMeasured, characteristicOfMeasured   the values of measuring's answer
 --   recordNumberOfShelved, usedOfShelved   the values of shelving's answer
 use Prim.Native.Nat.{ℕ, _+_, _-_, _*_}
 use mathlib.Core.Path.{_≡_}
@@ -31,10 +36,12 @@ use Rattle.model.specs.declared.Written.{Written}
 use Rattle.model.specs.declared.Written.the-variants as written
 use Rattle.model.specs.declared.ReadBack.{ReadBack}
 use Rattle.model.specs.declared.ReadBack.the-variants as readback
+use Rattle.model.specs.declared.Measured.{Measured}
+use Rattle.model.specs.declared.Measured.the-variants as measured
 use Rattle.model.specs.declared.Shelved.{Shelved}
 use Rattle.model.specs.declared.Shelved.the-variants as shelved
 use Rattle.model.specs.Numbers.{Refusal, firstRefusal, refuse, isPermutation}
-use Rattle.model.specs.Map.{Plan, darts, edges, isKind, dartCountFits, connected, planar, characteristic, loopRefused, degreeRefused, fit}
+use Rattle.model.specs.Map.{Plan, darts, edges, faceLengths, isKind, dartCountFits, connected, planar, characteristic, loopRefused, degreeRefused, fit}
 use Rattle.model.specs.Traversal.{standardPlan}
 use Rattle.model.specs.Record.{recordLength, recordOf}
 use Rattle.model.specs.Shelf.{kindOf, edgesOf, headRefusals, recordsIn, firstEqual, shelfRefused}
@@ -114,6 +121,34 @@ pub record ReadCall (r work out : List ℕ) (answer : ReadBack) (work′ out′ 
   pub outcome : Reads r (length work) out answer out′
   pub cleared : work′ ≡ zeros work
 
+-- ---- measuring: document 02 (d)
+
+-- "It meets refusals 3, 6, 7, 9, 10, then 8 if the list is too short", for a work area and a list of these lengths
+unfoldable pub measureRefusal : List ℕ → ℕ → ℕ → ℕ
+measureRefusal rot workLength listLength = firstRefusal
+    (refuse 3 (not (dartCountFits (length rot)))
+    ∷ refuse 6 (not (isPermutation rot))
+    ∷ refuse 7 (ltb workLength (32 * edges rot))
+    ∷ refuse 9 (not (connected rot))
+    ∷ refuse 10 (not (planar rot))
+    ∷ refuse 8 (ltb listLength (length (faceLengths rot)))
+    ∷ [])
+
+-- "it fills a lent list of 16-bit numbers and returns their count"
+unfoldable pub measureAnswer : List ℕ → ℕ → ℕ → Measured
+measureAnswer rot workLength listLength =
+    let r = measureRefusal rot workLength listLength in
+    cond (eqb r 0) (measured.Count (length (faceLengths rot)))
+    (cond (eqb r 10) (measured.NotPlanar (characteristic rot)) (measured.Refused r))
+
+unfoldable pub measuredList : List ℕ → ℕ → List ℕ → List ℕ
+measuredList rot workLength list = cond (eqb (measureRefusal rot workLength (length list)) 0) (front (faceLengths rot) list) list
+
+pub record Measures (rot work list : List ℕ) (answer : Measured) (work′ list′ : List ℕ) : Type 0 where
+  pub answered : answer ≡ measureAnswer rot (length work) (length list)
+  pub filled : list′ ≡ measuredList rot (length work) list
+  pub cleared : work′ ≡ zeros work
+
 -- ---- the shelf
 
 -- "shelving 1, 2, 3, 5, 14, 16". 16. "The record isn't on the shelf and exceeds the bytes past the used length."
@@ -182,6 +217,23 @@ numberOfRead (readback.Refused r) = r
 abbrev pub edgesOfRead : ReadBack → ℕ
 edgesOfRead (readback.Edges m) = m
 edgesOfRead (readback.Refused r) = 0
+
+abbrev pub numberOfMeasured : Measured → ℕ
+numberOfMeasured (measured.Count n) = 0
+numberOfMeasured (measured.Refused r) = r
+numberOfMeasured (measured.NotPlanar x) = 10
+
+-- the count that is returned; 0 where measuring is refused
+abbrev pub countOfMeasured : Measured → ℕ
+countOfMeasured (measured.Count n) = n
+countOfMeasured (measured.Refused r) = 0
+countOfMeasured (measured.NotPlanar x) = 0
+
+-- the characteristic that refusal 10 gives; 0 elsewhere
+abbrev pub characteristicOfMeasured : Measured → ℤ
+characteristicOfMeasured (measured.Count n) = pos 0
+characteristicOfMeasured (measured.Refused r) = pos 0
+characteristicOfMeasured (measured.NotPlanar x) = x
 
 abbrev pub numberOfShelved : Shelved → ℕ
 numberOfShelved (shelved.At n used) = 0

@@ -3,6 +3,7 @@
 --   lengthFor             the length of a record; 0 if there is none of this kind and size
 --   WriteExport           all that jurnadel_write promises
 --   ReadExport            all that jurnadel_read promises
+--   MeasureExport         all that jurnadel_area_lengths promises
 --   ShelveExport          all that jurnadel_shelve promises
 --   FetchExport           all that jurnadel_fetch promises
 use Prim.Native.Nat.{ℕ}
@@ -16,6 +17,7 @@ use Rattle.model.specs.Map.{Plan, isKind, edgeCountFits}
 use Rattle.model.specs.Record.{recordLength}
 use Rattle.model.specs.Calls.{zeros, writeAnswer, writtenOutput, numberOfWritten, lengthOfWritten, characteristicOfWritten}
 use Rattle.model.specs.Calls.{Reads, numberOfRead, edgesOfRead}
+use Rattle.model.specs.Calls.{measureAnswer, measuredList, numberOfMeasured, countOfMeasured, characteristicOfMeasured}
 use Rattle.model.specs.Calls.{shelveAnswer, shelvedBytes, numberOfShelved, recordNumberOfShelved, usedOfShelved, fetchRefusal, fetched}
 use Rattle.model.specs.Parts.{fetchedPlace}
 
@@ -36,6 +38,15 @@ pub record ReadExport (bytes work out : List ℕ) (r m : ℕ) (work′ out′ : 
   pub outcome : Reads bytes (length work) out answer out′
   pub number-is : r ≡ numberOfRead answer
   pub edges-are : m ≡ edgesOfRead answer
+  pub cleared : work′ ≡ zeros work
+
+-- ---- measuring
+
+pub record MeasureExport (rot work list : List ℕ) (r c : ℕ) (x : ℤ) (work′ list′ : List ℕ) : Type 0 where
+  pub number-is : r ≡ numberOfMeasured (measureAnswer rot (length work) (length list))
+  pub count-is : c ≡ countOfMeasured (measureAnswer rot (length work) (length list))
+  pub characteristic-is : x ≡ characteristicOfMeasured (measureAnswer rot (length work) (length list))
+  pub filled : list′ ≡ measuredList rot (length work) list
   pub cleared : work′ ≡ zeros work
 
 -- ---- the shelf

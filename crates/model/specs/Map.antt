@@ -6,6 +6,7 @@
 --   vertexOf rot d       d's vertex, named by its least dart
 --   faceNext rot d       one step of d's face
 --   edges, vertices, faces rot   how many there are
+--   faceLengths rot      how many darts each face has
 --   degreeOne rot d      d is alone at its vertex
 --   spread, spreads      one round of marks that spread by opposites and entries, and so many rounds
 --   reached rot          the darts reached from dart 0, as 0/1 marks
@@ -27,7 +28,7 @@ use mathlib.Core.List.{List}
 use lib.Dec.{eqb, ltb, leb}
 use lib.IntN.{ℤ, pos, negsuc, _+ℤ_, _-ℤ_}
 use lib.ListN.{length, getD, set, replicate}
-use Rattle.model.specs.Numbers.{some, least, cycles, isPermutation}
+use Rattle.model.specs.Numbers.{some, least, cycles, cycleSizes, isPermutation}
 
 -- "A plan has m trails .. and 2m darts (trail ends), numbered from 0": an edge is a trail, a dart a trail end, the rotation the turning order,
 -- the root the start.
@@ -63,6 +64,10 @@ vertices rot = cycles (next rot) (length rot)
 
 unfoldable pub faces : List ℕ → ℕ
 faces rot = cycles (faceNext rot) (length rot)
+
+-- document 02 (d): "for each area its number of darts, areas in the order of their lowest dart"
+unfoldable pub faceLengths : List ℕ → List ℕ
+faceLengths rot = cycleSizes (faceNext rot) (length rot)
 
 -- "a junction with one dart has degree one"
 unfoldable pub degreeOne : List ℕ → ℕ → Bool

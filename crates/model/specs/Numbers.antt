@@ -11,11 +11,15 @@
 --   least p n x         the least of x, p x, .., pⁿ x: the name of x's cycle, for a permutation p below n
 --   isLeast p n x       x is the least of its cycle
 --   cycles p n          how many cycles p has below n, counted by their least elements
+--   cycleSize p n x     how many elements x's cycle has
+--   sizesBelow p n k    the sizes of the cycles whose least element is below k, in the order of these elements
+--   cycleSizes p n      the sizes of all of them
+--   sum xs              the sum of the entries of xs
 --   Refusal             a refusal's number with its condition; refuse makes one
 --   firstRefusal rs     the number of the first refusal whose condition holds; 0 if none does
-use Prim.Native.Nat.{ℕ, zero, suc, min}
+use Prim.Native.Nat.{ℕ, zero, suc, min, _+_}
 use mathlib.Core.Bool.{Bool, true, false, not, _&&_, _||_, cond}
-use mathlib.Core.List.{List, [], _∷_}
+use mathlib.Core.List.{List, [], _∷_, _++_}
 use lib.Dec.{eqb, ltb}
 use lib.ListN.{length}
 
@@ -64,6 +68,20 @@ isLeast p n x = eqb (least p n x) x
 
 unfoldable pub cycles : (ℕ → ℕ) → ℕ → ℕ
 cycles p n = count (isLeast p n) n
+
+unfoldable pub cycleSize : (ℕ → ℕ) → ℕ → ℕ → ℕ
+cycleSize p n x = count (λ y. eqb (least p n y) (least p n x)) n
+
+unfoldable pub sizesBelow : (ℕ → ℕ) → ℕ → ℕ → List ℕ
+sizesBelow p n zero = []
+sizesBelow p n (suc x) = let sizes = sizesBelow p n x in cond (isLeast p n x) (sizes ++ (cycleSize p n x ∷ [])) sizes
+
+unfoldable pub cycleSizes : (ℕ → ℕ) → ℕ → List ℕ
+cycleSizes p n = sizesBelow p n n
+
+unfoldable pub sum : List ℕ → ℕ
+sum [] = 0
+sum (x ∷ xs) = x + sum xs
 
 pub record Refusal : Type 0 where
   pub number : ℕ

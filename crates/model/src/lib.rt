@@ -14,6 +14,13 @@ pub enum ReadBack {
     Refused(u16),
 }
 
+// The answer of measuring: how many faces there are; a refusal other than 10; refusal 10 with the characteristic.
+pub enum Measured {
+    Count(u16),
+    Refused(u16),
+    NotPlanar(i32),
+}
+
 // The answer of shelving: the record's number and the new used length, or a refusal.
 pub enum Shelved {
     At(usize, usize),
