@@ -10,7 +10,7 @@
 --   iter-out, iter-bound, iter-inj   iterates: the last step, their bound, different ones before the period
 --   iter-fixed         a fixed point has itself only
 --   Back, On, on-iter  x is back after q + 1 steps; what it then runs through, its iterates
---   comes-back         every number comes back
+--   first-back, comes-back   every number comes back; when it first does
 --   Reach, same-reach  two numbers with one label reach each other
 use Prim.Native.Nat.{ℕ, zero, suc, min, _≤_, _<_, zero-le}
 use native.Mathlib.Nat.{le-refl, le-trans, le-antisymm, le-of-suc-le-suc, le-of-lt, min-le-left, min-le-right}
@@ -115,9 +115,9 @@ module _ (N : ℕ) (p : ℕ → ℕ) (perm : Perm N p) where
       (perm .inj (iter p i x) (iter p j x) (iter-bound i x h) (iter-bound j x h) (sym (iter-out p i x) ∙ e ∙ iter-out p j x)))
 
   -- so it would have more than N iterates below N
-  pub comes-back : (x : ℕ) → x < N → (q : ℕ) × (q < N) × Back p q x
+  pub first-back : (x : ℕ) → x < N → (q : ℕ) × (q < N) × Back p q x × ((r : ℕ) → r < q → Back p r x → ⊥)
   unfolding count
-  comes-back x h = ⊎-elim (λ f. f) (λ never.
+  first-back x h = ⊎-elim (λ f. f) (λ never.
       let more = count-inj (λ i. true) (λ i. true) (suc N) N (record {
         to = λ i hi t. iter p i x;
         bound = λ i hi t. iter-bound i x h;
@@ -126,6 +126,9 @@ module _ (N : ℕ) (p : ℕ → ℕ) (perm : Perm N p) where
       }) in
       absurd (omega arith))
       (find-below (λ q. Back p q x) (λ q. ℕ-discrete (iter p (suc q) x) x) N)
+
+  pub comes-back : (x : ℕ) → x < N → (q : ℕ) × (q < N) × Back p q x
+  comes-back x h = let (q, hq, back, never) = first-back x h in (q, hq, back)
 
   pub least-step : (x : ℕ) → x < N → least p N (p x) ≡ least p N x
   least-step x h = let (q, hq, back) = comes-back x h in least-back p N q x (le-of-lt hq) back

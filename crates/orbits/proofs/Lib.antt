@@ -1,6 +1,7 @@
 pub mod Order
 pub mod Tally
 pub mod Cycle
+pub mod Sizes
 pub mod Transversal
 pub mod Chord
 pub mod Stack
@@ -12,5 +13,6 @@ mod Number
 pub mod Span
 pub mod Euler
 pub mod Maps
+pub mod Faces
 pub mod Inverse
 pub mod Table

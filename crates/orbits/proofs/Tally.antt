@@ -4,10 +4,10 @@
 --   count-mono, count-tight a stronger test counts less, strictly less unless the tests agree
 --   count-grows, count-below   a count up to a later number is no less, and is more where one that passes lies between
 --   count-ext               tests that agree have one count
---   count-all, count-le     there are n numbers below n, and no more that pass a test
+--   count-all, count-none, count-le   there are n numbers below n; none that passes; no more that pass a test
 --   count-either            two tests that never pass together
 --   tick-suc                ticks commute
---   except, except-in, except-l, except-ne, count-except   a test but for one number
+--   except, except-in, except-l, except-ne, except-same, count-except   a test but for one number
 --   Injection, count-inj    an injection between two tested sets bounds the one count by the other
 use Prim.Native.Nat.{ℕ, zero, suc, _+_, _≤_, _<_, zero-le}
 use native.Mathlib.Nat.{le-step, lt-suc-self}
@@ -98,6 +98,11 @@ unfolding count
 count-all zero = refl
 count-all (suc n) = ap suc (count-all n)
 
+pub count-none : (f : ℕ → Bool) (n : ℕ) → ((i : ℕ) → i < n → f i ≡ false) → count f n ≡ 0
+unfolding count
+count-none f zero h = refl
+count-none f (suc n) h = ap₂ tick (h n (lt-suc-self n)) (count-none f n (λ i p. h i (le-step p)))
+
 pub count-le : (f : ℕ → Bool) (n : ℕ) → count f n ≤ n
 unfolding count
 count-le f zero = zero-le
@@ -156,7 +161,7 @@ module _ (g : ℕ → Bool) (c : ℕ) where
   except-not : T (except g c c) → ⊥
   except-not t = except-ne c t refl
 
-  except-same : (i : ℕ) → (i ≡ c → ⊥) → except g c i ≡ g i
+  pub except-same : (i : ℕ) → (i ≡ c → ⊥) → except g c i ≡ g i
   except-same i n = ap (λ (b : Bool). g i && not b) (ne-eqb i c n) ∙ and-true (g i)
 
   except-above : (m : ℕ) → except g c m ≡ g m → suc (count (except g c) m) ≡ count g m → suc (count (except g c) (suc m)) ≡ count g (suc m)
