@@ -1,27 +1,55 @@
--- What callers use of `Named`: n names stand from place a on, and the rest is as it was.
+-- What callers use of `Named`: n names stand from place a on, the sizes from place b on, and the rest is as it was.
 --
 --   named-length       the work area is as long
---   named-beside       parts beside the names are as they were
-use mathlib.Core.Path.{_≡_, ap, _∙_}
+--   named-names        the names
+--   named-sizes        the sizes
+--   named-beside       parts beside both are as they were
+use mathlib.Core.Path.{_≡_, sym, ap, _∙_}
 use mathlib.Core.List.{List}
 use Prim.Native.Nat.{ℕ, _+_, _≤_, _<_}
 use native.Mathlib.Omega.{arith}
 use lib.ListN.{length}
-use Rattle.model.specs.Numbers.{least}
+use Rattle.model.specs.Numbers.{least, isLeast, cycles, cycleSizes}
 use Rattle.orbits.specs.Table.{tabulate}
-use Rattle.work.specs.Area.{region}
+use Rattle.work.specs.Area.{region, placed}
+use Rattle.orbits.proofs.Tally.{count-le}
 use Rattle.orbits.proofs.Table.{length-tabulate}
-use Rattle.work.proofs.Regions.{length-placed, region-placed-other}
+use Rattle.orbits.proofs.Sizes.{length-sizes}
+use Rattle.work.proofs.Regions.{length-placed, region-placed, region-placed-other}
 use Rattle.cycles.specs.Cycles.{Named}
 
-module _ (f : ℕ → ℕ) (n a : ℕ) (w : List ℕ) (c : ℕ) (w′ : List ℕ) (fits : a + n ≤ length w) (s : Named f n a w c w′) where
-  room : a + length (tabulate (least f n) 0 n) ≤ length w
-  room = omega (arith, length-tabulate (least f n) 0 n)
+module _ (f : ℕ → ℕ) (n a b : ℕ) (w : List ℕ) (c : ℕ) (w′ : List ℕ) (apart : a + n ≤ b) (fits : b + n ≤ length w) (s : Named f n a b w c w′) where
+  abbrev names : List ℕ
+  names = tabulate (least f n) 0 n
+
+  first-fits : a + length names ≤ length w
+  first-fits = omega (arith, length-tabulate (least f n) 0 n)
+
+  as-long : length (placed a names w) ≡ length w
+  as-long = length-placed a names w first-fits
+
+  few : length (cycleSizes f n) ≤ n
+  unfolding cycleSizes
+  few = omega (arith, length-sizes f n n, count-le (isLeast f n) n)
+
+  second-fits : b + length (cycleSizes f n) ≤ length (placed a names w)
+  second-fits = omega (arith, few, as-long)
 
   pub named-length : length w′ ≡ length w
-  named-length = ap length (s .named) ∙ length-placed a (tabulate (least f n) 0 n) w room
+  named-length = ap length (s .named) ∙ length-placed b (cycleSizes f n) (placed a names w) second-fits ∙ as-long
 
-  pub named-beside : (b k : ℕ) → (a < b + k → a + n ≤ b) → region b k w′ ≡ region b k w
-  named-beside b k out =
-      ap (region b k) (s .named)
-      ∙ region-placed-other a (tabulate (least f n) 0 n) w room b k (λ h. let o = out h in omega (arith, length-tabulate (least f n) 0 n))
+  pub named-beside : (p k : ℕ) → (a < p + k → a + n ≤ p) → (b < p + k → b + n ≤ p) → region p k w′ ≡ region p k w
+  named-beside p k out off =
+      ap (region p k) (s .named)
+      ∙ region-placed-other b (cycleSizes f n) (placed a names w) second-fits p k (λ h. let o = off h in omega (arith, few))
+      ∙ region-placed-other a names w first-fits p k (λ h. let o = out h in omega (arith, length-tabulate (least f n) 0 n))
+
+  pub named-names : region a n w′ ≡ names
+  named-names =
+      ap (region a n) (s .named)
+      ∙ region-placed-other b (cycleSizes f n) (placed a names w) second-fits a n (λ h. absurd (omega arith))
+      ∙ region-placed a names w first-fits n (sym (length-tabulate (least f n) 0 n))
+
+  pub named-sizes : region b (cycles f n) w′ ≡ cycleSizes f n
+  unfolding cycles cycleSizes
+  named-sizes = ap (region b (cycles f n)) (s .named) ∙ region-placed b (cycleSizes f n) (placed a names w) second-fits (cycles f n) (sym (length-sizes f n n))

@@ -1,41 +1,32 @@
 -- Naming in ascending order gives each cycle the name of its least dart. f is a permutation below n, and d a dart that is its own least.
 --
 --   length-names           there are as many names below d as darts
---   Naming                 the names b while the cycle of d is followed: x is the dart to be named next
+--   called d b n           how many of the first n entries of b are d
+--   Naming                 the names b while the cycle of d is followed: x is the dart to be named next, s darts are named
 --   naming-start, naming-step, naming-end   before the first step, one step, and when x has a name already
+--   naming-few, naming-size   no more darts are named than there are; in the end as many as the cycle has
 --   names-none, names-skip, names-all       no name yet; d is no least dart, so its turn changes nothing; all names
 --   unnamed-least, named-other              d is its own least if it has no name at its turn, and not if it has one
---   free, free-set         how many entries are unnamed; a name makes it one less
 use mathlib.Core.Path.{_≡_, refl, sym, ap, _∙_, subst}
 use mathlib.Core.Logic.{_⊎_, inl, inr, ⊎-elim, _≢_}
-use mathlib.Core.Bool.{cond}
-use mathlib.Core.List.{List, [], _∷_}
+use mathlib.Core.Bool.{Bool, and-false}
+use mathlib.Core.List.{List}
 use Prim.Native.Nat.{ℕ, zero, suc, _+_, _≤_, _<_}
-use native.Mathlib.Nat.{not-suc-le-zero, le-of-suc-le-suc, zero-add}
+use native.Mathlib.Nat.{zero-add}
+use native.Mathlib.Numerals.{add-one}
 use native.Mathlib.Omega.{arith}
 use lib.Dec.{eqb}
 use lib.ListN.{length, getD, set, replicate, length-set, length-replicate, getD-replicate}
 use lib.Seq.{getD-set-same, getD-set-other}
 use borrow.Author.Tests.{lt-ltb, le-ltb, eq-eqb, ne-eqb}
-use Rattle.model.specs.Numbers.{iter, least}
+use Rattle.model.specs.Numbers.{count, iter, least, cycleSize}
 use Rattle.orbits.specs.Permutation.{Perm}
-use Rattle.orbits.proofs.Order.{lt-or-le, eq-split}
+use Rattle.orbits.proofs.Order.{lt-or-le, eq-split, eq→eqb}
+use Rattle.orbits.proofs.Tally.{count-ext, count-none, count-le, except, except-same, count-except}
 use Rattle.orbits.proofs.Cycle.{least-le, least-step, least-idem, same-reach}
 use Rattle.orbits.specs.Table.{tabulate}
 use Rattle.orbits.proofs.Table.{length-tabulate, tabulate-at, is-tabulate, tabulate-ext}
 use Rattle.cycles.specs.Cycles.{unnamed, nameBelow, namesBelow}
-
--- ---- unnamed entries
-
-unfoldable pub free : List ℕ → ℕ
-free [] = 0
-free (x ∷ xs) = cond (eqb x unnamed) 1 0 + free xs
-
-pub free-set : (l : List ℕ) (i v : ℕ) → i < length l → getD l i 0 ≡ unnamed → v ≢ unnamed → free l ≡ suc (free (set l i v))
-unfolding free
-free-set [] i v h e d = absurd (not-suc-le-zero h)
-free-set (x ∷ xs) zero v h e d = rw (eq-eqb _ _ e, ne-eqb _ _ d) (omega arith)
-free-set (x ∷ xs) (suc i) v h e d = let ih = free-set xs i v (le-of-suc-le-suc h) e d in omega arith
 
 -- ---- names below d
 
@@ -70,9 +61,17 @@ module _ (f : ℕ → ℕ) (n : ℕ) where
       (λ h. name-in d z h ∙ sym (name-in (suc d) z (omega arith)))
       (λ h. name-out d z h ∙ sym (name-out (suc d) z (omega arith)))
 
--- ---- the cycle of d is followed: the entries of other cycles are as before, x is the next dart, the dart after a named one is named or is x
+-- ---- the cycle of d is followed: the entries of other cycles are as before, x is the next dart, the dart after a named one is named or is x; s are named
 
-pub record Naming (f : ℕ → ℕ) (n d : ℕ) (b : List ℕ) (x : ℕ) : Type 0 where
+-- the entry of z is d
+abbrev is-called : ℕ → List ℕ → ℕ → Bool
+is-called d b z = eqb (getD b z 0) d
+
+unfoldable pub called : ℕ → List ℕ → ℕ → ℕ
+called d b n = count (is-called d b) n
+
+pub record Naming (f : ℕ → ℕ) (n d : ℕ) (b : List ℕ) (x s : ℕ) : Type 0 where
+  pub counted : s ≡ called d b n
   pub size : length b ≡ n
   pub kept : (z : ℕ) → z < n → (getD b z 0 ≡ nameBelow f n d z) ⊎ ((least f n z ≡ d) × (getD b z 0 ≡ d))
   pub here : x < n
@@ -87,8 +86,13 @@ module _ (f : ℕ → ℕ) (n : ℕ) (perm : Perm n f) (small : n ≤ 8192) (d :
       (λ h. let i = name-in f n d z h in omega arith)
       (λ h. let o = name-out f n d z h in omega arith)
 
-  pub naming-start : least f n d ≡ d → Naming f n d (namesBelow f n d) d
+  none-called : called d (namesBelow f n d) n ≡ 0
+  unfolding called
+  none-called = count-none (is-called d (namesBelow f n d)) n (λ z h. ne-eqb _ d (λ e. not-yet z (sym (getD-names f n d z h) ∙ e)))
+
+  pub naming-start : least f n d ≡ d → Naming f n d (namesBelow f n d) d 0
   naming-start own = record {
+    counted = sym none-called;
     size = length-names f n d;
     kept = λ z h. inl (getD-names f n d z h);
     here = below;
@@ -97,7 +101,7 @@ module _ (f : ℕ → ℕ) (n : ℕ) (perm : Perm n f) (small : n ≤ 8192) (d :
     begun = inl refl;
   }
 
-  module _ (b : List ℕ) (x : ℕ) (s : Naming f n d b x) where
+  module _ (b : List ℕ) (x k : ℕ) (s : Naming f n d b x k) where
     there : x < length b
     there = subst (λ (k : ℕ). x < k) (sym (s .size)) (s .here)
 
@@ -107,8 +111,19 @@ module _ (f : ℕ → ℕ) (n : ℕ) (perm : Perm n f) (small : n ≤ 8192) (d :
         (λ e. ap (λ (k : ℕ). getD (set b x d) k 0) e ∙ getD-set-same b x d 0 there)
         (λ ne. getD-set-other b x z d 0 ne ∙ ⊎-elim (λ e. absurd (ne e)) (λ e. e) o)
 
-    pub naming-step : Naming f n d (set b x d) (f x)
-    naming-step = record {
+    -- one more entry is d
+    called-more : getD b x 0 ≡ unnamed → called d (set b x d) n ≡ suc (called d b n)
+    unfolding called
+    called-more free =
+        let same : (z : ℕ) → z < n → except (is-called d (set b x d)) x z ≡ is-called d b z = λ z h. eq-split z x
+        (λ e. rw (eq-eqb z x e, e, free, ne-eqb unnamed d (λ q. omega arith)) (and-false (is-called d (set b x d) x)))
+        (λ ne. except-same (is-called d (set b x d)) x z ne ∙ ap (λ (y : ℕ). eqb y d) (getD-set-other b x z d 0 ne)) in
+        sym (count-except (is-called d (set b x d)) x n (s .here) (eq→eqb _ d (stays x (inl refl))))
+        ∙ ap suc (count-ext (except (is-called d (set b x d)) x) (is-called d b) n same)
+
+    pub naming-step : getD b x 0 ≡ unnamed → Naming f n d (set b x d) (f x) (k + 1)
+    naming-step free = record {
+      counted = add-one k ∙ ap suc (s .counted) ∙ sym (called-more free);
       size = length-set b x d ∙ s .size;
       kept = λ z h. eq-split z x
           (λ e. inr (ap (least f n) e ∙ s .cycle, stays z (inl e)))
@@ -142,6 +157,17 @@ module _ (f : ℕ → ℕ) (n : ℕ) (perm : Perm n f) (small : n ≤ 8192) (d :
     naming-end own named = is-names f n (suc d) b (s .size) (λ z h. eq-split (least f n z) d
         (λ e. all-named (closes named) own z h e ∙ sym (name-in f n (suc d) z (omega arith) ∙ e))
         (λ ne. ⊎-elim (λ q. q ∙ name-more f n d z ne) (λ p. absurd (ne (p .0))) (s .kept z h)))
+
+    pub naming-few : k ≤ n
+    unfolding called
+    naming-few = rw (s .counted) (count-le (is-called d b) n)
+
+    pub naming-size : least f n d ≡ d → getD b x 0 ≢ unnamed → k ≡ cycleSize f n d
+    unfolding called cycleSize
+    naming-size own named =
+        s .counted ∙ count-ext (is-called d b) (λ z. eqb (least f n z) (least f n d)) n (λ z h. eq-split (least f n z) d
+        (λ e. eq-eqb _ d (all-named (closes named) own z h e) ∙ sym (eq-eqb _ _ (e ∙ sym own)))
+        (λ ne. ne-eqb _ d (λ c. ⊎-elim (λ q. not-yet z (sym q ∙ c)) (λ p. ne (p .0)) (s .kept z h)) ∙ sym (ne-eqb _ _ (λ e. ne (e ∙ own)))))
 
   -- the turn of a dart that is not its own least changes nothing
   pub names-skip : least f n d ≢ d → namesBelow f n d ≡ namesBelow f n (suc d)

@@ -1,13 +1,12 @@
-// The cycles of a rotation, its vertices, and of its face walk, its faces: each dart gets the name of its cycle, and the cycles are counted. It knows
-// rotations, not traversals or records.
+// The cycles of a rotation, its vertices, and of its face walk, its faces: each dart gets the name of its cycle, and the cycles are counted and measured.
+// It knows rotations, not traversals or records.
 ghost use mathlib.Core.Path.{_≡_};
 ghost use mathlib.Core.Bool.{true};
 ghost use Prim.Native.Nat.{_+_, _≤_, _<_};
 ghost use lib.ListN.{length};
 ghost use Rattle.model.specs.Numbers.{isPermutation};
 ghost use Rattle.model.specs.Map.{opposite, dartCountFits};
-ghost use Rattle.work.specs.Area.{placed};
-ghost use Rattle.cycles.specs.Cycles.{stepOf, Named, namesBelow, HalfNamed};
+ghost use Rattle.cycles.specs.Cycles.{stepOf, Named, HalfNamed, Followed};
 
 // No cycle's name: names are below 8,192.
 const UNNAMED: u16 = 65535;
@@ -32,24 +31,27 @@ pub fn step(order: &[u16], across: bool, d: usize) -> usize
     order[d] as usize
 }
 
-// Names every dart of the cycle of start, which is its least.
-fn follow(order: &[u16], across: bool, w: &mut [u16], a: usize, start: usize)
+// Names every dart of the cycle of start, which is its least; and how many they are.
+fn follow(order: &[u16], across: bool, w: &mut [u16], a: usize, start: usize) -> usize
     requires { ⌜ HalfNamed (now order) across a start (now w) ⌝ }
-    ensures { λ _. ⌜ now (w .exit)
-        ≡ placed a (namesBelow (stepOf (now (order .entry)) across) (length (now (order .entry))) (start + 1)) (now (w .entry)) ⌝ }
+    ensures { λ r. ⌜ Followed (stepOf (now (order .entry)) across) (length (now (order .entry))) a start (now (w .entry)) r (now (w .exit)) ⌝ }
 {
     let name = start as u16;
     let mut x = start;
+    let mut steps = 0;
     while w[a + x] == UNNAMED {
         w[a + x] = name;
         x = step(order, across, x);
+        steps += 1;
     }
+    steps
 }
 
-// Each dart's cycle, by its least dart, from place a on; and how many cycles there are.
-pub fn name(order: &[u16], across: bool, w: &mut [u16], a: usize) -> usize
-    requires { ⌜ (dartCountFits (length (now order)) ≡ true) × (isPermutation (now order) ≡ true) × (a + length (now order) ≤ length (now w)) ⌝ }
-    ensures { λ r. ⌜ Named (stepOf (now (order .entry)) across) (length (now (order .entry))) a (now (w .entry)) r (now (w .exit)) ⌝ }
+// Each dart's cycle, by its least dart, from place a on; how many cycles there are, and their sizes from place b on, in the order of their least darts.
+pub fn name(order: &[u16], across: bool, w: &mut [u16], a: usize, b: usize) -> usize
+    requires { ⌜ (dartCountFits (length (now order)) ≡ true) × (isPermutation (now order) ≡ true) × (a + length (now order) ≤ b)
+        × (b + length (now order) ≤ length (now w)) ⌝ }
+    ensures { λ r. ⌜ Named (stepOf (now (order .entry)) across) (length (now (order .entry))) a b (now (w .entry)) r (now (w .exit)) ⌝ }
 {
     let n = order.len();
     work::fill(w, a, n, UNNAMED);
@@ -57,7 +59,8 @@ pub fn name(order: &[u16], across: bool, w: &mut [u16], a: usize) -> usize
     let mut d = 0;
     while d < n {
         if w[a + d] == UNNAMED {
-            follow(order, across, w, a, d);
+            let size = follow(order, across, w, a, d);
+            w[b + count] = size as u16;
             count += 1;
         }
         d += 1;

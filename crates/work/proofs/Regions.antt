@@ -11,6 +11,7 @@
 --   placed-placed, placed-region        placing twice; placing what is there
 --   set-placed, placed-snoc             a store into what was placed; a store just behind it
 --   placed-none                         placing nothing
+--   placed-beside                       entries placed in two parts, in either order
 --   placed-cons                         the first entry placed is a store
 --   placed-next                         what is placed just behind other entries is placed with them
 --   region-grow                         entries placed just behind a region make it longer
@@ -152,12 +153,27 @@ pub placed-none : (a : ℕ) (w : List ℕ) → placed a [] w ≡ w
 unfolding placed
 placed-none a w = rw add-zero (take-append-drop a w)
 
+set-before : (a y b : ℕ) (xs w : List ℕ) → a < b → b + length xs ≤ length w → set (placed b xs w) a y ≡ placed b xs (set w a y)
+unfolding placed
+set-before a y b xs w l h =
+    let t = length-take-le b w (omega arith) in
+    set-append-left (take b w) (xs ++ drop (b + length xs) w) a y (omega arith)
+    ∙ rw (take-set-lt b w a y l, drop-set-lt (b + length xs) w a y (omega arith))
+
 -- ---- entries placed one after the other
 
 pub placed-cons : (a x : ℕ) (xs w : List ℕ) → a < length w → placed a (x ∷ xs) w ≡ placed (suc a) xs (set w a x)
 unfolding placed
 placed-cons a x xs w h =
     rw (take-suc-set w a x h, append-snoc (take a w) x, drop-set-lt (suc a + length xs) w a x (omega arith), add-suc, suc-add)
+
+pub placed-beside : (a b : ℕ) (ys xs w : List ℕ) → a + length ys ≤ b → b + length xs ≤ length w → placed a ys (placed b xs w) ≡ placed b xs (placed a ys w)
+placed-beside a b [] xs w l h = rw (placed-none a (placed b xs w), placed-none a w)
+placed-beside a b (y ∷ ys) xs w l h =
+    let e = length-set w a y in
+    let z = length-placed b xs w h in
+    rw (placed-cons a y ys (placed b xs w) (omega arith), placed-cons a y ys w (omega arith), set-before a y b xs w (omega arith) h)
+    (placed-beside (suc a) b ys xs (set w a y) (omega arith) (omega arith))
 
 pub placed-next : (a : ℕ) (xs ys w : List ℕ) → a + length xs ≤ length w → placed (a + length xs) ys (placed a xs w) ≡ placed a (xs ++ ys) w
 placed-next a [] ys w h = rw (placed-none, add-zero)

@@ -1,6 +1,7 @@
 -- The map of the work area, in units of the number of darts.
 --
 --   MET, SEEN, LETTERS, FACES    writing: letters by dart, vertices seen, letters by position, names of faces; names of vertices stand from 0 on
+--   DEGREES, LENGTHS             writing and measuring: the sizes of vertices and of faces
 --   UPS, SECONDS                 writing: stacks of the labels of tree edges and of other edges
 --   BITS, LABELS                 writing: the tree bits, and the labels, in reading too
 --   BELOW, TREES, BEGUN, OPENS   reading: stacks of the vertices that the present one hangs from, of open tree edges, of the vertices where other open
@@ -30,6 +31,12 @@ BITS = 8
 
 abbrev pub LABELS : ℕ
 LABELS = 9
+
+abbrev pub DEGREES : ℕ
+DEGREES = 10
+
+abbrev pub LENGTHS : ℕ
+LENGTHS = 11
 
 abbrev pub BELOW : ℕ
 BELOW = 5

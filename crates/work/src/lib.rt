@@ -25,6 +25,11 @@ pub const BITS: usize = 8;
 
 pub const LABELS: usize = 9;
 
+// Writing and measuring: the sizes of vertices and of faces.
+pub const DEGREES: usize = 10;
+
+pub const LENGTHS: usize = 11;
+
 // Reading: the rotation from 0 on; stacks of the vertices that the present one hangs from, of open tree edges, of the vertices where other open edges
 // began, and of those edges.
 pub const BELOW: usize = 5;

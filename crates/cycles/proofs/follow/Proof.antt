@@ -1,38 +1,49 @@
 use mathlib.Core.Path.{_≡_}
-use Prim.Native.Nat.{_<_}
+use Prim.Native.Nat.{_+_, _-_, _≤_, _<_}
 use native.Mathlib.Omega.{arith}
-use lib.ListN.{length}
+use lib.ListN.{length, set}
 use Rattle.model.proofs.Fitness.{count-parts}
 use Rattle.cycles.specs.Cycles.{stepOf}
-use Rattle.cycles.proofs.Naming.{free}
-use Rattle.cycles.proofs.Following.{Following, following-start, following-less, following-step, following-end}
+use Rattle.cycles.proofs.Following.{Following, following-few, following-start, following-step, following-end}
 use borrow.Author.Needs.{needs}
 use Rattle.cycles.proofs.follow.Statement.{statement}
 use Rattle.cycles.proofs.follow.Tie as tie
 
 abbrev Inv-loop : tie.InvT-loop
-Inv-loop order across w₀ a start name x₀ w x =
-    (x < length order) × (length w ≡ length w₀) × Following (stepOf order across) (length order) a start w₀ w x
+Inv-loop order across w₀ a start name x₀ steps₀ w x steps =
+    (x < length order) × (length w ≡ length w₀) × Following (stepOf order across) (length order) a start w₀ w x steps
 
 abbrev μ-loop : tie.MeasureT-loop
-μ-loop order across w₀ a start name x₀ w x = free w
+μ-loop order across w₀ a start name x₀ steps₀ w x steps = length order - steps
 
 cast-name : tie.Need-cast-name Inv-loop μ-loop
-cast-name c =
-    let n = count-parts _ (c .before .before .pre .size) in
-    omega arith
+cast-name c = let n = count-parts _ (c .before .before .pre .size) in omega arith
 
 loop-holds : tie.Need-loop-holds Inv-loop μ-loop
 loop-holds c = (search needs, search needs, following-start (c .before .before .pre))
 
+-- one dart more is named
+more : (c : tie.After-step Inv-loop μ-loop) → let a = c .before .before .before .before .before .before .args in
+    let at = c .before .before .before .loop in
+    Following (stepOf (a .order .now) (a .across)) (length (a .order .now)) (a .a) (a .start) (a .w .now) (set (at .w) (a .a + at .x) (a .start))
+    (stepOf (a .order .now) (a .across) (at .x)) (at .steps + 1)
+more c =
+    following-step (c .before .before .before .before .before .before .pre) (c .before .before .before .loop .inv .2) (c .before .if1 .taken)
+
+few : (c : tie.After-step Inv-loop μ-loop) → c .before .before .before .loop .steps + 1 ≤ length (c .before .before .before .before .before .before .args .order .now)
+few c = following-few (c .before .before .before .before .before .before .pre) (more c)
+
+add-steps : tie.Need-add-steps Inv-loop μ-loop
+add-steps c =
+    let n = count-parts _ (c .before .before .before .before .before .before .pre .size) in
+    let k = few c in
+    omega arith
+
 loop-less : tie.Need-loop-less Inv-loop μ-loop
-loop-less c =
-    following-less (c .before .before .before .before .before .before .pre) (c .before .before .before .loop .inv .2) (c .before .if1 .taken)
+loop-less c = let k = few c in omega arith
 
 loop-again : tie.Need-loop-again Inv-loop μ-loop
-loop-again c =
-    let s = following-step (c .before .before .before .before .before .before .pre) (c .before .before .before .loop .inv .2) in
-    rw (c .step .ensures) (s .naming .here, s .as-long, s)
+loop-again c = let s = more c in rw (c .step .ensures) (s .naming .here, s .as-long, s)
 
 returns : tie.Need-returns Inv-loop μ-loop
 returns c = following-end (c .before .before .before .before .before .pre) (c .before .before .loop .inv .2) (c .if1 .left)
@@ -52,6 +63,7 @@ follow-spec =
     (λ c. search needs)
     (λ c. search needs)
     (λ c κs. search needs)
+    add-steps
     loop-less
     loop-again
     (λ c. search needs)
