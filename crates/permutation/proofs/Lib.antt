@@ -1,2 +1,3 @@
+mod Counts
 mod Marking
 mod Zeros

@@ -3,7 +3,6 @@
 --   refusal-split        writing's refusal is the early one, else the late one
 --   early-not-ten        an early refusal is not 10
 --   two, three, four, six, seven, eight, passed   the early refusals, test by test
---   no-darts, odd-darts, many-darts, fit-darts   the count of darts, test by test
 --   Passed, early-parts  what a call that passes them is handed
 use Prim.Native.Nat.{ℕ, _*_, _%_, _≤_, _<_}
 use native.Mathlib.Omega.{arith}
@@ -65,20 +64,6 @@ module _ (k : ℕ) (p : Plan) (wl ol : ℕ) where
             unfolding earlyRefusal earlyRefusals firstRefusal
             passed e =
                 rw (h2, h3, lt-ltb (p .root) (darts p) h4, h6, le-ltb wl (32 * edges (p .rotation)) h7, le-ltb ol (recordLength k (edges (p .rotation))) e)
-
--- ---- the dart count
-
-pub no-darts : (n : ℕ) → n ≡ 0 → dartCountFits n ≡ false
-no-darts n e = count-unfit n (λ h. omega arith)
-
-pub odd-darts : (n : ℕ) → (n % 2 ≡ 0 → ⊥) → dartCountFits n ≡ false
-odd-darts n e = count-unfit n (λ h. e (h .1))
-
-pub many-darts : (n : ℕ) → n % 2 ≡ 0 → 8192 < n → dartCountFits n ≡ false
-many-darts n e h = count-unfit n (λ p. omega arith)
-
-pub fit-darts : (n : ℕ) → (n ≡ 0 → ⊥) → n % 2 ≡ 0 → n ≤ 8192 → dartCountFits n ≡ true
-fit-darts n z e h = parts-count n (omega arith) e h
 
 -- ---- what a call that passes is handed
 

@@ -13,13 +13,7 @@ fn early(order: &[u16], root: u16, kind: u16, room: usize, space: usize) -> u16
         return 2;
     }
     let n = order.len();
-    if n == 0 {
-        return 3;
-    }
-    if n % 2 != 0 {
-        return 3;
-    }
-    if n > 8192 {
+    if !permutation::dart_count_fits(n) {
         return 3;
     }
     if root as usize >= n {
@@ -63,7 +57,7 @@ fn made(order: &[u16], root: u16, kind: u16, w: &mut [u16], out: &mut [u8]) -> W
     match v {
         Verdict::Refused(x) => Written::Refused(x),
         Verdict::NotPlanar(x) => Written::NotPlanar(x),
-        Verdict::Fits => Written::Length(laid_out(w, order.len(), kind, out)),
+        Verdict::Fits(_) => Written::Length(laid_out(w, order.len(), kind, out)),
     }
 }
 
