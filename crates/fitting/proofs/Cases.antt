@@ -7,7 +7,8 @@
 --   parted               not every dart is met
 --   Counted              the same, every dart being met and the faces counted
 --   few-counts           the counts are small
---   curved, flat         the characteristic is not 2, or it is
+--   curved               the characteristic is not 2
+--   flat-refused, flat-fits   it is, and 11 or 12 is found, or neither
 use Prim.Native.Nat.{ℕ, _+_, _*_, _/_, _≤_, _<_}
 use native.Mathlib.Nat.{suc-ne-zero}
 use native.Mathlib.Omega.{arith}
@@ -19,28 +20,25 @@ use lib.IntN.{ℤ, pos, _+ℤ_, _-ℤ_}
 use lib.ListN.{length}
 use lib.Dec.{eqb}
 use borrow.Author.Tests.{eq-eqb, ne-eqb}
-use Rattle.model.specs.Numbers.{least, isLeast, cycles, firstRefusal, isPermutation}
-use Rattle.model.specs.Map.{Plan, darts, edges, next, faceNext, vertexOf, vertices, faces, connected, planar, characteristic, is}
+use Rattle.model.specs.Numbers.{isLeast, cycles, firstRefusal, isPermutation}
+use Rattle.model.specs.Map.{Plan, darts, edges, next, faceNext, vertexOf, vertices, faces, faceLengths, connected, planar, characteristic, is}
 use Rattle.model.specs.Map.{hasLoop, hasDeadEnd, loopRefused, degreeRefused, dartCountFits}
 use Rattle.model.specs.Traversal.{code, word}
 use Rattle.model.specs.Calls.{lateRefusals}
 use Rattle.model.proofs.Booleans.{not-intro}
 use Rattle.model.proofs.Fitness.{count-parts}
-use Rattle.orbits.specs.Table.{tabulate}
 use Rattle.orbits.proofs.Tally.{count-le}
-use Rattle.orbits.proofs.Table.{length-tabulate}
 use Rattle.traversal.proofs.Complete.{connected-long, long-connected}
-use Rattle.work.specs.Map.{LETTERS, FACES}
+use Rattle.work.specs.Map.{LETTERS, FACES, DEGREES, LENGTHS}
 use Rattle.work.specs.Area.{region}
-use Rattle.work.proofs.Regions.{region-placed}
 use Rattle.cycles.specs.Cycles.{Named}
-use Rattle.cycles.proofs.Names.{named-length, named-beside}
+use Rattle.cycles.proofs.Names.{named-length, named-names, named-sizes, named-beside}
 use Rattle.contour.specs.Steps.{VerticesNamed}
 use Rattle.contour.specs.Walked.{Walked}
 use Rattle.fitting.specs.declared.Survey.{Survey}
 use Rattle.fitting.specs.declared.Verdict.{Verdict}
 use Rattle.fitting.specs.declared.Verdict.the-variants.{Fits, Refused, NotPlanar}
-use Rattle.fitting.specs.Judged.{Surveyed, localOf, lateRefusal, verdictOf, Judged}
+use Rattle.fitting.specs.Judged.{Surveyed, localRefusal, lateRefusal, verdictOf, Judged}
 
 -- ---- refusals 11 and 12
 
@@ -53,43 +51,49 @@ unfolding loopRefused
 loop-searched k rot r d e = rw (ne-eqb k 4 d) e
 
 module _ (k : ℕ) (p : Plan) where
-  pub looped : loopRefused k (p .rotation) ≡ true → Refused 11 ≡ localOf k p
-  unfolding localOf
+  not-ten : eqb (localRefusal k p) 10 ≡ false
+  unfolding localRefusal
+  not-ten = either (loopRefused k (p .rotation)) (degreeRefused k p)
+    where
+      either : (loop end : Bool) → eqb (cond loop 11 (cond end 12 0)) 10 ≡ false
+      either true end = refl
+      either false true = refl
+      either false false = refl
+
+  pub looped : loopRefused k (p .rotation) ≡ true → 11 ≡ localRefusal k p
+  unfolding localRefusal
   looped l = rw l
 
   module _ (none : loopRefused k (p .rotation) ≡ false) where
-    pub dead-end : k ≡ 1 → hasDeadEnd p ≡ true → Refused 12 ≡ localOf k p
-    unfolding localOf degreeRefused
+    pub dead-end : k ≡ 1 → hasDeadEnd p ≡ true → 12 ≡ localRefusal k p
+    unfolding localRefusal degreeRefused
     dead-end h e = rw (none, eq-eqb k 1 h, e)
 
-    pub no-dead-end : k ≡ 1 → hasDeadEnd p ≡ false → Fits ≡ localOf k p
-    unfolding localOf degreeRefused
+    pub no-dead-end : k ≡ 1 → hasDeadEnd p ≡ false → 0 ≡ localRefusal k p
+    unfolding localRefusal degreeRefused
     no-dead-end h e = rw (none, eq-eqb k 1 h, e)
 
-    pub other-kind : (k ≢ 1) → Fits ≡ localOf k p
-    unfolding localOf degreeRefused
+    pub other-kind : (k ≢ 1) → 0 ≡ localRefusal k p
+    unfolding localRefusal degreeRefused
     other-kind h = rw (none, ne-eqb k 1 h)
 
 -- ---- the names and the walk
 
-pub vertices-named : (rot w : List ℕ) (v : ℕ) (w′ : List ℕ) → 0 + length rot ≤ length w → Named (next rot) (length rot) 0 w v w′
-    → VerticesNamed rot w′
-unfolding vertexOf
-vertices-named rot w v w′ fits s =
-    let names = tabulate (least (next rot) (length rot)) 0 (length rot) in
-    let l : length names ≡ length rot = length-tabulate (least (next rot) (length rot)) 0 (length rot) in
-    ap (region 0 (length rot)) (s .named) ∙ region-placed 0 names w (omega arith) (length rot) (sym l)
+module _ (p : Plan) (w w₁ : List ℕ) (v : ℕ) (room : 16 * darts p ≤ length w) (s : Named (next (p .rotation)) (darts p) 0 (DEGREES * darts p) w v w₁) where
+  pub vertices-named : VerticesNamed (p .rotation) w₁
+  unfolding vertexOf
+  vertices-named = named-names (next (p .rotation)) (darts p) 0 (DEGREES * darts p) w v w₁ (omega arith) (omega arith) s
 
-pub surveyed : (k : ℕ) (p : Plan) (w w₁ w₂ : List ℕ) (v met : ℕ) (loop : Bool) → 0 + darts p ≤ length w → Named (next (p .rotation)) (darts p) 0 w v w₁
-    → loop ≡ loopRefused k (p .rotation) → Walked p w₁ met w₂ → Surveyed k p w (record { vertices = v; looped = loop; met = met }) w₂
-unfolding vertices
-surveyed k p w w₁ w₂ v met loop fits s l t = record {
-  counted = s .counted;
-  searched = l;
-  all-met = t .counted;
-  letters = t .letters;
-  kept = t .kept ∙ named-length (next (p .rotation)) (darts p) 0 w v w₁ fits s;
-}
+  pub surveyed : (k : ℕ) (w₂ : List ℕ) (met : ℕ) (loop : Bool) → loop ≡ loopRefused k (p .rotation) → Walked p w₁ met w₂
+      → Surveyed k p w (record { vertices = v; looped = loop; met = met }) w₂
+  unfolding vertices
+  surveyed k w₂ met loop l t = record {
+    counted = s .counted;
+    searched = l;
+    all-met = t .counted;
+    letters = t .letters;
+    kept = t .kept ∙ named-length (next (p .rotation)) (darts p) 0 (DEGREES * darts p) w v w₁ (omega arith) (omega arith) s;
+  }
 
 -- ---- the verdict
 
@@ -114,13 +118,14 @@ module _ {k : ℕ} {p : Plan} {w : List ℕ} {s : Survey} {w₁ : List ℕ} (a :
       record {
         answered = rw apart;
         letters = λ z. absurd (suc-ne-zero 8 (rw apart at z));
+        lengths = λ z. absurd (suc-ne-zero 8 (rw apart at z));
         kept = a .survey .kept;
       }
 
 pub record Counted (k : ℕ) (p : Plan) (w : List ℕ) (s : Survey) (w₁ : List ℕ) (f : ℕ) (w₂ : List ℕ) : Type 0 where
   pub looked : Looked k p w s w₁
   pub all : s .met ≡ darts p
-  pub named : Named (faceNext (p .rotation)) (darts p) (FACES * darts p) w₁ f w₂
+  pub named : Named (faceNext (p .rotation)) (darts p) (FACES * darts p) (LENGTHS * darts p) w₁ f w₂
 
 module _ {k : ℕ} {p : Plan} {w : List ℕ} {s : Survey} {w₁ : List ℕ} {f : ℕ} {w₂ : List ℕ} (b : Counted k p w s w₁ f w₂) where
   abbrev a : Looked k p w s w₁
@@ -129,16 +134,24 @@ module _ {k : ℕ} {p : Plan} {w : List ℕ} {s : Survey} {w₁ : List ℕ} {f :
   joined : connected (p .rotation) ≡ true
   joined = long-connected p (a .fits) (a .low) (a .entries) (sym (a .survey .all-met) ∙ b .all)
 
-  fourth : FACES * darts p + darts p ≤ length w₁
-  fourth = omega (arith, a .survey .kept, a .room)
+  behind : FACES * darts p + darts p ≤ LENGTHS * darts p
+  behind = omega arith
+
+  inside : LENGTHS * darts p + darts p ≤ length w₁
+  inside = omega (arith, a .survey .kept, a .room)
 
   letters-kept : region (LETTERS * darts p) (darts p) w₂ ≡ map code (word p)
   letters-kept =
-      named-beside (faceNext (p .rotation)) (darts p) (FACES * darts p) w₁ f w₂ fourth (b .named) (LETTERS * darts p) (darts p) (λ h. omega arith)
+      named-beside (faceNext (p .rotation)) (darts p) (FACES * darts p) (LENGTHS * darts p) w₁ f w₂ behind inside (b .named) (LETTERS * darts p) (darts p)
+      (λ h. omega arith) (λ h. omega arith)
       ∙ subst (λ (n : ℕ). region (LETTERS * darts p) n w₁ ≡ map code (word p)) (b .all) (a .survey .letters)
 
   length-kept : length w₂ ≡ length w
-  length-kept = named-length (faceNext (p .rotation)) (darts p) (FACES * darts p) w₁ f w₂ fourth (b .named) ∙ a .survey .kept
+  length-kept = named-length (faceNext (p .rotation)) (darts p) (FACES * darts p) (LENGTHS * darts p) w₁ f w₂ behind inside (b .named) ∙ a .survey .kept
+
+  measured : region (LENGTHS * darts p) (faces (p .rotation)) w₂ ≡ faceLengths (p .rotation)
+  unfolding faces faceLengths
+  measured = named-sizes (faceNext (p .rotation)) (darts p) (FACES * darts p) (LENGTHS * darts p) w₁ f w₂ behind inside (b .named)
 
   pub few-counts : (s .vertices ≤ 8192) × (darts p / 2 ≤ 8192) × (f ≤ 8192)
   unfolding vertices
@@ -155,22 +168,22 @@ module _ {k : ℕ} {p : Plan} {w : List ℕ} {s : Survey} {w₁ : List ℕ} {f :
 
     pub curved : is x 2 ≡ false → Judged k p w (NotPlanar x) w₂
     unfolding verdictOf lateRefusal lateRefusals firstRefusal planar
-    curved u = let u′ = rw euler at u in record { answered = rw (joined, u′, euler); letters = λ z. letters-kept; kept = length-kept }
+    curved u = let u′ = rw euler at u in
+        record { answered = rw (joined, u′, euler); letters = λ z. letters-kept; lengths = λ z. measured; kept = length-kept }
 
-    pub flat : is x 2 ≡ true → {v : Verdict} → v ≡ localOf k p → Judged k p w v w₂
-    unfolding verdictOf lateRefusal lateRefusals firstRefusal planar localOf
-    flat u {v} q =
-        let u′ = rw euler at u in
-        record {
-          answered = q ∙ rw (joined, u′) (either (loopRefused k (p .rotation)) (degreeRefused k p));
-          letters = λ z. letters-kept;
-          kept = length-kept;
-        }
-      where
-        told : ℕ → Verdict
-        told r = cond (eqb r 0) Fits (cond (eqb r 10) (NotPlanar (characteristic (p .rotation))) (Refused r))
+    module _ (u : is x 2 ≡ true) where
+      late-local : lateRefusal k p ≡ localRefusal k p
+      unfolding lateRefusal lateRefusals firstRefusal planar localRefusal
+      late-local = let u′ = rw euler at u in rw (joined, u′)
 
-        either : (loop end : Bool) → cond loop (Refused 11) (cond end (Refused 12) Fits) ≡ told (cond loop 11 (cond end 12 0))
-        either true end = refl
-        either false true = refl
-        either false false = refl
+      -- what is found of 11 and 12 makes the verdict
+      found : {v : Verdict} → v ≡ verdictOf k p → Judged k p w v w₂
+      found q = record { answered = q; letters = λ z. letters-kept; lengths = λ z. measured; kept = length-kept }
+
+      pub flat-refused : {r : ℕ} → r ≡ localRefusal k p → r ≢ 0 → Judged k p w (Refused r) w₂
+      unfolding verdictOf
+      flat-refused {r} q ne = found (rw (late-local, sym q, ne-eqb r 0 ne, ap (λ (y : ℕ). eqb y 10) q ∙ not-ten k p))
+
+      pub flat-fits : {r : ℕ} → r ≡ localRefusal k p → r ≡ 0 → Judged k p w (Fits f) w₂
+      unfolding verdictOf faces
+      flat-fits {r} q z = found (rw (late-local, sym q, z) (ap Fits (b .named .counted)))

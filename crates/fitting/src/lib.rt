@@ -1,4 +1,5 @@
-// Refusals 9 to 12, and the contour word of a plan that fits. Names of vertices and faces in the work area are its own matter. It knows no records.
+// Refusals 9 to 12, and of a plan that fits its contour word and the lengths of its faces. Names of vertices and faces in the work area are its own matter.
+// It knows no records.
 ghost use mathlib.Core.Path.{_≡_};
 ghost use mathlib.Core.Bool.{true};
 ghost use Prim.Native.Nat.{_*_, _≤_, _<_};
@@ -7,11 +8,11 @@ ghost use lib.IntN.{pos, _+ℤ_, _-ℤ_};
 ghost use Rattle.model.specs.Numbers.{isPermutation};
 ghost use Rattle.model.specs.Map.{dartCountFits, hasLoop, hasDeadEnd, loopRefused};
 ghost use Rattle.contour.specs.Steps.{VerticesNamed};
-ghost use Rattle.fitting.specs.Judged.{Surveyed, localOf, Judged};
+ghost use Rattle.fitting.specs.Judged.{Surveyed, localRefusal, Judged};
 
-// What is found: the plan fits the kind; a refusal other than 10; refusal 10 with the characteristic.
+// What is found: the plan fits the kind, and has so many faces; a refusal other than 10; refusal 10 with the characteristic.
 pub enum Verdict {
-    Fits,
+    Fits(usize),
     Refused(u16),
     NotPlanar(i32),
 }
@@ -78,7 +79,8 @@ fn surveyed(order: &[u16], root: usize, kind: u16, w: &mut [u16]) -> Survey
         × (16 * length (now order) ≤ length (now w)) ⌝ }
     ensures { λ r. ⌜ Surveyed kind (record { rotation = now (order .entry); root = root }) (now (w .entry)) r (now (w .exit)) ⌝ }
 {
-    let vertices = cycles::name(order, false, w, 0);
+    let n = order.len();
+    let vertices = cycles::name(order, false, w, 0, work::DEGREES * n);
     let looped = loop_refused(order, kind, w);
     let met = contour::walk(order, root, w);
     Survey {
@@ -88,23 +90,23 @@ fn surveyed(order: &[u16], root: usize, kind: u16, w: &mut [u16]) -> Survey
     }
 }
 
-// Refusals 11 and 12.
-fn local(order: &[u16], root: usize, kind: u16, looped: bool) -> Verdict
+// The first of 11 and 12 that concerns the plan; 0 if none does.
+fn local(order: &[u16], root: usize, kind: u16, looped: bool) -> u16
     requires { ⌜ (isPermutation (now order) ≡ true) × (root < length (now order)) × (looped ≡ loopRefused kind (now order)) ⌝ }
-    ensures { λ r. ⌜ r ≡ localOf kind (record { rotation = now (order .entry); root = root }) ⌝ }
+    ensures { λ r. ⌜ r ≡ localRefusal kind (record { rotation = now (order .entry); root = root }) ⌝ }
 {
     if looped {
-        return Verdict::Refused(11);
+        return 11;
     }
     if kind == 1 {
         if has_dead_end(order, root) {
-            return Verdict::Refused(12);
+            return 12;
         }
     }
-    Verdict::Fits
+    0
 }
 
-// Refusals 9 to 12; the word of a plan that fits stands at LETTERS.
+// Refusals 9 to 12; the word of a plan that fits stands at LETTERS, and the lengths of its faces at LENGTHS.
 pub fn judge(order: &[u16], root: usize, kind: u16, w: &mut [u16]) -> Verdict
     requires { ⌜ (dartCountFits (length (now order)) ≡ true) × (isPermutation (now order) ≡ true) × (root < length (now order))
         × (16 * length (now order) ≤ length (now w)) ⌝ }
@@ -116,10 +118,14 @@ pub fn judge(order: &[u16], root: usize, kind: u16, w: &mut [u16]) -> Verdict
     if met != n {
         return Verdict::Refused(9);
     }
-    let faces = cycles::name(order, true, w, work::FACES * n);
+    let faces = cycles::name(order, true, w, work::FACES * n, work::LENGTHS * n);
     let x = euler(s.vertices, n / 2, faces);
     if x != 2 {
         return Verdict::NotPlanar(x);
     }
-    local(order, root, kind, s.looped)
+    let r = local(order, root, kind, s.looped);
+    if r != 0 {
+        return Verdict::Refused(r);
+    }
+    Verdict::Fits(faces)
 }

@@ -1,23 +1,23 @@
 -- The answer and the output of writing, by the way on which the call ends.
 --
---   asWritten, isFits    a verdict as an answer of writing, and whether the plan fits
 --   turned-away          an early refusal
 --   Told                 a call that passes them, with the plan's verdict
---   judged-away          a refusal of the plan itself
+--   judged-refused, judged-curved   a refusal of the plan itself
 --   to-lay               a plan that fits is ready to be laid out
 --   made                 and what is then written
 use Prim.Native.Nat.{ℕ}
 use native.Mathlib.Omega.{arith}
 use mathlib.Core.Path.{_≡_, refl, sym, ap, _∙_}
 use mathlib.Core.Logic.{_≢_}
-use mathlib.Core.Bool.{Bool, true, false, cond}
+use mathlib.Core.Bool.{true}
 use mathlib.Core.List.{List, map}
 use lib.Dec.{eqb}
+use lib.IntN.{ℤ}
 use lib.ListN.{length}
-use borrow.Author.Tests.{ne-eqb, eqb-true}
+use borrow.Author.Tests.{ne-eqb}
 use Rattle.model.specs.declared.Written.{Written}
 use Rattle.model.specs.declared.Written.the-variants as written
-use Rattle.model.specs.Map.{Plan, darts, edges, characteristic, fit}
+use Rattle.model.specs.Map.{Plan, darts, edges, fit}
 use Rattle.model.specs.Traversal.{code, word}
 use Rattle.model.specs.Record.{recordLength, recordOf}
 use Rattle.model.specs.Calls.{writeRefusal, writeAnswer, writtenOutput}
@@ -29,20 +29,11 @@ use Rattle.coding.proofs.Coders.{payload-of-word}
 use Rattle.fitting.specs.declared.Verdict.{Verdict}
 use Rattle.fitting.specs.declared.Verdict.the-variants as verdict
 use Rattle.fitting.specs.Judged.{lateRefusal, verdictOf, Judged}
+use Rattle.fitting.proofs.Verdicts.{verdict-refused, verdict-curved, verdict-fits}
 use Rattle.work.specs.Letters.{lettersIn}
 use Rattle.writing.specs.Early.{earlyRefusal, Ready, Recorded, Made}
 use Rattle.writing.proofs.Refusing.{refusal-split, early-not-ten, early-parts}
 use Rattle.work.proofs.Letters.{letters-code}
-
-abbrev pub asWritten : ℕ → Verdict → Written
-asWritten n verdict.Fits = written.Length n
-asWritten n (verdict.Refused r) = written.Refused r
-asWritten n (verdict.NotPlanar x) = written.NotPlanar x
-
-abbrev pub isFits : Verdict → Bool
-isFits verdict.Fits = true
-isFits (verdict.Refused r) = false
-isFits (verdict.NotPlanar x) = false
 
 pub turned-away : {k : ℕ} {p : Plan} {w out : List ℕ} {r : ℕ} → r ≡ earlyRefusal k p (length w) (length out) → (r ≢ 0)
     → Made k p w out (written.Refused r) w out
@@ -60,48 +51,28 @@ pub record Told (k : ℕ) (p : Plan) (w out : List ℕ) (v : Verdict) (w₁ : Li
   pub judged : Judged k p w v w₁
 
 module _ {k : ℕ} {p : Plan} {w out : List ℕ} {v : Verdict} {w₁ : List ℕ} (t : Told k p w out v w₁) where
-  abbrev size : ℕ
-  size = recordLength k (edges (p .rotation))
-
-  -- the verdict by the first late refusal
-  abbrev toldBy : Bool → Bool → Verdict
-  toldBy a b = cond a verdict.Fits (cond b (verdict.NotPlanar (characteristic (p .rotation))) (verdict.Refused (lateRefusal k p)))
-
   whole : writeRefusal k p (length w) (length out) ≡ lateRefusal k p
   whole = refusal-split k p (length w) (length out) ∙ rw (t .passed)
 
-  -- writing answers what was judged
-  answer : asWritten size v ≡ writeAnswer k p (length w) (length out)
-  unfolding writeAnswer verdictOf
-  answer = rw (t .judged .answered, whole) (go (eqb (lateRefusal k p) 0) (eqb (lateRefusal k p) 10))
-    where
-      go : (a b : Bool) → asWritten size (toldBy a b)
-          ≡ cond a (written.Length size) (cond b (written.NotPlanar (characteristic (p .rotation))) (written.Refused (lateRefusal k p)))
-      go true b = refl
-      go false true = refl
-      go false false = refl
+  -- the verdict of this form is the plan's
+  found : {u : Verdict} → v ≡ u → u ≡ verdictOf k p
+  found z = sym z ∙ t .judged .answered
 
-  -- the verdict is that it fits exactly where no late refusal holds
-  fits-late : isFits v ≡ eqb (lateRefusal k p) 0
-  unfolding verdictOf
-  fits-late = rw (t .judged .answered) (go (eqb (lateRefusal k p) 0) (eqb (lateRefusal k p) 10))
-    where
-      go : (a b : Bool) → isFits (toldBy a b) ≡ a
-      go true b = refl
-      go false true = refl
-      go false false = refl
+  pub judged-refused : {r : ℕ} → v ≡ verdict.Refused r → Made k p w out (written.Refused r) w₁ out
+  unfolding writeAnswer writtenOutput
+  judged-refused z =
+      let (late, some, other) = verdict-refused k p (found z) in
+      record { answered = rw (whole, some, other) (ap written.Refused (sym late)); filled = rw (whole, some); kept = t .judged .kept }
 
-  pub judged-away : {u : Verdict} → v ≡ u → isFits u ≡ false → Made k p w out (asWritten size u) w₁ out
-  unfolding writtenOutput
-  judged-away {u} z e = record {
-    answered = ap (asWritten size) (sym z) ∙ answer;
-    filled = rw (whole, sym fits-late ∙ ap isFits z ∙ e);
-    kept = t .judged .kept;
-  }
+  pub judged-curved : {x : ℤ} → v ≡ verdict.NotPlanar x → Made k p w out (written.NotPlanar x) w₁ out
+  unfolding writeAnswer writtenOutput
+  judged-curved z =
+      let (late, e) = verdict-curved k p (found z) in
+      record { answered = rw (whole, late) (ap written.NotPlanar e); filled = rw (whole, late); kept = t .judged .kept }
 
-  module _ (z : v ≡ verdict.Fits) where
+  module _ {f : ℕ} (z : v ≡ verdict.Fits f) where
     late : lateRefusal k p ≡ 0
-    late = eqb-true (lateRefusal k p) 0 (sym fits-late ∙ ap isFits z)
+    late = verdict-fits k p (found z) .0
 
     unrefused : writeRefusal k p (length w) (length out) ≡ 0
     unrefused = whole ∙ late

@@ -2,8 +2,11 @@ use mir.Facts.{toZ-ofZ}
 use mir.Syntax.{w32}
 use mir.Val.{SFits}
 use native.Mathlib.Omega.{arith}
+use mathlib.Core.Path.{_≡_}
+use mathlib.Core.Bool.{true}
+use Rattle.model.specs.Map.{is}
 use Rattle.fitting.proofs.Signed.{bits-is, bits-not}
-use Rattle.fitting.proofs.Cases.{Looked, parted, Counted, few-counts, curved, flat}
+use Rattle.fitting.proofs.Cases.{Looked, parted, Counted, few-counts, curved, flat-refused, flat-fits}
 use borrow.Author.Needs.{needs}
 use Rattle.fitting.proofs.judge.Statement.{statement}
 use Rattle.fitting.proofs.judge.Tie as tie
@@ -40,11 +43,19 @@ returns-2 c =
 local-requires : tie.Need-local-requires
 local-requires c κs = let l = counted (c .before .before .before .before) .looked in (l .entries, l .low, l .survey .searched)
 
+-- the characteristic is 2
+flat : (c : tie.After-local) → is (c .before .before .euler .result) 2 ≡ true
+flat c = let x = c .before .before .euler in bits-is (x .result) 2 (omega arith) (small (c .before .before)) (c .before .if2 .left)
+
 returns-3 : tie.Need-returns-3
 returns-3 c =
-    let x = c .before .before .euler in
-    flat (counted (c .before .before .before .before .before)) (x .ensures)
-    (bits-is (x .result) 2 (omega arith) (small (c .before .before)) (c .before .if2 .left)) (c .local .ensures)
+    let l = c .before in
+    flat-refused (counted (l .before .before .before .before .before)) (l .before .before .euler .ensures) (flat l) (l .local .ensures) (c .if3 .taken)
+
+returns-4 : tie.Need-returns-4
+returns-4 c =
+    let l = c .before in
+    flat-fits (counted (l .before .before .before .before .before)) (l .before .before .euler .ensures) (flat l) (l .local .ensures) (c .if3 .left)
 
 pub judge-spec : {M : Type 1} → statement M
 judge-spec =
@@ -54,10 +65,13 @@ judge-spec =
     (λ c. search needs)
     returns
     (λ c. search needs)
+    (λ c. search needs)
     (λ c κs. search needs)
     euler-requires
     (λ c. search needs)
     returns-2
     local-requires
     (λ c. search needs)
-    returns-3)
+    returns-3
+    (λ c. search needs)
+    returns-4)

@@ -1,4 +1,3 @@
-use native.Mathlib.Omega.{arith}
 use Rattle.contour.specs.Steps.{VerticesNamed}
 use Rattle.fitting.proofs.Cases.{vertices-named, surveyed}
 use borrow.Author.Needs.{needs}
@@ -7,8 +6,9 @@ use Rattle.fitting.proofs.surveyed.Tie as tie
 
 -- the vertices are named
 named : (c : tie.After-name) → VerticesNamed (c .before .before .before .before .args .order .now) (c .name .last .1 .1 .0)
-named c = let st = c .before .before .before .before in
-    vertices-named (st .args .order .now) (st .args .w .now) (c .name .result) _ (omega (arith, st .pre .3)) (c .name .ensures)
+named c =
+    let st = c .before .before .before .before in
+    vertices-named (record { rotation = st .args .order .now; root = st .args .root }) _ _ _ (st .pre .3) (c .name .ensures)
 
 loop-refused-requires : tie.Need-loop-refused-requires
 loop-refused-requires c κs = (c .before .before .before .before .before .before .before .pre .0, search needs, named (c .before .before .before))
@@ -22,9 +22,8 @@ returns : tie.Need-returns
 returns c =
     let v = c .before .before .before .before .before .before .before .before .name in
     let room = c .before .before .before .before .before .before .before .before .before .before .before .before .pre .3 in
-    surveyed _ _ _ (v .last .1 .1 .0) _ _ _ _ (omega (arith, room)) (v .ensures) (c .before .before .before .before .loop-refused .ensures)
-    (c .before .before .walk .ensures)
+    surveyed _ _ _ _ room (v .ensures) _ _ _ _ (c .before .before .before .before .loop-refused .ensures) (c .before .before .walk .ensures)
 
 pub surveyed-spec : {M : Type 1} → statement M
 surveyed-spec =
-    tie.close (tie.spec (λ c κs. search needs) loop-refused-requires walk-requires (λ c. search needs) returns)
+    tie.close (tie.spec (λ c. search needs) (λ c κs. search needs) loop-refused-requires walk-requires (λ c. search needs) returns)

@@ -1,9 +1,9 @@
-use mathlib.Core.Path.{refl, sym, _∙_}
+use mathlib.Core.Path.{sym, _∙_}
 use mir.Facts.{toZ-ofZ}
 use mir.Syntax.{w32}
 use mir.Val.{SFits}
 use Rattle.writing.proofs.Refusing.{early-parts}
-use Rattle.writing.proofs.Making.{turned-away, Told, judged-away, to-lay, made}
+use Rattle.writing.proofs.Making.{turned-away, Told, judged-refused, judged-curved, to-lay, made}
 use borrow.Author.Needs.{needs}
 use Rattle.writing.proofs.made.Statement.{statement}
 use Rattle.writing.proofs.made.Tie as tie
@@ -26,12 +26,12 @@ laid-out-requires : tie.Need-laid-out-requires
 laid-out-requires c κs = to-lay (told (c .before .before .before .before .before .before)) (c .before .before .enum-told .given .1)
 
 returns-2 : tie.Need-returns-2
-returns-2 c = judged-away (told (c .before .before .before .before .before)) (c .before .v .given .1) refl
+returns-2 c = judged-refused (told (c .before .before .before .before .before)) (c .before .v .given .1)
 
 returns-3 : tie.Need-returns-3
 returns-3 c =
     let fits : SFits w32 (c .before .v2 .given .0 .0) = record { sfits = c .known-told2 .given .0 .1 } in
-    rw (toZ-ofZ fits) (judged-away (told (c .before .before .before .before .before)) (c .before .v2 .given .1) refl)
+    rw (toZ-ofZ fits) (judged-curved (told (c .before .before .before .before .before)) (c .before .v2 .given .1))
 
 returns-4 : tie.Need-returns-4
 returns-4 c =
