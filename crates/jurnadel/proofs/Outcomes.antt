@@ -2,17 +2,20 @@
 --
 --   write-out             what writing answered, as numbers
 --   read-out              what reading answered, as numbers
+--   measure-out           what measuring answered, as numbers
 --   shelve-out            what shelving answered, as numbers
 use mathlib.Core.Path.{_≡_, sym, ap, _∙_}
 use mathlib.Core.List.{List}
 use Prim.Native.Nat.{ℕ}
 use Rattle.model.specs.declared.Written.{Written}
 use Rattle.model.specs.declared.ReadBack.{ReadBack}
+use Rattle.model.specs.declared.Measured.{Measured}
 use Rattle.model.specs.declared.Shelved.{Shelved}
 use Rattle.model.specs.Map.{Plan}
 use Rattle.model.specs.Calls.{Wrote, ReadCall, Stored, numberOfWritten, lengthOfWritten, characteristicOfWritten, numberOfRead, edgesOfRead}
+use Rattle.model.specs.Calls.{Measures, numberOfMeasured, countOfMeasured, characteristicOfMeasured}
 use Rattle.model.specs.Calls.{numberOfShelved, recordNumberOfShelved, usedOfShelved}
-use Rattle.model.specs.Exports.{WriteExport, ReadExport, ShelveExport}
+use Rattle.model.specs.Exports.{WriteExport, ReadExport, MeasureExport, ShelveExport}
 
 pub write-out : (k : ℕ) (p : Plan) (work out : List ℕ) (a b : Written) (work′ out′ : List ℕ) → Wrote k p work out a work′ out′ → a ≡ b
     → WriteExport k p work out (numberOfWritten b) (lengthOfWritten b) (characteristicOfWritten b) work′ out′
@@ -35,6 +38,18 @@ read-out bytes work out a b work′ out′ c e =
       number-is = ap numberOfRead (sym e);
       edges-are = ap edgesOfRead (sym e);
       cleared = c .cleared;
+    }
+
+pub measure-out : (rot work list : List ℕ) (a b : Measured) (work′ list′ : List ℕ) → Measures rot work list a work′ list′ → a ≡ b
+    → MeasureExport rot work list (numberOfMeasured b) (countOfMeasured b) (characteristicOfMeasured b) work′ list′
+measure-out rot work list a b work′ list′ m e =
+    let z = sym e ∙ m .answered in
+    record {
+      number-is = ap numberOfMeasured z;
+      count-is = ap countOfMeasured z;
+      characteristic-is = ap characteristicOfMeasured z;
+      filled = m .filled;
+      cleared = m .cleared;
     }
 
 pub shelve-out : (bytes shelf : List ℕ) (used : ℕ) (a b : Shelved) (shelf′ : List ℕ) → Stored bytes shelf used a shelf′ → a ≡ b

@@ -1,5 +1,6 @@
 // The calls as exported C functions. Numbers and slices go over as they are, a slice as pointer and length; an answer's values go out through references
 // to numbers. Each function is total: any content and any length of what is lent. But for the sizes nothing is worked out here: each call is that of a crate below.
+use model::Measured;
 use model::ReadBack;
 use model::Shelved;
 use model::Written;
@@ -7,7 +8,7 @@ ghost use mathlib.Core.Path.{_≡_};
 ghost use Prim.Native.Nat.{_*_};
 ghost use lib.ListN.{length, take};
 ghost use Rattle.model.specs.ShelfWalk.{recordAt, Begun};
-ghost use Rattle.model.specs.Exports.{WriteExport, ReadExport, ShelveExport, FetchExport, lengthFor};
+ghost use Rattle.model.specs.Exports.{WriteExport, ReadExport, MeasureExport, ShelveExport, FetchExport, lengthFor};
 
 // ---- sizes
 
@@ -90,6 +91,38 @@ pub extern "C" fn jurnadel_read(
         ReadBack::Refused(number) => {
             *trails = 0;
             number
+        }
+    }
+}
+
+// How many darts each area has goes to the first entries of `list`, areas in the order of their lowest dart, and the number of areas to `count`, 0 if
+// refused; of refusal 10 the characteristic to `characteristic`, else 0.
+#[no_mangle]
+pub extern "C" fn jurnadel_area_lengths(
+    order: &[u16],
+    work: &mut [u16],
+    list: &mut [u16],
+    count: &mut u16,
+    characteristic: &mut i32,
+) -> u16
+    ensures { λ r. ⌜ MeasureExport (now (order .entry)) (now (work .entry)) (now (list .entry)) r (now (count .exit)) (now (characteristic .exit)) (now (work .exit)) (now (list .exit)) ⌝ }
+{
+    let answer = measuring::measure(order, work, list);
+    match answer {
+        Measured::Count(n) => {
+            *count = n;
+            *characteristic = 0;
+            0
+        }
+        Measured::Refused(number) => {
+            *count = 0;
+            *characteristic = 0;
+            number
+        }
+        Measured::NotPlanar(x) => {
+            *count = 0;
+            *characteristic = x;
+            10
         }
     }
 }
