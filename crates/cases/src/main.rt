@@ -1,7 +1,9 @@
-// Writes the plans that documents 01 and 02 leave to a run, plans at their limits and plans that are refused, and prints each answer on a line: the
-// refusal, or the record's length and its bytes, of a long record a checksum. The file stdout has what it must write; tests/cases.py holds it to the second coder.
+// Writes and measures the plans that documents 01 and 02 leave to a run, plans at their limits and plans that are refused, and prints each answer on a line:
+// the refusal; or the record's length and its bytes, of a long record a checksum; or the number of areas and their lengths, of many their sum. The file stdout
+// has what it must write; tests/cases.py holds it to the second coder.
 ghost use Prim.Native.Nat.{_≤_, _<_};
 ghost use lib.ListN.{length};
+use model::Measured;
 use model::Written;
 
 fn next(sum: u32, byte: u8) -> u32
@@ -100,6 +102,70 @@ fn one(name: &[u8], order: &[u16], start: u16, kind: u16, room: usize, space: us
         &mut work[0..room],
         &mut out[0..space],
     );
+}
+
+// The first n lengths.
+fn print_lengths(list: &[u16], n: usize) {
+    let mut i = 0;
+    while i < n && i < list.len() {
+        io::write_all(1, b" ");
+        io::print_decimal(1, list[i] as u64);
+        i += 1;
+    }
+}
+
+// The sum of the first n lengths.
+fn total(list: &[u16], n: u16) -> u32 {
+    let mut sum: u32 = 0;
+    let mut i = 0;
+    while i < n as usize && i < list.len() {
+        sum += list[i] as u32;
+        i += 1;
+    }
+    sum
+}
+
+fn show_areas(n: u16, list: &[u16]) {
+    io::write_all(1, b": areas ");
+    io::print_decimal(1, n as u64);
+    if n <= 16 {
+        io::write_all(1, b", lengths");
+        print_lengths(list, n as usize);
+        return;
+    }
+    io::write_all(1, b", sum ");
+    io::print_decimal(1, total(list, n) as u64);
+}
+
+fn show_measured(name: &[u8], answer: Measured, list: &[u16]) {
+    io::write_all(1, name);
+    match answer {
+        Measured::Count(n) => {
+            show_areas(n, list);
+        }
+        Measured::Refused(number) => {
+            io::write_all(1, b": refusal ");
+            io::print_decimal(1, number as u64);
+        }
+        Measured::NotPlanar(x) => {
+            show_characteristic(x);
+        }
+    }
+    io::write_all(1, b"\n");
+}
+
+fn measure(name: &[u8], order: &[u16], work: &mut [u16], list: &mut [u16]) {
+    let answer = measuring::measure(order, work, list);
+    show_measured(name, answer, list);
+}
+
+// The plan is measured, with a work area and a list of these lengths.
+fn measured(name: &[u8], order: &[u16], room: usize, space: usize)
+    requires { ⌜ (room ≤ 131072) × (space ≤ 4097) ⌝ }
+{
+    let mut work = [7u16; 131072];
+    let mut list = [9u16; 4097];
+    measure(name, order, &mut work[0..room], &mut list[0..space]);
 }
 
 // The dart so many places further: `even` from an even one, `odd` from an odd one.
@@ -211,6 +277,34 @@ fn any_plan() {
     one(b"order 3 2 4 5 1 0", &[3, 2, 4, 5, 1, 0], 0, 4, 96, 2054);
 }
 
+// How long each area is.
+fn areas() {
+    let triangle = [5u16, 2, 1, 4, 3, 0];
+    measured(b"order 5 2 1 4 3 0", &triangle, 96, 4097);
+    measured(b"order 0 1", &[0, 1], 32, 4097);
+    measured(b"order 1 0", &[1, 0], 32, 4097);
+    measured(b"order 0 2 5 4 3 1", &[0, 2, 5, 4, 3, 1], 96, 4097);
+    measured(b"order 4 2 1 0 3 5", &[4, 2, 1, 0, 3, 5], 96, 4097);
+    measured(b"order 0, work area 0, list 0", &[0], 0, 0);
+    measured(b"order 1 1, work area 0, list 0", &[1, 1], 0, 0);
+    measured(b"order 5 2 1 4 3 0, work area 95, list 0", &triangle, 95, 0);
+    measured(b"order 0 1 2 3, list 0", &[0, 1, 2, 3], 64, 0);
+    measured(b"order 3 2 4 5 1 0, list 0", &[3, 2, 4, 5, 1, 0], 96, 0);
+    measured(b"order 5 2 1 4 3 0, list 1", &triangle, 96, 1);
+    measured(b"order 5 2 1 4 3 0, list 2", &triangle, 96, 2);
+}
+
+fn large_areas() {
+    let mut order = [0u16; 8192];
+    turning(&mut order, 8191, 1);
+    measured(b"ring of 4096 trails", &order, 131072, 2);
+    turning(&mut order, 2, 0);
+    measured(b"star of 4096 trails", &order, 131072, 1);
+    turning(&mut order, 1, 1);
+    measured(b"loops of 4096 trails", &order, 131072, 4097);
+    measured(b"loops of 4096 trails, list 4096", &order, 131072, 4096);
+}
+
 fn main() {
     small();
     spur();
@@ -219,4 +313,6 @@ fn main() {
     short();
     counts();
     large();
+    areas();
+    large_areas();
 }
