@@ -53,9 +53,9 @@ extern "C" {
 /* ---- Version ---------------------------------------------------------------------- */
 
 #define JURNADEL_VERSION_MAJOR 0
-#define JURNADEL_VERSION_MINOR 4
+#define JURNADEL_VERSION_MINOR 5
 #define JURNADEL_VERSION_PATCH 0
-#define JURNADEL_VERSION "0.4.0"
+#define JURNADEL_VERSION "0.5.0"
 
 /* ---- Sizes ------------------------------------------------------------------------ */
 
@@ -63,13 +63,16 @@ extern "C" {
 #define JURNADEL_MAX_TRAILS 4096
 #define JURNADEL_MAX_DARTS (2 * JURNADEL_MAX_TRAILS)
 
-/* Lengths are what the calls take: work areas and turning orders count 16-bit numbers, records count bytes. */
+/* Lengths are what the calls take: work areas, turning orders and lists of areas count 16-bit numbers, records count bytes. */
 
 /* The work area for m trails: 32m numbers, 64m bytes. */
 #define JURNADEL_WORK_LEN(m) ((size_t)32 * (m))
 
 /* The turning order of m trails: 2m numbers, 4m bytes. */
 #define JURNADEL_ORDER_LEN(m) ((size_t)2 * (m))
+
+/* The areas of m trails: m + 1 numbers at most, 2m + 2 bytes. */
+#define JURNADEL_AREAS_LEN(m) ((size_t)(m) + 1)
 
 /*
  * A record of this kind (1, 2 or 4) and m trails (1 to 4,096), in bytes. Kind 4 is the longest, but for 1, 2 and 6 trails,
@@ -83,6 +86,7 @@ extern "C" {
 /* Lengths that serve every plan and every record. */
 #define JURNADEL_MAX_WORK_LEN JURNADEL_WORK_LEN(JURNADEL_MAX_TRAILS)        /* 131,072 numbers, 262,144 bytes */
 #define JURNADEL_MAX_ORDER_LEN JURNADEL_ORDER_LEN(JURNADEL_MAX_TRAILS)      /* 8,192 numbers, 16,384 bytes */
+#define JURNADEL_MAX_AREAS_LEN JURNADEL_AREAS_LEN(JURNADEL_MAX_TRAILS)      /* 4,097 numbers, 8,194 bytes */
 #define JURNADEL_MAX_RECORD_LEN JURNADEL_RECORD_LEN(4, JURNADEL_MAX_TRAILS) /* 2,054 bytes */
 
 /* The same as functions, for callers that know kind and m only when they run. */
@@ -93,7 +97,7 @@ size_t jurnadel_work_length(uint16_t trails);
 /* The record, in bytes; 0 where there is none: the kind is not 1, 2 or 4, or trails is 0 or above 4,096. */
 uint16_t jurnadel_record_length(uint16_t kind, uint16_t trails);
 
-/* ---- Refusals, in checking order -------------------------------------------------- */
+/* ---- Refusals --------------------------------------------------------------------- */
 
 enum {
     JURNADEL_DONE = 0,            /* not refused */
@@ -104,7 +108,7 @@ enum {
     JURNADEL_BAD_LENGTH = 5,      /* The length is not the one for this kind and m. */
     JURNADEL_BAD_ENTRY = 6,       /* An entry of the turning order is not below the dart count, or two entries are equal. */
     JURNADEL_SHORT_WORK = 7,      /* The work area (16-bit numbers) is shorter than 32 x m. */
-    JURNADEL_SHORT_OUTPUT = 8,    /* The output is shorter than the record, or than 2m entries. */
+    JURNADEL_SHORT_OUTPUT = 8,    /* The output is shorter than the record, than 2m entries, or than the list of areas. */
     JURNADEL_NOT_CONNECTED = 9,   /* The plan is not connected. */
     JURNADEL_NOT_PLANAR = 10,     /* It is not planar; this answer also gives the characteristic, as a signed number. */
     JURNADEL_HAS_LOOP = 11,       /* Kind 1 or 2, and it has a loop. */
@@ -150,6 +154,24 @@ uint16_t jurnadel_write(const uint16_t *order, size_t darts, uint16_t start, uin
 uint16_t jurnadel_read(const uint8_t *record, size_t record_len,
                        uint16_t *work, size_t work_len, uint16_t *order, size_t order_len,
                        uint16_t *trails);
+
+/*
+ * Tells how long each area of a plan is: the number of its darts. So many trails has a walk
+ * along its border; a trail that has the area on both sides is walked twice. Areas come in
+ * the order of their lowest darts.
+ *
+ *   order, darts         the turning order, darts = 2m entries; it needs no start
+ *   work, work_len       JURNADEL_WORK_LEN(m) numbers or more, any content; zeros on return
+ *   list, list_len       a number for each area; JURNADEL_AREAS_LEN(m) always serve; the first *count are filled
+ *   count                how many areas there are; 0 if refused
+ *   characteristic       of refusal 10: junctions minus trails plus areas; else 0
+ *
+ * Refusals: 3, 6, 7, 9, 10, then 8. The number of areas is m + 2 minus that of the junctions;
+ * their lengths add up to 2m.
+ */
+uint16_t jurnadel_area_lengths(const uint16_t *order, size_t darts,
+                               uint16_t *work, size_t work_len, uint16_t *list, size_t list_len,
+                               uint16_t *count, int32_t *characteristic);
 
 /* ---- Shelves ---------------------------------------------------------------------- */
 

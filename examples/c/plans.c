@@ -1,5 +1,5 @@
-/* Writes plans, reads one back, shelves them, fetches one and walks the shelf.
-   Memory: three lent buffers, sized by the header's macros for plans of at most 8 trails. */
+/* Writes plans, shelves them, fetches one, reads it back, measures its areas and walks the shelf.
+   Memory: four lent buffers, sized by the header's macros for plans of at most 8 trails. */
 #include "jurnadel.h"
 #include <stdio.h>
 
@@ -7,12 +7,19 @@
 
 static uint16_t work[JURNADEL_WORK_LEN(MAX_TRAILS)];
 static uint16_t order[JURNADEL_ORDER_LEN(MAX_TRAILS)];
+static uint16_t areas[JURNADEL_AREAS_LEN(MAX_TRAILS)];
 static uint8_t record[JURNADEL_RECORD_LEN(4, MAX_TRAILS)];
 static uint8_t shelf[64];
 
 static void show(const uint8_t *bytes, size_t length) {
     for (size_t i = 0; i < length; i++)
         printf(" %02X", bytes[i]);
+    printf("\n");
+}
+
+static void list(const uint16_t *numbers, size_t count) {
+    for (size_t i = 0; i < count; i++)
+        printf(" %d", (int)numbers[i]);
     printf("\n");
 }
 
@@ -27,7 +34,7 @@ int main(void) {
         {"trails that cross", 4, 6, {3, 2, 4, 5, 1, 0}},
     };
     size_t used = 0, number, at, length;
-    uint16_t record_length, trails;
+    uint16_t record_length, trails, count;
     int32_t characteristic;
 
     for (size_t i = 0; i < sizeof plans / sizeof plans[0]; i++) {
@@ -54,9 +61,12 @@ int main(void) {
     if (jurnadel_read(shelf + at, length, work, sizeof work / sizeof work[0], order, sizeof order / sizeof order[0], &trails) != 0)
         return 1;
     printf("read 1: %d trails, order", (int)trails);
-    for (size_t d = 0; d < 2 * (size_t)trails; d++)
-        printf(" %d", (int)order[d]);
-    printf("\n");
+    list(order, JURNADEL_ORDER_LEN(trails));
+    if (jurnadel_area_lengths(order, JURNADEL_ORDER_LEN(trails), work, sizeof work / sizeof work[0],
+                              areas, sizeof areas / sizeof areas[0], &count, &characteristic) != 0)
+        return 1;
+    printf("its %d areas, by trails walked along:", (int)count);
+    list(areas, count);
 
     if (jurnadel_walk_begin(shelf, sizeof shelf, used, 1, &at) != 0)
         return 1;

@@ -13,16 +13,17 @@ static int failed, passed;
     } while (0)
 
 /* Dirty, as a maker's memory is; sized by the macros. */
-static uint16_t work[JURNADEL_MAX_WORK_LEN], order[JURNADEL_MAX_ORDER_LEN];
+static uint16_t work[JURNADEL_MAX_WORK_LEN], order[JURNADEL_MAX_ORDER_LEN], list[JURNADEL_MAX_AREAS_LEN];
 static uint8_t output[JURNADEL_MAX_RECORD_LEN];
-static uint16_t length, trails;
+static uint16_t length, trails, count;
 static int32_t characteristic;
 
 static void dirty(void) {
     memset(work, 0x5a, sizeof work);
     memset(order, 0x5a, sizeof order);
+    memset(list, 0x5a, sizeof list);
     memset(output, 0xa5, sizeof output);
-    length = trails = 0x5a5a;
+    length = trails = count = 0x5a5a;
     characteristic = 0x5a5a;
 }
 
@@ -158,6 +159,66 @@ static void reading(void) {
     CHECK(reads(record, 7, 32, 2) == JURNADEL_NO_FIT_PLAN);
 }
 
+/* Whether the list is these areas, and untouched past them. */
+static int listed(const uint16_t *lengths, size_t n) {
+    size_t i;
+    if (count != n) return 0;
+    for (i = 0; i < JURNADEL_MAX_AREAS_LEN; i++)
+        if (list[i] != (i < n ? lengths[i] : 0x5a5a)) return 0;
+    return 1;
+}
+
+static uint16_t areas_of(const uint16_t *rotation, size_t darts, size_t work_len, size_t list_len) {
+    uint16_t refusal;
+    dirty();
+    refusal = jurnadel_area_lengths(rotation, darts, work, work_len, list, list_len, &count, &characteristic);
+    CHECK(cleared(work_len));
+    CHECK(refusal == 0 || listed(NULL, 0));
+    CHECK(refusal == JURNADEL_NOT_PLANAR || characteristic == 0);
+    return refusal;
+}
+
+static void areas(void) {
+    static const struct { size_t m; uint16_t order[6]; size_t count; uint16_t lengths[2]; } table[] = {
+        {3, {5, 2, 1, 4, 3, 0}, 2, {3, 3}},
+        {1, {0, 1}, 1, {2}},
+        {1, {1, 0}, 2, {1, 1}},
+        {3, {0, 2, 5, 4, 3, 1}, 2, {4, 2}},
+        {3, {4, 2, 1, 0, 3, 5}, 2, {2, 4}},
+    };
+    static const uint16_t apart[] = {0, 1, 2, 3}, crossing[] = {3, 2, 4, 5, 1, 0}, twice[] = {3, 3, 1, 0}, high[] = {4, 2, 1, 0};
+    static uint16_t tree[JURNADEL_MAX_DARTS], loops[JURNADEL_MAX_DARTS];
+    static const uint16_t whole = JURNADEL_MAX_DARTS;
+    const uint16_t *triangle = table[0].order;
+    size_t i, d;
+    for (i = 0; i < sizeof table / sizeof table[0]; i++) {
+        CHECK(areas_of(table[i].order, 2 * table[i].m, JURNADEL_WORK_LEN(table[i].m), JURNADEL_AREAS_LEN(table[i].m)) == JURNADEL_DONE);
+        CHECK(listed(table[i].lengths, table[i].count));
+        CHECK(areas_of(table[i].order, 2 * table[i].m, JURNADEL_MAX_WORK_LEN, table[i].count) == JURNADEL_DONE);
+        CHECK(listed(table[i].lengths, table[i].count));
+        CHECK(areas_of(table[i].order, 2 * table[i].m, JURNADEL_WORK_LEN(table[i].m), table[i].count - 1) == JURNADEL_SHORT_OUTPUT);
+    }
+    /* Each refusal before those that come after it. */
+    CHECK(areas_of(twice, 3, 0, 0) == JURNADEL_BAD_COUNT);
+    CHECK(areas_of(twice, 0, 0, 0) == JURNADEL_BAD_COUNT);
+    CHECK(areas_of(twice, 4, 0, 0) == JURNADEL_BAD_ENTRY);
+    CHECK(areas_of(high, 4, 0, 0) == JURNADEL_BAD_ENTRY);
+    CHECK(areas_of(apart, 4, 63, 0) == JURNADEL_SHORT_WORK);
+    CHECK(areas_of(crossing, 6, 95, 0) == JURNADEL_SHORT_WORK);
+    CHECK(areas_of(apart, 4, 64, 0) == JURNADEL_NOT_CONNECTED);
+    CHECK(areas_of(crossing, 6, 96, 0) == JURNADEL_NOT_PLANAR && characteristic == 0);
+    CHECK(areas_of(triangle, 6, 96, 0) == JURNADEL_SHORT_OUTPUT);
+    /* The longest area, and the most areas: 4,096 dead ends at one junction, and 4,096 loops beside each other. */
+    for (d = 0; d < JURNADEL_MAX_DARTS; d++) {
+        tree[d] = (uint16_t)(d % 2 ? d : (d + 2) % JURNADEL_MAX_DARTS);
+        loops[d] = (uint16_t)((d + 1) % JURNADEL_MAX_DARTS);
+    }
+    CHECK(areas_of(tree, JURNADEL_MAX_DARTS, JURNADEL_MAX_WORK_LEN, 1) == JURNADEL_DONE && listed(&whole, 1));
+    CHECK(areas_of(loops, JURNADEL_MAX_DARTS, JURNADEL_MAX_WORK_LEN, JURNADEL_MAX_AREAS_LEN) == JURNADEL_DONE);
+    CHECK(count == JURNADEL_MAX_AREAS_LEN && list[0] == JURNADEL_MAX_TRAILS && list[1] == 1 && list[count - 1] == 1);
+    CHECK(areas_of(loops, JURNADEL_MAX_DARTS, JURNADEL_MAX_WORK_LEN, JURNADEL_MAX_TRAILS) == JURNADEL_SHORT_OUTPUT);
+}
+
 static void shelves(void) {
     static const uint8_t pair[] = {7, 0, 1, 0, 2, 0, 0xC8}, stick[] = {8, 0, 2, 0, 1, 0, 0x80, 0xA2}, odd[] = {7, 0, 1, 0, 2, 0, 0xC9};
     uint8_t shelf[16];
@@ -199,8 +260,9 @@ static void sizes(void) {
     CHECK(JURNADEL_MAX_TRAILS == 4096 && JURNADEL_MAX_DARTS == 8192);
     CHECK(JURNADEL_MAX_WORK_LEN == 131072 && sizeof work == 262144);
     CHECK(JURNADEL_MAX_ORDER_LEN == 8192 && sizeof order == 16384);
+    CHECK(JURNADEL_MAX_AREAS_LEN == 4097 && sizeof list == 8194);
     CHECK(JURNADEL_MAX_RECORD_LEN == 2054 && sizeof output == 2054);
-    CHECK(JURNADEL_WORK_LEN(3) == 96 && JURNADEL_ORDER_LEN(3) == 6);
+    CHECK(JURNADEL_WORK_LEN(3) == 96 && JURNADEL_ORDER_LEN(3) == 6 && JURNADEL_AREAS_LEN(3) == 4);
 }
 
 static void version(void) {
@@ -214,6 +276,7 @@ int main(void) {
     writing();
     longest();
     reading();
+    areas();
     shelves();
     sizes();
     version();

@@ -1,10 +1,11 @@
-//! A program without std and without a heap, over the crate without its features: writes, reads, shelves, fetches and walks in
-//! lent buffers, and prints a refusal's text. Its exit status is the number of the first step that fails, or 0.
+//! A program without std and without a heap, over the crate without its features: writes, reads, measures areas, shelves,
+//! fetches and walks in lent buffers, and prints a refusal's text. Its exit status is the number of the first step that fails,
+//! or 0.
 #![no_std]
 #![no_main]
 
 use core::fmt::{self, Write};
-use jurnadel::{fetch, read, shelve, walk, write, Refusal};
+use jurnadel::{area_lengths, fetch, read, shelve, walk, write, Refusal};
 
 #[panic_handler]
 fn panicked(_: &core::panic::PanicInfo) -> ! {
@@ -31,13 +32,15 @@ fn prints(refusal: Refusal, text: &str) -> bool {
 }
 
 fn steps() -> Result<bool, Refusal> {
-    let (mut work, mut record, mut order, mut shelf) = ([7; 96], [0; 8], [0; 6], [0; 16]);
+    let (mut work, mut record, mut order, mut shelf, mut list) = ([7; 96], [0; 8], [0; 6], [0; 16], [0; 2]);
     let length = write(&[5, 2, 1, 4, 3, 0], 0, 1, &mut work, &mut record)?;
     let trails = read(&record[..length], &mut work, &mut order)?;
+    let areas = area_lengths(&order, &mut work, &mut list)?;
     let shelved = shelve(&record, &mut shelf, 0)?;
     let fetched = fetch(&shelf, shelved.used, shelved.number)?;
     let walked = walk(&shelf, shelved.used, 0)?.count();
-    Ok(trails == 3 && order == [5, 2, 1, 4, 3, 0] && fetched == record && walked == 1)
+    let told = trails == 3 && order == [5, 2, 1, 4, 3, 0] && areas == 2 && list == [3, 3];
+    Ok(told && fetched == record && walked == 1)
 }
 
 #[no_mangle]

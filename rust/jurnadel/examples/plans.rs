@@ -1,9 +1,14 @@
-//! Writes plans, reads one back, shelves them, fetches one and walks the shelf; prints what `examples/c/plans.c` does.
+//! Writes plans, shelves them, fetches one, reads it back, measures its areas and walks the shelf; prints what
+//! `examples/c/plans.c` does.
 
-use jurnadel::{fetch, plan_of, record_of, shelve, walk, Refusal};
+use jurnadel::{areas_of, fetch, plan_of, record_of, shelve, walk, Refusal};
 
 fn hex(bytes: &[u8]) -> String {
     bytes.iter().map(|byte| format!(" {byte:02X}")).collect()
+}
+
+fn list(numbers: &[u16]) -> String {
+    numbers.iter().map(|number| format!(" {number}")).collect()
 }
 
 fn main() -> Result<(), Refusal> {
@@ -37,8 +42,9 @@ fn main() -> Result<(), Refusal> {
     let record = fetch(&shelf, used, 1)?;
     println!("fetched 1:{}", hex(record));
     let order = plan_of(record)?;
-    let entries: String = order.iter().map(|entry| format!(" {entry}")).collect();
-    println!("read 1: {} trails, order{entries}", order.len() / 2);
+    println!("read 1: {} trails, order{}", order.len() / 2, list(&order));
+    let areas = areas_of(&order)?;
+    println!("its {} areas, by trails walked along:{}", areas.len(), list(&areas));
 
     for (number, record) in (1..).zip(walk(&shelf, used, 1)?) {
         println!("walked to {number}:{}", hex(record));

@@ -5,8 +5,8 @@
 //! one dart. A record is the plan in about 3 bits a trail (kind 1: no loop, and no dead end but the start), 3.6 (kind 2: no
 //! loop) or 4 (kind 4: any connected planar plan); a shelf is records end to end, of any kinds.
 //!
-//! [`write()`], [`read()`], [`shelve()`], [`fetch()`] and [`walk()`] are the library's calls on lent buffers, one for one:
-//! no allocation, no state. `record_of` and `plan_of` allocate what they need.
+//! [`write()`], [`read()`], [`area_lengths()`], [`shelve()`], [`fetch()`] and [`walk()`] are the library's calls on lent
+//! buffers, one for one: no allocation, no state. `record_of`, `plan_of` and `areas_of` allocate what they need.
 //!
 //! ```
 //! let (mut work, mut record, mut order) = ([0; 96], [0; 8], [0; 6]);
@@ -25,7 +25,7 @@
 //!
 //! The crate is `no_std`. Its features:
 //!
-//! * `alloc`: `record_of` and `plan_of`;
+//! * `alloc`: `record_of`, `plan_of` and `areas_of`;
 //! * `std`, the default: `alloc`, for programs over std. Nothing else in the crate needs std.
 //!
 //! The library's functions are proved for every input. Not proved: the compiler's back end, this crate and its C
@@ -43,7 +43,7 @@ mod refusal;
 pub mod sys;
 
 #[cfg(feature = "alloc")]
-pub use owned::{plan_of, record_of};
+pub use owned::{areas_of, plan_of, record_of};
 pub use refusal::Refusal;
 
 /// The most trails that a plan has.
@@ -54,6 +54,9 @@ pub const MAX_WORK_LENGTH: usize = 131_072;
 
 /// A turning order that holds every plan, in 16-bit numbers; in bytes it is 16,384.
 pub const MAX_ORDER_LENGTH: usize = 8192;
+
+/// A list that holds the areas of every plan, in 16-bit numbers; in bytes it is 8,194.
+pub const MAX_AREAS_LENGTH: usize = 4097;
 
 /// The most bytes that a record has.
 pub const MAX_RECORD_LENGTH: usize = 2054;
@@ -162,6 +165,41 @@ pub fn read(record: &[u8], work: &mut [u16], order: &mut [u16]) -> Result<usize,
         )
     };
     settle(refusal, 0, usize::from(trails))
+}
+
+/// Fills the first entries of `list` with the length of each area of a plan, and returns how many areas there are.
+///
+/// An area is as long as it has darts: so many trails has a walk along its border. Areas come in the order of their lowest
+/// darts. Their lengths add up to 2m, and a list of m + 1 numbers always serves. `work` has [`work_length`] numbers or more,
+/// of any content; it is zeros on return.
+///
+/// # Errors
+///
+/// Refusals 3, 6, 7, 9, 10, then 8. A refused call leaves `list` untouched.
+///
+/// ```
+/// // A trail from the start to a pair of trails: the area around them, and the one between them.
+/// let mut work = [0; 96];
+/// let mut list = [0; 4];
+/// assert_eq!(jurnadel::area_lengths(&[0, 2, 5, 4, 3, 1], &mut work, &mut list), Ok(2));
+/// assert_eq!(list, [4, 2, 0, 0]);
+/// ```
+pub fn area_lengths(order: &[u16], work: &mut [u16], list: &mut [u16]) -> Result<usize, Refusal> {
+    let (mut count, mut characteristic) = (0, 0);
+    // SAFETY: as in `write`.
+    let refusal = unsafe {
+        sys::jurnadel_area_lengths(
+            order.as_ptr(),
+            order.len(),
+            work.as_mut_ptr(),
+            work.len(),
+            list.as_mut_ptr(),
+            list.len(),
+            &mut count,
+            &mut characteristic,
+        )
+    };
+    settle(refusal, characteristic, usize::from(count))
 }
 
 /// The answer of [`shelve()`].

@@ -1,6 +1,6 @@
 //! The calls with buffers of their own.
 
-use crate::{read, record_length, work_length, write, Refusal, MAX_TRAILS};
+use crate::{area_lengths, read, record_length, work_length, write, Refusal, MAX_TRAILS};
 use alloc::{vec, vec::Vec};
 
 /// The number of trails of a plan with this turning order, as far as the library asks: at most one more than the most.
@@ -53,4 +53,26 @@ pub fn plan_of(record: &[u8]) -> Result<Vec<u16>, Refusal> {
     let trails = read(record, &mut work, &mut order)?;
     order.truncate(2 * trails);
     Ok(order)
+}
+
+/// The length of each area of a plan, by [`area_lengths()`] with buffers of its own.
+///
+/// # Errors
+///
+/// Refusals 3, 6, 9, 10.
+///
+/// ```
+/// assert_eq!(jurnadel::areas_of(&[5, 2, 1, 4, 3, 0])?, [3, 3]);
+/// assert_eq!(jurnadel::areas_of(&[0, 1])?, [2]);
+/// assert_eq!(jurnadel::areas_of(&[1, 0])?, [1, 1]);
+/// assert_eq!(jurnadel::areas_of(&[3, 2, 4, 5, 1, 0]).unwrap_err().characteristic(), Some(0));
+/// # Ok::<(), jurnadel::Refusal>(())
+/// ```
+pub fn areas_of(order: &[u16]) -> Result<Vec<u16>, Refusal> {
+    let trails = trails_of(order);
+    let mut work = vec![0; work_length(trails)];
+    let mut list = vec![0; usize::from(trails) + 1];
+    let count = area_lengths(order, &mut work, &mut list)?;
+    list.truncate(count);
+    Ok(list)
 }

@@ -31,7 +31,7 @@ refusals! {
     BAD_LENGTH = 5: "The length is not the one for this kind and m.",
     BAD_ENTRY = 6: "An entry of the turning order is not below the dart count, or two entries are equal.",
     SHORT_WORK = 7: "The work area (16-bit numbers) is shorter than 32 x m.",
-    SHORT_OUTPUT = 8: "The output is shorter than the record, or than 2m entries.",
+    SHORT_OUTPUT = 8: "The output is shorter than the record, than 2m entries, or than the list of areas.",
     NOT_CONNECTED = 9: "The plan is not connected.",
     NOT_PLANAR = 10: "It is not planar.",
     HAS_LOOP = 11: "Kind 1 or 2, and it has a loop.",

@@ -26,6 +26,16 @@ extern "C" {
         order_len: usize,
         trails: *mut u16,
     ) -> u16;
+    pub fn jurnadel_area_lengths(
+        order: *const u16,
+        darts: usize,
+        work: *mut u16,
+        work_len: usize,
+        list: *mut u16,
+        list_len: usize,
+        count: *mut u16,
+        characteristic: *mut i32,
+    ) -> u16;
     pub fn jurnadel_shelve(
         record: *const u8,
         record_len: usize,

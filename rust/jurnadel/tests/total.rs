@@ -104,6 +104,32 @@ fn plans_and_records() {
 }
 
 #[test]
+fn areas() {
+    let mut numbers = Numbers(424);
+    let (mut listed, mut short) = (0, 0);
+    for _ in 0..20_000 {
+        let order = numbers.order();
+        let (mut work, mut list) = (vec![7; numbers.below(200)], vec![9; numbers.below(8)]);
+        let answer = jurnadel::area_lengths(&order, &mut work, &mut list);
+        met(answer, &[3, 6, 7, 8, 9, 10]);
+        assert!(work.iter().all(|&number| number == 0));
+        assert!(list[answer.unwrap_or(0)..].iter().all(|&entry| entry == 9));
+        let lengths = met(jurnadel::areas_of(&order), &[3, 6, 9, 10]);
+        match answer {
+            Ok(count) => assert_eq!(lengths.as_deref(), Some(&list[..count])),
+            Err(refusal) if refusal.number() == Refusal::SHORT_OUTPUT => short += 1,
+            Err(_) => {}
+        }
+        if let Some(lengths) = lengths {
+            assert!(lengths.len() <= order.len() / 2 + 1);
+            assert_eq!(lengths.iter().map(|&length| usize::from(length)).sum::<usize>(), order.len());
+            listed += 1;
+        }
+    }
+    assert!(listed > 100 && short > 100, "{listed} plans, {short} lists too short");
+}
+
+#[test]
 fn shelves() {
     let mut numbers = Numbers(1105);
     let mut shelved = 0;
@@ -134,4 +160,5 @@ fn sizes() {
     assert_eq!(lengths.into_iter().flatten().max(), Some(jurnadel::MAX_RECORD_LENGTH));
     assert!(KINDS.iter().all(|&kind| jurnadel::record_length(kind, jurnadel::MAX_TRAILS + 1).is_none()));
     assert_eq!(jurnadel::MAX_ORDER_LENGTH, 2 * usize::from(jurnadel::MAX_TRAILS));
+    assert_eq!(jurnadel::MAX_AREAS_LENGTH, usize::from(jurnadel::MAX_TRAILS) + 1);
 }
