@@ -35,8 +35,9 @@ fn run(words: &[Word], report: &mut Report) -> Done {
     } else if options.has("--record") {
         format!("{}\n", record_file::to_hex(&shelf_file::record(path, wanted)?)).into_bytes()
     } else {
-        let (plan, _) = source::of_shelf(path, wanted)?;
-        plan_text(&plan, options.has("--junctions")).into_bytes()
+        let (plan, name) = source::of_shelf(path, wanted)?;
+        let text = plan_text(&plan, options.has("--junctions"));
+        text.map_err(|refusal| plan.problem(name, refusal))?.into_bytes()
     };
     put_out(&options, std::slice::from_ref(path), &output, report)
 }

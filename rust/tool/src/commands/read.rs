@@ -41,7 +41,7 @@ fn run(words: &[Word], report: &mut Report) -> Done {
     let path = if options.words.is_empty() { &input } else { options.only("RECORD")? };
     let (record, line) = record_file::load(path, options.has("--raw"))?;
     let place = line.map_or(path.to_string(), |line| format!("{path}:{line}"));
-    let plan = Plan::of_record(&record).map_err(|refusal| Problem::refused(place, refusal))?;
-    let text = plan_text(&plan, options.has("--junctions"));
+    let text = Plan::of_record(&record).and_then(|plan| plan_text(&plan, options.has("--junctions")));
+    let text = text.map_err(|refusal| Problem::refused(place, refusal))?;
     put_out(&options, std::slice::from_ref(path), text.as_bytes(), report)
 }

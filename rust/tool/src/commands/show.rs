@@ -12,9 +12,11 @@ const HELP: &str = "\
 usage: jurnadel show [--junctions | --numbers] [-o FILE [--force]] PLAN | RECORD
                      | SHELF NUMBER
 
-Prints a plan as a plan file, with its numbers of junctions, trails and areas as
-a comment. It may stand in a plan file of either form, in a record (in
-hexadecimal or as bytes) or on a shelf; - is standard input.
+Prints a plan as a plan file. Its comments tell how many junctions, trails and
+areas the plan has, and how many areas of each length. The length is that of a
+walk along the area's border, in trails; a trail that has the area on both sides
+is walked twice. The plan may stand in a plan file of either form, in a record
+(in hexadecimal or as bytes) or on a shelf; - is standard input.
 
   --junctions   by junctions (this is taken if nothing is said); without names
                 of its own the plan gets A, B, .. for its junctions and a, b, ..
@@ -28,7 +30,7 @@ fn run(words: &[Word], report: &mut Report) -> Done {
     let options = Options::parse(words, &["--junctions", "--numbers", "--force"], &["-o"])?;
     options.not_both("--junctions", "--numbers")?;
     let (plan, name) = source::load(&options.words)?;
-    plan.sound().map_err(|refusal| plan.problem(name, refusal))?;
-    let text = plan_text(&plan, !options.has("--numbers"));
+    let text = plan.sound().and_then(|()| plan_text(&plan, !options.has("--numbers")));
+    let text = text.map_err(|refusal| plan.problem(name, refusal))?;
     put_out(&options, &options.words[..1], text.as_bytes(), report)
 }

@@ -154,6 +154,11 @@ pub fn in_kind<T>(kind: Option<u16>, mut write: impl FnMut(u16) -> Result<T, Ref
     }
 }
 
+/// Comments as lines of a plan file, a line each.
+fn commented(comments: &[&str]) -> String {
+    comments.iter().map(|comment| format!("# {}\n", comment.replace(char::is_control, " "))).collect()
+}
+
 /// The lines of a plan file that say something, without comments, each with its number.
 struct Lines<'a> {
     /// What the line `start:` says.

@@ -2,7 +2,7 @@
 
 use super::*;
 use crate::growing::{self, Random, Shape};
-use crate::shape::junctions;
+use crate::shape::{areas, junctions};
 
 /// A random plan with this many trails, perhaps with loops.
 fn plan(random: &mut Random, trails: usize) -> Plan {
@@ -50,14 +50,28 @@ fn one_form_and_the_other() {
         let trails = if turn == 0 { 4096 } else { 1 + random.below(40) };
         let plan = plan(&mut random, trails);
         assert_eq!(plan.sound(), Ok(()));
-        let named = Plan::parse(&junctions_text("", &plan)).unwrap();
-        let again = Plan::parse(&text("", &named.order, named.start)).unwrap();
-        let kept = Plan::parse(&junctions_text("", &named)).unwrap();
+        let named = Plan::parse(&junctions_text(&[], &plan)).unwrap();
+        let again = Plan::parse(&text(&[], &named.order, named.start)).unwrap();
+        let kept = Plan::parse(&junctions_text(&[], &named)).unwrap();
         for other in [&named, &again, &kept] {
             assert_eq!(renumbered(other), renumbered(&plan));
             assert_eq!(other.record(None), plan.record(None));
         }
-        assert_eq!(junctions_text("", &kept), junctions_text("", &plan));
+        assert_eq!(junctions_text(&[], &kept), junctions_text(&[], &plan));
+    }
+}
+
+/// The areas that pictures are made of have the lengths that the library gives.
+#[test]
+fn areas_of_the_library() {
+    let mut random = Random(4);
+    for turn in 0..1000 {
+        let trails = if turn == 0 { 4096 } else { 1 + random.below(40) };
+        let order = plan(&mut random, trails).order;
+        let areas = areas(&order);
+        let mut lengths = vec![0; areas.count()];
+        areas.of.iter().for_each(|&area| lengths[area] += 1);
+        assert_eq!(jurnadel::areas_of(&order), Ok(lengths));
     }
 }
 
