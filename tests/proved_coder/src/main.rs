@@ -10,9 +10,8 @@ mod words;
 
 use jurnadel::sys;
 use lent::Lent;
-use std::fmt::Write as _;
 use std::io::{self, BufRead, BufReader, BufWriter, Write as _};
-use words::{to_hex, Words};
+use words::{spaced, to_hex, Words};
 
 /// What stands in work areas and outputs before a call.
 const NUMBER: u16 = 0x5A5A;
@@ -45,6 +44,7 @@ fn answer_to(line: &str) -> Option<String> {
     let answer = match words.next()? {
         "write" => asked_write(words)?,
         "read" => asked_read(words)?,
+        "areas" => asked_areas(words)?,
         "shelve" => asked_shelve(words)?,
         "fetch" => asked_of_shelf(fetch, words)?,
         "walk" => asked_of_shelf(walk, words)?,
@@ -68,6 +68,13 @@ fn asked_read(words: &mut Words) -> Option<Answer> {
     let record = words.hex()?;
     words.end()?;
     Some(read(work, output, &record))
+}
+
+fn asked_areas(words: &mut Words) -> Option<Answer> {
+    let work = words.length()?;
+    let list = words.length()?;
+    let order = words.numbers_to_end()?;
+    Some(areas(work, list, &order))
 }
 
 fn asked_shelve(words: &mut Words) -> Option<Answer> {
@@ -130,9 +137,16 @@ fn write(kind: u16, start: u16, work: usize, output: usize, order: &[u16]) -> An
     }
     Ok(match refusal {
         0 => format!("ok {}", to_hex(&output.now()[..usize::from(length)])),
-        10 => format!("refused 10 {characteristic}"),
-        number => format!("refused {number}"),
+        _ => refused(refusal, characteristic),
     })
+}
+
+/// A refusal of a plan; 10 with the characteristic.
+fn refused(number: u16, characteristic: i32) -> String {
+    match number {
+        10 => format!("refused 10 {characteristic}"),
+        _ => format!("refused {number}"),
+    }
 }
 
 fn read(work: usize, output: usize, record: &[u8]) -> Answer {
@@ -159,11 +173,36 @@ fn read(work: usize, output: usize, record: &[u8]) -> Answer {
     if refusal != 0 {
         return Ok(format!("refused {refusal}"));
     }
-    let mut text = format!("ok {trails}");
-    for entry in &order.now()[..filled] {
-        let _ = write!(text, " {entry}");
-    }
-    Ok(text)
+    Ok(format!("ok {trails}{}", spaced(&order.now()[..filled])))
+}
+
+fn areas(work: usize, list: usize, order: &[u16]) -> Answer {
+    let order = Lent::of(order, NUMBER);
+    let mut work = Lent::filled(work, NUMBER);
+    let mut list = Lent::filled(list, NUMBER);
+    let (mut count, mut characteristic) = (NUMBER, 0x5A5A_5A5A);
+    let refusal = unsafe {
+        sys::jurnadel_area_lengths(
+            order.lend(),
+            order.len(),
+            work.lend_mut(),
+            work.len(),
+            list.lend_mut(),
+            list.len(),
+            &mut count,
+            &mut characteristic,
+        )
+    };
+    let filled = usize::from(count);
+    hold(order.untouched(), "order")?;
+    hold(work.all(0), "work area")?;
+    hold(list.untouched_but(0, filled), "list")?;
+    hold((refusal == 0) == (count != 0), "count")?;
+    hold(refusal == 10 || characteristic == 0, "characteristic")?;
+    Ok(match refusal {
+        0 => format!("ok {count}{}", spaced(&list.now()[..filled])),
+        _ => refused(refusal, characteristic),
+    })
 }
 
 fn shelve(used: usize, shelf: &[u8], record: &[u8]) -> Answer {

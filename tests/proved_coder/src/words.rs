@@ -75,3 +75,12 @@ pub fn to_hex(bytes: &[u8]) -> String {
     }
     text
 }
+
+/// Numbers, each after a space.
+pub fn spaced(numbers: &[u16]) -> String {
+    let mut text = String::new();
+    for number in numbers {
+        let _ = write!(text, " {number}");
+    }
+    text
+}
