@@ -1,5 +1,6 @@
 //! The three coders behind one face.
 
+use second_coder::area_list::area_lengths;
 use second_coder::{Landed, LentPlan, Table};
 use std::ffi::{c_int, c_uint, c_void};
 use std::ptr;
@@ -33,6 +34,16 @@ extern "C" {
         m: *mut u16,
         outside: *mut u16,
     ) -> c_int;
+    fn peer_areas(
+        order: *const u16,
+        n: usize,
+        work: *mut u16,
+        work_len: usize,
+        list: *mut u16,
+        list_len: usize,
+        count: *mut usize,
+        chi: *mut i32,
+    ) -> c_int;
 }
 
 /// The requests of document 02 that have landed, a letter each.
@@ -58,11 +69,15 @@ const PEER_LANDED: c_uint = {
 type Write = fn(u16, u16, &[u16], &mut [u16], &mut [u8]) -> usize;
 /// Reading: record, work area, order.
 type Read = fn(&[u8], &mut [u16], &mut [u16]) -> usize;
+/// Measuring areas: order, work area, list.
+type Areas = fn(&[u16], &mut [u16], &mut [u16]) -> usize;
 
-/// A coder: writing gives the record's length, reading m; 0 if refused.
+/// A coder: writing gives the record's length, reading m, measuring the number of areas; 0 if
+/// refused.
 pub struct Coder {
     pub write: Write,
     pub read: Read,
+    pub areas: Areas,
 }
 
 /// The proved library, the second coder, the peer.
@@ -72,16 +87,19 @@ pub const CODERS: [Coder; 3] = [
             jurnadel::write(order, start, kind, work, output).unwrap_or(0)
         },
         read: |record, work, order| jurnadel::read(record, work, order).unwrap_or(0),
+        areas: |order, work, list| jurnadel::area_lengths(order, work, list).unwrap_or(0),
     },
     Coder {
         write: write_by_second,
         read: |record, work, order| {
             second_coder::read(*LANDED, &TABLE, record, work, order).map_or(0, |read| read.m)
         },
+        areas: |order, work, list| area_lengths(order, work, list).unwrap_or(0),
     },
     Coder {
         write: write_by_peer,
         read: read_by_peer,
+        areas: areas_by_peer,
     },
 ];
 
@@ -150,6 +168,27 @@ fn read_by_peer(record: &[u8], work: &mut [u16], order: &mut [u16]) -> usize {
     };
     if refusal == 0 {
         usize::from(m)
+    } else {
+        0
+    }
+}
+
+fn areas_by_peer(order: &[u16], work: &mut [u16], list: &mut [u16]) -> usize {
+    let (mut count, mut characteristic) = (0, 0);
+    let refusal = unsafe {
+        peer_areas(
+            order.as_ptr(),
+            order.len(),
+            work.as_mut_ptr(),
+            work.len(),
+            list.as_mut_ptr(),
+            list.len(),
+            &mut count,
+            &mut characteristic,
+        )
+    };
+    if refusal == 0 {
+        count
     } else {
         0
     }

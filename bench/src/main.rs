@@ -10,6 +10,7 @@ mod plans;
 use coders::{Coder, CODERS, LANDED, TABLE};
 use plans::Plan;
 use second_coder::grow::{grow, Rng, Shape};
+use std::array::from_fn;
 use std::collections::HashSet;
 use std::hint::black_box;
 use std::time::Instant;
@@ -53,6 +54,7 @@ struct Lent<'a> {
     work: Vec<u16>,
     record: Vec<u8>,
     order: Vec<u16>,
+    list: Vec<u16>,
 }
 
 impl<'a> Lent<'a> {
@@ -66,6 +68,7 @@ impl<'a> Lent<'a> {
             work: vec![0; jurnadel::work_length(m as u16)],
             record: vec![0; length],
             order: vec![0; 2 * m],
+            list: vec![0; m + 1],
         }
     }
 
@@ -86,9 +89,17 @@ impl<'a> Lent<'a> {
             &mut self.order,
         ))
     }
+
+    fn areas(&mut self) -> usize {
+        black_box((self.coder.areas)(
+            black_box(&self.plan.order),
+            &mut self.work,
+            &mut self.list,
+        ))
+    }
 }
 
-/// Fails if the coders do not write one record and read one plan from it.
+/// Fails if the coders do not write one record, read one plan from it and find the same areas.
 fn hold_alike(lent: &mut [Lent; 3]) {
     for (i, lent) in lent.iter_mut().enumerate() {
         let (kind, m) = (lent.kind, lent.plan.order.len() / 2);
@@ -98,6 +109,7 @@ fn hold_alike(lent: &mut [Lent; 3]) {
             (lent.record.len(), m),
             "coder {i}, kind {kind}, m {m}"
         );
+        assert!(lent.areas() > 0, "coder {i}, areas, m {m}");
     }
     let [proved, others @ ..] = lent;
     let (kind, m) = (proved.kind, proved.plan.order.len() / 2);
@@ -108,6 +120,10 @@ fn hold_alike(lent: &mut [Lent; 3]) {
     assert!(
         others.iter().all(|other| other.order == proved.order),
         "the plans differ, kind {kind}, m {m}"
+    );
+    assert!(
+        others.iter().all(|other| other.list == proved.list),
+        "the areas differ, m {m}"
     );
 }
 
@@ -130,6 +146,19 @@ fn time_plan(plan: &Plan, kind: u16) -> [[f64; 3]; 2] {
     [writing, reading].map(|times| times.map(|time| time / m as f64))
 }
 
+/// Times of the three coders for the areas of one plan, in ns per edge.
+fn time_areas(plan: &Plan) -> [f64; 3] {
+    let mut lent = CODERS.map(|coder| Lent::new(coder, plan, 4));
+    hold_alike(&mut lent);
+    let [proved, second, peer] = &mut lent;
+    let times = least([
+        &mut || _ = proved.areas(),
+        &mut || _ = second.areas(),
+        &mut || _ = peer.areas(),
+    ]);
+    times.map(|time| time / (plan.order.len() / 2) as f64)
+}
+
 /// What was timed, and its times, as `time_plan` gives them.
 struct Row {
     name: &'static str,
@@ -149,12 +178,21 @@ impl Row {
 
     fn print(&self) {
         print!("{:<16}{:>5}{:>6}", self.name, self.kind, self.m);
-        for [proved, second, peer] in self.times {
-            let (to_second, to_peer) = (proved / second, proved / peer);
-            print!("  {proved:>8.2}{second:>8.2}{peer:>8.2}{to_second:>7.2}{to_peer:>7.2}");
-        }
+        self.times.into_iter().for_each(print_times);
         println!();
     }
+}
+
+/// The times of the three coders, and their ratios.
+fn print_times([proved, second, peer]: [f64; 3]) {
+    let (to_second, to_peer) = (proved / second, proved / peer);
+    print!("  {proved:>8.2}{second:>8.2}{peer:>8.2}{to_second:>7.2}{to_peer:>7.2}");
+}
+
+/// The heading over `print_times`.
+fn print_columns() {
+    print!("  {:>8}{:>8}{:>8}", "proved", "second", "peer");
+    print!("{:>7}{:>7}", "/sec.", "/peer");
 }
 
 fn print_heading() {
@@ -162,10 +200,8 @@ fn print_heading() {
     println!();
     println!("{:<27}  {:-^38}  {:-^38}", "", " write ", " read ");
     print!("{:<16}{:>5}{:>6}", "shape", "kind", "m");
-    for _ in ["write", "read"] {
-        print!("  {:>8}{:>8}{:>8}", "proved", "second", "peer");
-        print!("{:>7}{:>7}", "/sec.", "/peer");
-    }
+    print_columns();
+    print_columns();
     println!();
 }
 
@@ -187,14 +223,12 @@ fn print_growths(rows: &[Row]) {
     }
 }
 
-fn geometric_mean(ratios: &[Ratios]) -> Ratios {
-    [0, 1].map(|i| {
-        (ratios.iter().map(|ratio| ratio[i].ln()).sum::<f64>() / ratios.len() as f64).exp()
-    })
+fn geometric_mean<const N: usize>(ratios: &[[f64; N]]) -> [f64; N] {
+    from_fn(|i| (ratios.iter().map(|ratio| ratio[i].ln()).sum::<f64>() / ratios.len() as f64).exp())
 }
 
-fn worst(ratios: &[Ratios]) -> Ratios {
-    [0, 1].map(|i| ratios.iter().map(|ratio| ratio[i]).fold(0.0, f64::max))
+fn worst<const N: usize>(ratios: &[[f64; N]]) -> [f64; N] {
+    from_fn(|i| ratios.iter().map(|ratio| ratio[i]).fold(0.0, f64::max))
 }
 
 /// The proved library's times of one plan in kind 4 by those in kind 2; the kinds take turns.
@@ -226,8 +260,8 @@ fn print_kinds() {
     println!("kind 4 by kind 2, geometric mean of {count} plans: write {write}, read {read}");
 }
 
-/// The ratios to the peer: their geometric means, for each kind and for all, then the worst.
-fn print_ratios(rows: &[Row]) {
+/// The ratios to the peer: their geometric means, for each kind, for all and for areas, then the worst.
+fn print_ratios(rows: &[Row], areas: &[[f64; 1]]) {
     let ratios = |kinds: &[u16]| -> Vec<Ratios> {
         let of_kinds = rows.iter().filter(|row| kinds.contains(&row.kind));
         of_kinds.map(Row::to_peer).collect()
@@ -243,8 +277,10 @@ fn print_ratios(rows: &[Row]) {
         print_mean(&[kind], &format!(", kind {kind}"));
     }
     print_mean(&KINDS, "");
-    let [write, read] = worst(&ratios(&KINDS));
-    println!("worst ratio to peer: write {write:.2}, read {read:.2}");
+    let (count, [mean]) = (areas.len(), geometric_mean(areas));
+    println!("geometric mean of {count} ratios to peer, areas: {mean:.2}");
+    let ([write, read], [areas]) = (worst(&ratios(&KINDS)), worst(areas));
+    println!("worst ratio to peer: write {write:.2}, read {read:.2}, areas {areas:.2}");
 }
 
 /// The plans that are timed: of each shape one of each size.
@@ -273,6 +309,24 @@ fn time_coders() -> Vec<Row> {
     }
     print_growths(&rows);
     rows
+}
+
+/// Times of the coders for the areas of all plans; the proved library's by the peer's.
+fn time_all_areas() -> Vec<[f64; 1]> {
+    println!();
+    println!("the lengths of areas, which have no kind");
+    println!();
+    print!("{:<16}{:>11}", "shape", "m");
+    print_columns();
+    println!();
+    let timed = all_plans().map(|(name, m, plan)| {
+        let times = time_areas(&plan);
+        print!("{name:<16}{m:>11}");
+        print_times(times);
+        println!();
+        [times[0] / times[2]]
+    });
+    timed.collect()
 }
 
 /// The record of kind 2 of a random plan.
@@ -402,8 +456,9 @@ fn main() {
     println!("before a call (each call leaves it zeros, and that is timed), and outputs of just the length, not cleared either.");
     println!();
     let rows = time_coders();
+    let areas = time_all_areas();
     time_shelf();
     println!();
     print_kinds();
-    print_ratios(&rows);
+    print_ratios(&rows, &areas);
 }
