@@ -156,9 +156,9 @@ uint16_t jurnadel_read(const uint8_t *record, size_t record_len,
                        uint16_t *trails);
 
 /*
- * Tells how long each area of a plan is: the number of its darts. So many trails has a walk
- * along its border; a trail that has the area on both sides is walked twice. Areas come in
- * the order of their lowest darts.
+ * Tells how long each area of a plan is: its number of darts. That is the length of a walk
+ * along its border, in trails; a trail that has the area on both sides is walked twice. Areas
+ * come in the order of their lowest darts.
  *
  *   order, darts         the turning order, darts = 2m entries; it needs no start
  *   work, work_len       JURNADEL_WORK_LEN(m) numbers or more, any content; zeros on return

@@ -200,7 +200,7 @@ static void areas(void) {
     }
     /* Each refusal before those that come after it. */
     CHECK(areas_of(twice, 3, 0, 0) == JURNADEL_BAD_COUNT);
-    CHECK(areas_of(twice, 0, 0, 0) == JURNADEL_BAD_COUNT);
+    CHECK(areas_of(twice, 0, 64, 4) == JURNADEL_BAD_COUNT);
     CHECK(areas_of(twice, 4, 0, 0) == JURNADEL_BAD_ENTRY);
     CHECK(areas_of(high, 4, 0, 0) == JURNADEL_BAD_ENTRY);
     CHECK(areas_of(apart, 4, 63, 0) == JURNADEL_SHORT_WORK);

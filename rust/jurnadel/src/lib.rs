@@ -169,9 +169,10 @@ pub fn read(record: &[u8], work: &mut [u16], order: &mut [u16]) -> Result<usize,
 
 /// Fills the first entries of `list` with the length of each area of a plan, and returns how many areas there are.
 ///
-/// An area is as long as it has darts: so many trails has a walk along its border. Areas come in the order of their lowest
-/// darts. Their lengths add up to 2m, and a list of m + 1 numbers always serves. `work` has [`work_length`] numbers or more,
-/// of any content; it is zeros on return.
+/// The length of an area is its number of darts: that of a walk along its border, in trails. Areas come in the order of
+/// their lowest darts. Their lengths add up to 2m, and a list of m + 1 numbers always serves.
+///
+/// `work` has [`work_length`] numbers or more, of any content; it is zeros on return.
 ///
 /// # Errors
 ///
