@@ -35,7 +35,7 @@ impl PlanFolder {
     }
 
     fn put_at(&self, path: &Path, comment: &str, order: &[u16]) -> io::Result<()> {
-        let text = plan_file::text(&[comment], order, 0);
+        let text = plan_file::commented(&[comment], &plan_file::text(order, 0));
         if fs::symlink_metadata(path).is_err() {
             match files::place(path, None, text.as_bytes()) {
                 // Another run was faster.

@@ -23,7 +23,6 @@ use crate::plan_file::{self, Plan};
 use crate::report::{Problem, Report};
 use crate::{shape, stream};
 use jurnadel::Refusal;
-use std::collections::BTreeMap;
 
 /// The most threads that `--jobs` may ask for.
 const MAX_JOBS: usize = 256;
@@ -66,29 +65,23 @@ pub fn record_of(path: &Word, kind: Option<u16>) -> Result<Vec<u8>, Problem> {
     plan.record(kind).map_err(|refusal| plan.problem(path, refusal))
 }
 
-/// The plan file of a sound plan, by junctions or by numbers, with its counts and the lengths of its areas as comments.
+/// The plan file of a sound plan, by junctions or by numbers. Its comments tell its counts and the lengths of its areas, these
+/// in the order of their lowest trail ends as the file numbers them: so a printed file is printed alike again.
 pub fn plan_text(plan: &Plan, by_junctions: bool) -> Result<String, Refusal> {
-    let comments = [&counts(&plan.order)[..], &lengths(&jurnadel::areas_of(&plan.order)?)];
-    Ok(match by_junctions {
-        true => plan_file::junctions_text(&comments, plan),
-        false => plan_file::text(&comments, &plan.order, plan.start),
-    })
+    let text = match by_junctions {
+        true => plan_file::junctions_text(plan),
+        false => plan_file::text(&plan.order, plan.start),
+    };
+    let printed = Plan::parse(&text).expect("a printed plan is read back");
+    let lengths: Vec<String> = jurnadel::areas_of(&printed.order)?.iter().map(u16::to_string).collect();
+    let comments = [counts(&plan.order), format!("lengths of the areas: {}", lengths.join(" "))];
+    Ok(plan_file::commented(&[&comments[0], &comments[1]], &text))
 }
 
 /// How many junctions, trails and areas a sound plan has.
 pub fn counts(order: &[u16]) -> String {
     let (junctions, areas) = (shape::junctions(order).count(), shape::areas(order).count());
     [counted(junctions, "junction"), counted(order.len() / 2, "trail"), counted(areas, "area")].join(", ")
-}
-
-/// How many areas there are of each length, the shortest first: the same in every numbering of the plan, and not too long to be
-/// read, since a plan has at most 127 different lengths.
-fn lengths(areas: &[u16]) -> String {
-    let mut counts = BTreeMap::new();
-    areas.iter().for_each(|length| *counts.entry(length).or_insert(0) += 1);
-    let each: Vec<String> =
-        counts.iter().map(|(length, &count)| format!("{} of length {length}", counted(count, "area"))).collect();
-    each.join(", ")
 }
 
 /// To the file of `-o`, which is none of the files that were read, or to standard output.

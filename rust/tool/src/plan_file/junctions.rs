@@ -4,7 +4,7 @@
 //! mention is the even dart. The start is the mention in its junction's line, of a loop the first.
 
 use super::names::{Junction, Name, Names};
-use super::{commented, Lines, Plan, Written, Wrong};
+use super::{Lines, Plan, Written, Wrong};
 use crate::names::{acts, beginning};
 use crate::shape::{round, walk, Walk};
 use std::collections::HashMap;
@@ -125,15 +125,14 @@ impl Names {
     }
 }
 
-/// The text of a plan file by junctions, with comments on its first lines, of a plan that is connected.
+/// The text of a plan file by junctions, of a plan that is connected.
 ///
 /// Junctions come as the contour walk meets them, and each line begins at the dart by which it does; so the start is the
 /// first mention of its trail. Names are those that the plan has; else A, B, .. and a, b, .. as the walk goes.
-pub fn text(comments: &[&str], plan: &Plan) -> String {
+pub fn text(plan: &Plan) -> String {
     let walk = walk(&plan.order, plan.start.into());
     let (junctions, trails) = plan.names().map_or_else(|| new_names(&walk), |names| names.along(&walk));
-    let mut text = commented(comments);
-    text += &format!("start: {} {}\n", junctions[0], trails[usize::from(plan.start) / 2]);
+    let mut text = format!("start: {} {}\n", junctions[0], trails[usize::from(plan.start) / 2]);
     for (junction, &first) in junctions.iter().zip(&walk.arrivals) {
         let around: Vec<&str> = round(&plan.order, first).map(|dart| &trails[dart / 2][..]).collect();
         text += &format!("{junction}: {}\n", around.join(" "));
@@ -221,9 +220,9 @@ mod tests {
     #[test]
     fn new_and_old_names() {
         let plan = Plan::parse("start: 0\n4 2 1 0 3 5\n").unwrap();
-        assert_eq!(text(&["x\ny", "z"], &plan), "# x y\n# z\nstart: A a\nA: a c b\nB: a b\nC: c\n");
+        assert_eq!(text(&plan), "start: A a\nA: a c b\nB: a b\nC: c\n");
         let plan = Plan::parse("Hut: lake ridge\nTop: ridge lake\nstart: Top lake\n").unwrap();
-        assert_eq!(text(&[], &plan), "start: Top lake\nTop: lake ridge\nHut: lake ridge\n");
+        assert_eq!(text(&plan), "start: Top lake\nTop: lake ridge\nHut: lake ridge\n");
         let names = |places: [usize; 6]| places.map(|place| letters(b'A', place)).join(" ");
         assert_eq!(names([0, 25, 26, 51, 701, 702]), "A Z AA AZ ZZ AAA");
     }

@@ -154,9 +154,10 @@ pub fn in_kind<T>(kind: Option<u16>, mut write: impl FnMut(u16) -> Result<T, Ref
     }
 }
 
-/// Comments as lines of a plan file, a line each.
-fn commented(comments: &[&str]) -> String {
-    comments.iter().map(|comment| format!("# {}\n", comment.replace(char::is_control, " "))).collect()
+/// A plan file with comments on its first lines, a line each.
+pub fn commented(comments: &[&str], text: &str) -> String {
+    let lines = comments.iter().map(|comment| format!("# {}\n", comment.replace(char::is_control, " ")));
+    lines.chain([text.to_owned()]).collect()
 }
 
 /// The lines of a plan file that say something, without comments, each with its number.

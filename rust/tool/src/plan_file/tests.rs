@@ -50,15 +50,22 @@ fn one_form_and_the_other() {
         let trails = if turn == 0 { 4096 } else { 1 + random.below(40) };
         let plan = plan(&mut random, trails);
         assert_eq!(plan.sound(), Ok(()));
-        let named = Plan::parse(&junctions_text(&[], &plan)).unwrap();
-        let again = Plan::parse(&text(&[], &named.order, named.start)).unwrap();
-        let kept = Plan::parse(&junctions_text(&[], &named)).unwrap();
+        let named = Plan::parse(&junctions_text(&plan)).unwrap();
+        let again = Plan::parse(&text(&named.order, named.start)).unwrap();
+        let kept = Plan::parse(&junctions_text(&named)).unwrap();
         for other in [&named, &again, &kept] {
             assert_eq!(renumbered(other), renumbered(&plan));
             assert_eq!(other.record(None), plan.record(None));
         }
-        assert_eq!(junctions_text(&[], &kept), junctions_text(&[], &plan));
+        assert_eq!(junctions_text(&kept), junctions_text(&plan));
     }
+}
+
+#[test]
+fn comments_are_passed_over() {
+    let text = commented(&["a\nb\rc", "d"], "start: 2\n3 2 1 0\n");
+    assert_eq!(text, "# a b c\n# d\nstart: 2\n3 2 1 0\n");
+    assert_eq!(Plan::parse(&text).map(|plan| plan.start), Ok(2));
 }
 
 /// The areas that pictures are made of have the lengths that the library gives.
