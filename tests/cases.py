@@ -18,26 +18,30 @@ LARGE = {
 
 
 def request(case):
-    """A line of the protocol: write KIND START WORK OUTPUT ENTRIES."""
+    """A line of the protocol: write KIND START WORK OUTPUT ENTRIES, or areas WORK LIST ENTRIES where no kind is said."""
     name, *details = case.split(", ")
     order = LARGE.get(name)
     if order is None:
         entries = name.removeprefix("order")
         order = [] if "length 0" in entries else [int(entry) for entry in entries.split()]
-    given = {"start": 0, "work area": 32 * (len(order) // 2) or 32, "output": 2054}
+    given = {"start": 0, "work area": 32 * (len(order) // 2) or 32, "output": 2054, "list": 4097}
     for detail in details:
         key, _, value = detail.rpartition(" ")
         given[key] = int(value) if value.isdigit() else value
-    return "write {} {} {} {} {}".format(
-        given["kind"], given["start"], given["work area"], given["output"], " ".join(map(str, order))
-    )
+    entries = " ".join(map(str, order))
+    if "kind" not in given:
+        return "areas {} {} {}".format(given["work area"], given["list"], entries)
+    return "write {} {} {} {} {}".format(given["kind"], given["start"], given["work area"], given["output"], entries)
 
 
 def line(answer):
-    """What the program prints of an answer: ok HEX, refused NUMBER, or refused 10 CHARACTERISTIC."""
+    """What the program prints of an answer: ok HEX, ok COUNT LENGTHS, refused NUMBER, or refused 10 CHARACTERISTIC."""
     word, first, *rest = answer.split()
     if word == "refused":
         return f"refusal {first}" + "".join(f", characteristic {x}" for x in rest)
+    if rest:
+        many = int(first) > 16
+        return f"areas {first}, " + (f"sum {sum(map(int, rest))}" if many else f"lengths {' '.join(rest)}")
     record = bytes.fromhex(first)
     if len(record) <= 16:
         return f"length {len(record)}, bytes {record.hex(' ').upper()}"
