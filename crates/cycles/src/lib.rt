@@ -39,12 +39,14 @@ fn follow(order: &[u16], across: bool, w: &mut [u16], a: usize, start: usize) ->
     let name = start as u16;
     let mut x = start;
     let mut steps = 0;
-    while w[a + x] == UNNAMED {
+    loop {
         w[a + x] = name;
         x = step(order, across, x);
         steps += 1;
+        if x == start {
+            return steps;
+        }
     }
-    steps
 }
 
 // Each dart's cycle, by its least dart, from place a on; how many cycles there are, and their sizes from place b on, in the order of their least darts.

@@ -4,7 +4,10 @@
 --   length-sizes       there are as many sizes as labels
 --   size-at            the size of a cycle stands where its label is in the order of labels
 --   sizes-sum          the sizes add up to the number of numbers
+--   least-iter         a number's iterates have its label
 --   size-some, size-back, size-first   a number comes back after as many steps as its cycle has numbers, and not before
+--   size-is            so the first number of steps after which it is back is that size
+--   size-above         and a number of steps up to which it is not back is below it
 use Prim.Native.Nat.{ℕ, zero, suc, _+_, _≤_, _<_}
 use native.Mathlib.Nat.{le-antisymm, le-of-suc-le-suc, lt-suc-self}
 use native.Mathlib.Omega.{arith}
@@ -19,7 +22,7 @@ use lib.Seq.{getD-append-seam}
 use borrow.Author.Tests.{lt-ltb, le-ltb, eq-eqb, ne-eqb}
 use Rattle.model.specs.Numbers.{count, iter, least, isLeast, cycleSize, sizesBelow, cycleSizes, sum}
 use Rattle.orbits.specs.Permutation.{Perm}
-use Rattle.orbits.proofs.Order.{tri, eq-split, lt-suc-split, eq→eqb}
+use Rattle.orbits.proofs.Order.{lt-or-le, tri, eq-split, lt-suc-split, eq→eqb}
 use Rattle.orbits.proofs.Tally.{count-in, count-out, count-below, count-ext, count-all, count-none, count-either, count-inj}
 use Rattle.orbits.proofs.Cycle.{On, on-iter, iter-inj, iter-bound, first-back, least-step, least-bound, least-idem, same-reach}
 
@@ -97,7 +100,7 @@ module _ (N : ℕ) (p : ℕ → ℕ) (perm : Perm N p) where
 
   -- ---- the cycle of x, walked round
 
-  least-iter : (j x : ℕ) → x < N → least p N (iter p j x) ≡ least p N x
+  pub least-iter : (j x : ℕ) → x < N → least p N (iter p j x) ≡ least p N x
   unfolding iter
   least-iter zero x h = refl
   least-iter (suc j) x h = least-iter j (p x) (perm .bound x h) ∙ least-step N p perm x h
@@ -137,3 +140,10 @@ module _ (N : ℕ) (p : ℕ → ℕ) (perm : Perm N p) where
     pub size-first : (j : ℕ) → zero < j → j < cycleSize p N x → iter p j x ≢ x
     size-first zero z l e = absurd (omega arith)
     size-first (suc r) z l e = first-back N p perm x h .3 r (omega (arith, size-period)) e
+
+    pub size-is : (k : ℕ) → zero < k → iter p k x ≡ x → ((j : ℕ) → zero < j → j < k → iter p j x ≢ x) → k ≡ cycleSize p N x
+    size-is k some back first =
+        tri k (cycleSize p N x) (λ l. absurd (size-first k some l back)) (λ e. e) (λ g. absurd (first (cycleSize p N x) size-some g size-back))
+
+    pub size-above : (k : ℕ) → ((j : ℕ) → zero < j → j ≤ k → iter p j x ≢ x) → k < cycleSize p N x
+    size-above k first = lt-or-le k (cycleSize p N x) (λ l. l) (λ g. absurd (first (cycleSize p N x) size-some g size-back))
