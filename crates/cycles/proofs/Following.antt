@@ -9,13 +9,12 @@ use mathlib.Core.Bool.{Bool}
 use mathlib.Core.List.{List}
 use Prim.Native.Nat.{ℕ, suc, _+_, _≤_, _<_}
 use native.Mathlib.Omega.{arith}
-use lib.ListN.{length, getD, set, length-set}
-use Rattle.model.specs.Numbers.{least}
+use lib.ListN.{length, set, length-set}
 use Rattle.model.proofs.Fitness.{count-parts}
 use Rattle.orbits.specs.Permutation.{Perm}
 use Rattle.work.specs.Area.{region, placed}
-use Rattle.work.proofs.Regions.{length-region, getD-region, region-set, set-placed, placed-region}
-use Rattle.cycles.specs.Cycles.{stepOf, unnamed, namesBelow, HalfNamed, Followed}
+use Rattle.work.proofs.Regions.{length-region, region-set, set-placed, placed-region}
+use Rattle.cycles.specs.Cycles.{stepOf, namesBelow, HalfNamed, Followed}
 use Rattle.cycles.proofs.Steps.{step-perm}
 use Rattle.cycles.proofs.Naming.{Naming, naming-start, naming-here, naming-few, naming-step, naming-end, naming-size}
 

@@ -2,8 +2,7 @@
 use fitting::Verdict;
 use model::Measured;
 ghost use mathlib.Core.Path.{_≡_};
-ghost use Prim.Native.Nat.{_*_, _≤_};
-ghost use lib.ListN.{length};
+ghost use Prim.Native.Nat.{_*_};
 ghost use Rattle.model.specs.Calls.{Measures};
 ghost use Rattle.measuring.specs.Early.{earlyRefusal, Lengths, Copied, Made};
 

@@ -9,12 +9,10 @@
 --   size-is            so the first number of steps after which it is back is that size
 --   size-above         and a number of steps up to which it is not back is below it
 use Prim.Native.Nat.{ℕ, zero, suc, _+_, _≤_, _<_}
-use native.Mathlib.Nat.{le-antisymm, le-of-suc-le-suc, lt-suc-self}
 use native.Mathlib.Omega.{arith}
-use native.Mathlib.Decide.{ℕ-discrete}
 use mathlib.Core.Path.{_≡_, refl, sym, ap, subst, _∙_}
 use mathlib.Core.Logic.{_≢_}
-use mathlib.Core.Bool.{Bool, true, false, _||_}
+use mathlib.Core.Bool.{Bool, true, _||_}
 use mathlib.Core.List.{List, [], _∷_, _++_}
 use lib.Dec.{eqb, ltb, eqb→eq, ltb→lt}
 use lib.ListN.{length, getD, length-append, List·getD-append}
@@ -23,7 +21,7 @@ use borrow.Author.Tests.{lt-ltb, le-ltb, eq-eqb, ne-eqb}
 use Rattle.model.specs.Numbers.{count, iter, least, isLeast, cycleSize, sizesBelow, cycleSizes, sum}
 use Rattle.orbits.specs.Permutation.{Perm}
 use Rattle.orbits.proofs.Order.{lt-or-le, tri, eq-split, lt-suc-split, eq→eqb}
-use Rattle.orbits.proofs.Tally.{count-in, count-out, count-below, count-ext, count-all, count-none, count-either, count-inj}
+use Rattle.orbits.proofs.Tally.{count-below, count-ext, count-all, count-none, count-either, count-inj}
 use Rattle.orbits.proofs.Cycle.{On, on-iter, iter-inj, iter-bound, first-back, least-step, least-bound, least-idem, same-reach}
 
 -- ---- the list of sizes

@@ -7,7 +7,7 @@
 --   count-all, count-none, count-le   there are n numbers below n; none that passes; no more that pass a test
 --   count-either            two tests that never pass together
 --   tick-suc                ticks commute
---   except, except-in, except-l, except-ne, except-same, count-except   a test but for one number
+--   except, except-in, except-l, except-ne, count-except   a test but for one number
 --   Injection, count-inj    an injection between two tested sets bounds the one count by the other
 use Prim.Native.Nat.{ℕ, zero, suc, _+_, _≤_, _<_, zero-le}
 use native.Mathlib.Nat.{le-step, lt-suc-self}
@@ -161,7 +161,7 @@ module _ (g : ℕ → Bool) (c : ℕ) where
   except-not : T (except g c c) → ⊥
   except-not t = except-ne c t refl
 
-  pub except-same : (i : ℕ) → (i ≡ c → ⊥) → except g c i ≡ g i
+  except-same : (i : ℕ) → (i ≡ c → ⊥) → except g c i ≡ g i
   except-same i n = ap (λ (b : Bool). g i && not b) (ne-eqb i c n) ∙ and-true (g i)
 
   except-above : (m : ℕ) → except g c m ≡ g m → suc (count (except g c) m) ≡ count g m → suc (count (except g c) (suc m)) ≡ count g (suc m)

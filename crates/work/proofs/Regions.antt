@@ -6,7 +6,6 @@
 --   region-set, region-set-other        a store inside the region, and outside it
 --   region-front                        a store right before the entries from place t on of a part that has c of them and begins at a
 --   length-placed                       placing what fits keeps the length
---   getD-placed                         an entry of what was placed
 --   region-placed, region-placed-other  the region where it was placed, and one beside it
 --   placed-placed, placed-region        placing twice; placing what is there
 --   set-placed, placed-snoc             a store into what was placed; a store just behind it
@@ -23,7 +22,7 @@ use Prim.Native.Nat.{ℕ, zero, suc, _+_, _-_, _≤_, _<_}
 use native.Mathlib.Nat.{suc-add, add-suc, zero-add, add-zero, sub-zero, lt-of-not-le}
 use native.Mathlib.Decide.{decLe}
 use native.Mathlib.Omega.{arith}
-use lib.ListN.{length, getD, set, take, drop, length-append, length-drop, length-set, List·getD-append, take-append-drop}
+use lib.ListN.{length, getD, set, take, drop, length-append, length-drop, length-set, take-append-drop}
 use lib.Seq.{length-take-le, take-at, drop-at, take-take, take-add, drop-drop, drop-append-seam, getD-take, getD-drop}
 use lib.Seq.{set-append-left, drop-cons, append-snoc, take-set-lt, take-set-le, drop-set-add, drop-set-lt, take-nil}
 use lib.Seq.{sets, sets-eq, take-suc-set, getD-set-same, lt-length-set}
@@ -112,9 +111,6 @@ module _ (a : ℕ) (xs w : List ℕ) (fits : a + length xs ≤ length w) where
       let g = length-drop (a + length xs) w in
       let h = before-it in
       omega arith
-
-  pub getD-placed : (i : ℕ) → i < length xs → getD (placed a xs w) (a + i) 0 ≡ getD xs i 0
-  getD-placed i h = rw (← getD-drop a (placed a xs w) i 0, drop-placed) (List·getD-append xs (drop (a + length xs) w) 0 i h)
 
   pub region-placed : (n : ℕ) → n ≡ length xs → region a n (placed a xs w) ≡ xs
   unfolding region

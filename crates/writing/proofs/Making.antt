@@ -15,11 +15,10 @@ use lib.Dec.{eqb}
 use lib.IntN.{ℤ}
 use lib.ListN.{length}
 use borrow.Author.Tests.{ne-eqb}
-use Rattle.model.specs.declared.Written.{Written}
 use Rattle.model.specs.declared.Written.the-variants as written
 use Rattle.model.specs.Map.{Plan, darts, edges, fit}
 use Rattle.model.specs.Traversal.{code, word}
-use Rattle.model.specs.Record.{recordLength, recordOf}
+use Rattle.model.specs.Record.{recordOf}
 use Rattle.model.specs.Calls.{writeRefusal, writeAnswer, writtenOutput}
 use Rattle.model.proofs.Fitness.{fit-parts}
 use Rattle.model.proofs.Refusals.{not-refused}

@@ -4,7 +4,7 @@
 --   early-not-ten        an early refusal is not 10
 --   two, three, four, six, seven, eight, passed   the early refusals, test by test
 --   Passed, early-parts  what a call that passes them is handed
-use Prim.Native.Nat.{ℕ, _*_, _%_, _≤_, _<_}
+use Prim.Native.Nat.{ℕ, _*_, _≤_, _<_}
 use native.Mathlib.Omega.{arith}
 use mathlib.Core.Path.{_≡_, refl}
 use mathlib.Core.Bool.{true, false, cond}
@@ -14,7 +14,7 @@ use Rattle.model.specs.Numbers.{firstRefusal, isPermutation}
 use Rattle.model.specs.Map.{Plan, darts, edges, isKind, dartCountFits}
 use Rattle.model.specs.Record.{recordLength}
 use Rattle.model.specs.Calls.{earlyRefusals, lateRefusals, writeRefusal}
-use Rattle.model.proofs.Fitness.{parts-count, count-unfit, even-darts}
+use Rattle.model.proofs.Fitness.{even-darts}
 use Rattle.model.proofs.Refusals.{none-holds, first-lacks, first-append}
 use Rattle.fitting.specs.Judged.{lateRefusal}
 use Rattle.writing.specs.Early.{earlyRefusal}
