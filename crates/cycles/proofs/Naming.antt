@@ -14,16 +14,14 @@ use Prim.Native.Nat.{ℕ, suc, _+_, _-_, _≤_, _<_}
 use native.Mathlib.Nat.{zero-add}
 use native.Mathlib.Numerals.{add-one}
 use native.Mathlib.Omega.{arith}
-use lib.Dec.{eqb}
 use lib.ListN.{length, getD, set, replicate, length-set, length-replicate, getD-replicate}
 use lib.Seq.{getD-set-same, getD-set-other}
 use borrow.Author.Tests.{lt-ltb, le-ltb}
 use Rattle.model.specs.Numbers.{iter, least, cycleSize}
 use Rattle.orbits.specs.Permutation.{Perm}
 use Rattle.orbits.proofs.Order.{lt-or-le, le-split, lt-suc-split, eq-split}
-use Rattle.orbits.proofs.Tally.{count-le}
-use Rattle.orbits.proofs.Cycle.{least-le, least-idem, iter-out, iter-bound, on-iter, same-reach}
-use Rattle.orbits.proofs.Sizes.{least-iter, size-is, size-above}
+use Rattle.orbits.proofs.Cycle.{least-le, least-iter, least-idem, iter-out, iter-bound, on-iter, same-reach}
+use Rattle.orbits.proofs.Sizes.{size-le, size-is, size-above}
 use Rattle.orbits.specs.Table.{tabulate}
 use Rattle.orbits.proofs.Table.{length-tabulate, tabulate-at, is-tabulate, tabulate-ext}
 use Rattle.cycles.specs.Cycles.{unnamed, nameBelow, namesBelow}
@@ -90,23 +88,18 @@ module _ (f : ℕ → ℕ) (n : ℕ) (perm : Perm n f) (small : n ≤ 8192) (d :
 
     -- before x is named: either it is the first dart, or d is not met again
     module _ (new : 0 < k → x ≢ d) where
+      -- d is not met again up to here
+      not-back : (j : ℕ) → 0 < j → j ≤ k → iter f j d ≢ d
+      not-back j h l = le-split l (λ e q. new (omega arith) (s .next ∙ ap (λ (i : ℕ). iter f i d) (sym e) ∙ q)) (s .first j h)
+
       pub naming-few : k < n
-      unfolding cycleSize
-      naming-few = omega (
-        arith,
-        size-above n f perm d below k (λ j h l. le-split l
-            (λ e q. new (omega arith) (s .next ∙ ap (λ (i : ℕ). iter f i d) (sym e) ∙ q))
-            (λ m. s .first j h m)),
-        count-le (λ z. eqb (least f n z) (least f n d)) n,
-      )
+      naming-few = omega (arith, size-above n f perm d below k not-back, size-le f n d)
 
       pub naming-step : Naming f n d (set b x d) (f x) (k + 1)
       naming-step = record {
         size = length-set b x d ∙ s .size;
         next = ap f (s .next) ∙ sym (iter-out f k d) ∙ ap (λ (i : ℕ). iter f i d) (sym (add-one k));
-        first = λ j h l. lt-suc-split (subst (λ (i : ℕ). j < i) (add-one k) l)
-            (λ e q. new (omega arith) (s .next ∙ ap (λ (i : ℕ). iter f i d) (sym e) ∙ q))
-            (λ m. s .first j h m);
+        first = λ j h l. not-back j h (omega arith);
         named = λ j h. eq-split (iter f j d) x
             (λ e. ap (λ (z : ℕ). getD (set b x d) z 0) e ∙ getD-set-same b x d 0 there)
             (λ ne. getD-set-other b x (iter f j d) d 0 ne ∙ lt-suc-split (subst (λ (i : ℕ). j < i) (add-one k) h)

@@ -17,7 +17,7 @@ use mathlib.Core.List.{List}
 use Prim.Native.Nat.{ℕ, suc, _+_, _≤_, _<_}
 use native.Mathlib.Omega.{arith}
 use native.Mathlib.Numerals.{add-one}
-use lib.Dec.{eqb, eqb→eq}
+use lib.Dec.{eqb→eq}
 use lib.ListN.{length, getD, set, replicate, length-set}
 use Rattle.model.specs.Numbers.{count, least, isLeast, cycles, cycleSize, sizesBelow, cycleSizes, isPermutation}
 use Rattle.model.specs.Map.{dartCountFits}
@@ -25,7 +25,7 @@ use Rattle.model.proofs.Fitness.{count-parts}
 use Rattle.orbits.specs.Permutation.{Perm}
 use Rattle.orbits.proofs.Order.{eq→eqb}
 use Rattle.orbits.proofs.Tally.{count-in, count-out, count-le}
-use Rattle.orbits.proofs.Sizes.{sizes-in, sizes-out, length-sizes}
+use Rattle.orbits.proofs.Sizes.{size-le, sizes-in, sizes-out, length-sizes}
 use Rattle.work.specs.Area.{region, placed}
 use Rattle.work.proofs.Regions.{getD-region, length-placed, region-placed, region-placed-other, placed-none, placed-placed, placed-snoc, placed-beside}
 use Rattle.cycles.specs.Cycles.{stepOf, unnamed, namesBelow, Named, HalfNamed, Followed}
@@ -130,8 +130,7 @@ module _ {rot : List ℕ} {across : Bool} {a b : ℕ} {w₀ : List ℕ} {d c : �
 
   module _ {steps : ℕ} {w₁ : List ℕ} (s : Followed f n a d w steps w₁) where
     pub turn-size : steps ≤ 8192
-    unfolding cycleSize
-    turn-size = omega (arith, s .size, few, count-le (λ y. eqb (least f n y) (least f n d)) n)
+    turn-size = omega (arith, s .size, few, size-le f n d)
 
     -- the cycle's names go beside the sizes
     named-more : w₁ ≡ placed b (sizesBelow f n d) (placed a (namesBelow f n (suc d)) w₀)

@@ -2,7 +2,7 @@
 --
 --   least-le           the label of x is at most x
 --   least-in           a set that p maps into itself and that has x has the label of x
---   least-step         p keeps the label
+--   least-step, least-iter   p keeps the label, and so do its iterates
 --   least-idem         a label is its own label
 --   least-bound        a label is below N
 --   least-keeps        what p keeps has one value at x and at its label
@@ -132,6 +132,11 @@ module _ (N : ℕ) (p : ℕ → ℕ) (perm : Perm N p) where
 
   pub least-step : (x : ℕ) → x < N → least p N (p x) ≡ least p N x
   least-step x h = let (q, hq, back) = comes-back x h in least-back p N q x (le-of-lt hq) back
+
+  pub least-iter : (j x : ℕ) → x < N → least p N (iter p j x) ≡ least p N x
+  unfolding iter
+  least-iter zero x h = refl
+  least-iter (suc j) x h = least-iter j (p x) (perm .bound x h) ∙ least-step x h
 
   -- the label of x is below N and is its own label
   pub least-bound : (x : ℕ) → x < N → least p N x < N

@@ -1,10 +1,10 @@
 -- The sizes of a permutation's cycles. Assumes nothing.
 --
+--   size-le            a cycle has no more numbers than there are
 --   sizes-in, sizes-out   the next number is a label, or is not
 --   length-sizes       there are as many sizes as labels
 --   size-at            the size of a cycle stands where its label is in the order of labels
 --   sizes-sum          the sizes add up to the number of numbers
---   least-iter         a number's iterates have its label
 --   size-some, size-back, size-first   a number comes back after as many steps as its cycle has numbers, and not before
 --   size-is            so the first number of steps after which it is back is that size
 --   size-above         and a number of steps up to which it is not back is below it
@@ -21,8 +21,8 @@ use borrow.Author.Tests.{lt-ltb, le-ltb, eq-eqb, ne-eqb}
 use Rattle.model.specs.Numbers.{count, iter, least, isLeast, cycleSize, sizesBelow, cycleSizes, sum}
 use Rattle.orbits.specs.Permutation.{Perm}
 use Rattle.orbits.proofs.Order.{lt-or-le, tri, eq-split, lt-suc-split, eq→eqb}
-use Rattle.orbits.proofs.Tally.{count-below, count-ext, count-all, count-none, count-either, count-inj}
-use Rattle.orbits.proofs.Cycle.{On, on-iter, iter-inj, iter-bound, first-back, least-step, least-bound, least-idem, same-reach}
+use Rattle.orbits.proofs.Tally.{count-below, count-ext, count-all, count-none, count-le, count-either, count-inj}
+use Rattle.orbits.proofs.Cycle.{On, on-iter, iter-inj, iter-bound, first-back, least-iter, least-bound, least-idem, same-reach}
 
 -- ---- the list of sizes
 
@@ -32,7 +32,10 @@ sum-snoc [] x = omega arith
 sum-snoc (y ∷ xs) x = let ih = sum-snoc xs x in omega arith
 
 module _ (p : ℕ → ℕ) (n : ℕ) where
-  -- one number more
+  pub size-le : (x : ℕ) → cycleSize p n x ≤ n
+  unfolding cycleSize
+  size-le x = count-le (λ y. eqb (least p n y) (least p n x)) n
+
   pub sizes-in : (x : ℕ) → least p n x ≡ x → sizesBelow p n (suc x) ≡ sizesBelow p n x ++ (cycleSize p n x ∷ [])
   unfolding sizesBelow
   sizes-in x e = rw (eq-eqb (least p n x) x e)
@@ -98,11 +101,6 @@ module _ (N : ℕ) (p : ℕ → ℕ) (perm : Perm N p) where
 
   -- ---- the cycle of x, walked round
 
-  pub least-iter : (j x : ℕ) → x < N → least p N (iter p j x) ≡ least p N x
-  unfolding iter
-  least-iter zero x h = refl
-  least-iter (suc j) x h = least-iter j (p x) (perm .bound x h) ∙ least-step N p perm x h
-
   module _ (x : ℕ) (h : x < N) where
     abbrev inCycle : ℕ → Bool
     inCycle y = eqb (least p N y) (least p N x)
@@ -124,7 +122,7 @@ module _ (N : ℕ) (p : ℕ → ℕ) (perm : Perm N p) where
         let many = count-inj (λ i. true) inCycle (suc q) N (record {
           to = λ i l t. iter p i x;
           bound = λ i l t. iter-bound N p perm i x h;
-          passes = λ i l t. eq→eqb (least p N (iter p i x)) (least p N x) (least-iter i x h);
+          passes = λ i l t. eq→eqb (least p N (iter p i x)) (least p N x) (least-iter N p perm i x h);
           inj = λ i j hi hj t u. iter-inj N p perm q x h never i j hi hj;
         }) in
         omega (arith, count-all (suc q))

@@ -14,11 +14,11 @@ usage: jurnadel show [--junctions | --numbers] [-o FILE [--force]] PLAN | RECORD
 
 Prints a plan as a plan file. Its comments tell how many junctions, trails and
 areas the plan has, and how long each area is: how many trails a walk along its
-border goes, a trail twice that has the area on both sides. Areas come in the
-order of their lowest trail ends; where the file has no numbers, trails count as
-they are first named, and of each the end that is named first. The plan may stand
-in a plan file of either form, in a record (in hexadecimal or as bytes) or on a
-shelf; - is standard input.
+border takes, one that has the area on both sides twice. Areas come in the order
+of their lowest trail ends; by junctions, trail ends are numbered as the lines
+name them, the two of a trail together. The plan may stand in a plan file of
+either form, in a record (in hexadecimal or as bytes) or on a shelf; - is
+standard input.
 
   --junctions   by junctions (this is taken if nothing is said); without names
                 of its own the plan gets A, B, .. for its junctions and a, b, ..
