@@ -33,7 +33,7 @@ use Rattle.fitting.specs.declared.Verdict.the-variants as verdict
 use Rattle.fitting.specs.Judged.{lateRefusal, verdictOf, Judged}
 use Rattle.fitting.proofs.Verdicts.{verdict-refused, verdict-curved, verdict-fits}
 use Rattle.measuring.specs.Early.{earlyRefusal, Lengths, Copied, Made}
-use Rattle.measuring.proofs.Refusing.{planOf, eightIf, refusal-split, early-not-ten, early-parts}
+use Rattle.measuring.proofs.Refusing.{rooted, eightIf, refusal-split, early-not-ten, early-parts}
 
 -- ---- the lengths are copied from their part of the work area
 
@@ -57,14 +57,14 @@ turned-away {rot} {w} {list} {r} e ne =
 
 pub record Told (rot w : List ℕ) (v : Verdict) (w₁ : List ℕ) : Type 0 where
   pub passed : earlyRefusal rot (length w) ≡ 0
-  pub judged : Judged 4 (planOf rot) w v w₁
+  pub judged : Judged 4 (rooted rot) w v w₁
 
 module _ {rot w : List ℕ} {v : Verdict} {w₁ : List ℕ} (t : Told rot w v w₁) where
   abbrev late : ℕ
-  late = lateRefusal 4 (planOf rot)
+  late = lateRefusal 4 (rooted rot)
 
   -- the verdict of this form is the plan's
-  found : {u : Verdict} → v ≡ u → u ≡ verdictOf 4 (planOf rot)
+  found : {u : Verdict} → v ≡ u → u ≡ verdictOf 4 (rooted rot)
   found z = sym z ∙ t .judged .answered
 
   whole : (list : List ℕ) → measureRefusal rot (length w) (length list) ≡ cond (eqb late 0) (eightIf rot (length list)) late
@@ -73,21 +73,21 @@ module _ {rot w : List ℕ} {v : Verdict} {w₁ : List ℕ} (t : Told rot w v w�
   pub judged-refused : {list : List ℕ} {r : ℕ} → v ≡ verdict.Refused r → Made rot w list (measured.Refused r) w₁ list
   unfolding measureAnswer measuredList
   judged-refused {list} z =
-      let (e, some, other) = verdict-refused 4 (planOf rot) (found z) in
+      let (e, some, other) = verdict-refused 4 (rooted rot) (found z) in
       record { answered = rw (whole list, some, some, other) (ap measured.Refused (sym e)); filled = rw (whole list, some, some); kept = t .judged .kept }
 
   pub judged-curved : {list : List ℕ} {x : ℤ} → v ≡ verdict.NotPlanar x → Made rot w list (measured.NotPlanar x) w₁ list
   unfolding measureAnswer measuredList
   judged-curved {list} z =
-      let (ten, e) = verdict-curved 4 (planOf rot) (found z) in
+      let (ten, e) = verdict-curved 4 (rooted rot) (found z) in
       record { answered = rw (whole list, ten) (ap measured.NotPlanar e); filled = rw (whole list, ten); kept = t .judged .kept }
 
   module _ {n : ℕ} (z : v ≡ verdict.Fits n) where
     none : late ≡ 0
-    none = verdict-fits 4 (planOf rot) (found z) .0
+    none = verdict-fits 4 (rooted rot) (found z) .0
 
     many : n ≡ faces rot
-    many = verdict-fits 4 (planOf rot) (found z) .1
+    many = verdict-fits 4 (rooted rot) (found z) .1
 
     few : n ≤ length rot
     unfolding faces cycles

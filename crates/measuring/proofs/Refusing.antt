@@ -3,7 +3,7 @@
 --   three, six, seven, passed   the early refusals, test by test
 --   early-not-ten        an early refusal is not 10
 --   Passed, early-parts  what a call that passes them is handed
---   planOf rot           the plan that is judged
+--   rooted rot           the plan that is judged, with root 0
 --   eightIf              8 if the list is too short
 --   refusal-split        measuring's refusal is the early one, else the plan's, else 8
 use Prim.Native.Nat.{ℕ, _*_, _≤_, _<_}
@@ -71,15 +71,15 @@ unfolding earlyRefusal
 early-not-ten rot wl = first-lacks 10 (earlyRefusals rot wl) refl refl
 
 -- the root does not matter
-abbrev pub planOf : List ℕ → Plan
-planOf rot = record { rotation = rot; root = 0 }
+abbrev pub rooted : List ℕ → Plan
+rooted rot = record { rotation = rot; root = 0 }
 
 module _ (rot : List ℕ) where
   abbrev planRefusals : List Refusal
   planRefusals = refuse 9 (not (connected rot)) ∷ refuse 10 (not (planar rot)) ∷ []
 
   -- 11 and 12 never concern kind 4
-  four : lateRefusal 4 (planOf rot) ≡ firstRefusal planRefusals
+  four : lateRefusal 4 (rooted rot) ≡ firstRefusal planRefusals
   unfolding lateRefusal lateRefusals firstRefusal loopRefused degreeRefused
   four = refl
 
@@ -87,7 +87,7 @@ module _ (rot : List ℕ) where
   eightIf ll = firstRefusal (refuse 8 (ltb ll (length (faceLengths rot))) ∷ [])
 
   pub refusal-split : (wl ll : ℕ) → measureRefusal rot wl ll
-      ≡ cond (eqb (earlyRefusal rot wl) 0) (cond (eqb (lateRefusal 4 (planOf rot)) 0) (eightIf ll) (lateRefusal 4 (planOf rot))) (earlyRefusal rot wl)
+      ≡ cond (eqb (earlyRefusal rot wl) 0) (cond (eqb (lateRefusal 4 (rooted rot)) 0) (eightIf ll) (lateRefusal 4 (rooted rot))) (earlyRefusal rot wl)
   unfolding measureRefusal earlyRefusal
   refusal-split wl ll =
       let last : List Refusal = refuse 8 (ltb ll (length (faceLengths rot))) ∷ [] in

@@ -4,7 +4,7 @@
 --   wrote-fit, wrote-bytes   a call that wrote was handed a fit plan, and the bytes are its record
 --   read-written         reading what writing wrote answers m and gives the standard plan
 --   write-fit            writing a fit plan with room gives its record
---   rooted rot, planIn m out   the plan with this rotation, or with the first 2m entries, and root 0
+--   planIn m out         the plan with the first 2m entries, and root 0
 --   given-plan           what reading gave is fit for the record's kind, and the record is its record
 --   written-read         writing what reading gave, in the record's kind, gives the same bytes
 use Prim.Native.Nat.{ℕ, _*_, _≤_}
@@ -27,6 +27,7 @@ use Rattle.model.specs.Shelf.{kindOf, edgesOf}
 use Rattle.model.specs.Calls.{front, earlyRefusals, lateRefusals, writeRefusal, writeAnswer, writtenOutput, Wrote, readRefusal, HasRecord, Reads, refused, read, unreadable, ReadCall, edgesOfRead}
 use Rattle.model.specs.Writings.{Writing, MeetsContract, isAccepted, bytesWritten}
 use Rattle.model.proofs.Fitness.{fit-parts, even-darts}
+use Rattle.lists.specs.Coder.{rooted}
 use Rattle.lists.proofs.Calls.{accepted-fit, accepted-bytes}
 use Rattle.reading.proofs.Answers.{not-both}
 use Rattle.reading.proofs.Checks.{facts-early}
@@ -98,9 +99,6 @@ module _ (k : ℕ) (p : Plan) (fits : fit k p ≡ true) (w o : List ℕ) (answer
   write-fit h l =
       let e = fit-accepted k p (length w) (length o) fits h l in
       (wrote .answered ∙ simp (eq-eqb _ 0 e), wrote .filled ∙ simp (eq-eqb _ 0 e))
-
-abbrev pub rooted : List ℕ → Plan
-rooted rot = record { rotation = rot; root = 0 }
 
 -- the plan in the first 2m entries, root 0
 abbrev pub planIn : ℕ → List ℕ → Plan
