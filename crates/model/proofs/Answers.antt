@@ -9,7 +9,7 @@
 --   number-of-read       the number of reading's answer is the first of its refusals but 13, if one holds
 --   number-of-readable   0 if none holds and a fit plan has the record
 --   number-of-unreadable 13 if none holds and no fit plan has it
---   read-zero            0 is a number of edges, of a fit plan that has the record
+--   read-zero            0 is the number of edges and the outside of a fit plan that has the record
 use Prim.Native.Nat.{ℕ, _+_}
 use mathlib.Core.Path.{_≡_, refl, sym, ap, _∙_}
 use mathlib.Core.Logic.{_≢_}
@@ -26,8 +26,8 @@ use Rattle.model.specs.declared.Measured.the-variants as measured
 use Rattle.model.specs.declared.Shelved.the-variants as shelved
 use Rattle.model.specs.Map.{Plan, edges, faceLengths, characteristic}
 use Rattle.model.specs.Record.{recordLength}
-use Rattle.model.specs.Shelf.{edgesOf, recordsIn, firstEqual}
-use Rattle.model.specs.Calls.{writeRefusal, writeAnswer, numberOfWritten, readRefusal, HasRecord, Reads, refused, read, unreadable, numberOfRead}
+use Rattle.model.specs.Shelf.{kindOf, edgesOf, recordsIn, firstEqual}
+use Rattle.model.specs.Calls.{writeRefusal, writeAnswer, numberOfWritten, readRefusal, HasRecord, outsideRead, Reads, refused, read, unreadable, numberOfRead}
 use Rattle.model.specs.Calls.{measureRefusal, measureAnswer, numberOfMeasured}
 use Rattle.model.specs.Calls.{shelveRefusal, shelveAnswer, numberOfShelved}
 
@@ -104,7 +104,7 @@ module _ (r : List ℕ) (w : ℕ) (out : List ℕ) (a : ReadBack) (out′ : List
   number-of-unreadable (read z p has e f) n none = absurd (none p has)
   number-of-unreadable (unreadable z never e f) n none = ap numberOfRead e
 
-  pub read-zero : Reads r w out a out′ → numberOfRead a ≡ 0 → (a ≡ readback.Edges (edgesOf r)) × (p : Plan) × HasRecord r p
+  pub read-zero : Reads r w out a out′ → numberOfRead a ≡ 0 → (p : Plan) × HasRecord r p × (a ≡ readback.Edges (edgesOf r) (outsideRead (kindOf r) p))
   read-zero (refused d e f) n = absurd (d (sym (ap numberOfRead e) ∙ n))
-  read-zero (read z p has e f) n = (e, p, has)
+  read-zero (read z p has e f) n = (p, has, e)
   read-zero (unreadable z never e f) n = absurd (suc-ne-zero 12 (sym (ap numberOfRead e) ∙ n))

@@ -6,7 +6,8 @@
 --   count-positive, count-even   its first two parts
 --   even-darts                   the dart count is twice the number of edges
 --   connected-at, at-connected   every dart is reached
---   loopless, no-loop-refused    where 11 is not given and the kind takes no loops there is none; and 11 is not given if there is none, or the kind takes them
+--   outside-dart, dart-outside   where the outside is stored it is a dart, or 17 is given
+--   loopless, no-loop-refused    where 11 is not given and the family takes no loops there is none; and 11 is not given if there is none, or the family takes them
 --   loopless-at, at-loopless     no edge has both its darts at one vertex
 --   dead-end-at, at-dead-end     some dart is alone at its vertex, which is not the root's
 use mathlib.Core.Path.{_≡_, refl, ap}
@@ -17,9 +18,9 @@ use native.Mathlib.Omega.{arith}
 use mathlib.Core.List.{List}
 use lib.Dec.{eqb, ltb}
 use lib.ListN.{length, getD}
-use borrow.Author.Tests.{ltb-true, eqb-true, eqb-false, leb-true, lt-ltb, eq-eqb, ne-eqb, le-leb, not-true}
+use borrow.Author.Tests.{ltb-true, eqb-true, eqb-false, leb-true, lt-ltb, eq-eqb, ne-eqb, le-leb, not-true, not-false}
 use Rattle.model.specs.Numbers.{isPermutation}
-use Rattle.model.specs.Map.{Plan, darts, opposite, next, vertexOf, edges, isKind, edgeCountFits, dartCountFits, degreeOne, reached, connected, planar, hasLoop, hasDeadEnd, takesLoops, loopRefused, degreeRefused, fit}
+use Rattle.model.specs.Map.{Plan, darts, opposite, next, vertexOf, edges, isKind, edgeCountFits, dartCountFits, degreeOne, reached, connected, planar, hasLoop, hasDeadEnd, family, storesOutside, takesLoops, outsideRefused, loopRefused, degreeRefused, fit}
 use Rattle.model.proofs.Booleans.{and-left, and-right, both, not-intro, some-at, some-in, some-no, no-some}
 pub use Rattle.model.proofs.Opposite.{opposite-opposite, opposite-ne, opposite-bound, opposite-edge}
 pub use Rattle.model.proofs.Permutations.{below-all, distinct-at, position-entry}
@@ -28,11 +29,12 @@ pub record Fit (k : ℕ) (p : Plan) : Type 0 where
   pub kind : isKind k ≡ true
   pub count : dartCountFits (darts p) ≡ true
   pub root : p .root < darts p
+  pub outside : outsideRefused k p ≡ false
   pub entries : isPermutation (p .rotation) ≡ true
   pub joined : connected (p .rotation) ≡ true
   pub flat : planar (p .rotation) ≡ true
-  pub loops : loopRefused k (p .rotation) ≡ false
-  pub degrees : degreeRefused k p ≡ false
+  pub loops : loopRefused (family k) (p .rotation) ≡ false
+  pub degrees : degreeRefused (family k) p ≡ false
 
 module _ (k : ℕ) (p : Plan) where
   pub fit-parts : fit k p ≡ true → Fit k p
@@ -40,7 +42,8 @@ module _ (k : ℕ) (p : Plan) where
   fit-parts e =
       let e3 = and-right (isKind k) _ e in
       let e4 = and-right (dartCountFits (darts p)) _ e3 in
-      let e6 = and-right (ltb (p .root) (darts p)) _ e4 in
+      let e17 = and-right (ltb (p .root) (darts p)) _ e4 in
+      let e6 = and-right (not (outsideRefused k p)) _ e17 in
       let e9 = and-right (isPermutation (p .rotation)) _ e6 in
       let e10 = and-right (connected (p .rotation)) _ e9 in
       let e11 = and-right (planar (p .rotation)) _ e10 in
@@ -48,26 +51,41 @@ module _ (k : ℕ) (p : Plan) where
         kind = and-left (isKind k) _ e;
         count = and-left (dartCountFits (darts p)) _ e3;
         root = ltb-true (p .root) (darts p) (and-left (ltb (p .root) (darts p)) _ e4);
+        outside = not-true (outsideRefused k p) (and-left (not (outsideRefused k p)) _ e17);
         entries = and-left (isPermutation (p .rotation)) _ e6;
         joined = and-left (connected (p .rotation)) _ e9;
         flat = and-left (planar (p .rotation)) _ e10;
-        loops = not-true (loopRefused k (p .rotation)) (and-left (not (loopRefused k (p .rotation))) _ e11);
-        degrees = not-true (degreeRefused k p) (and-right (not (loopRefused k (p .rotation))) _ e11);
+        loops = not-true (loopRefused (family k) (p .rotation)) (and-left (not (loopRefused (family k) (p .rotation))) _ e11);
+        degrees = not-true (degreeRefused (family k) p) (and-right (not (loopRefused (family k) (p .rotation))) _ e11);
       }
 
   pub parts-fit : Fit k p → fit k p ≡ true
   unfolding fit
-  parts-fit f = rw (f .kind, f .count, lt-ltb (p .root) (darts p) (f .root), f .entries, f .joined, f .flat, f .loops, f .degrees)
+  parts-fit f = rw (f .kind, f .count, lt-ltb (p .root) (darts p) (f .root), f .outside, f .entries, f .joined, f .flat, f .loops, f .degrees)
 
--- ---- loops, by kind
+-- ---- the outside, by kind
 
-pub loopless : (k : ℕ) (rot : List ℕ) → loopRefused k rot ≡ false → takesLoops k ≡ false → hasLoop rot ≡ false
+pub outside-dart : (k : ℕ) (p : Plan) → outsideRefused k p ≡ false → storesOutside k ≡ true → p .outside < darts p
+unfolding outsideRefused
+outside-dart k p e s = ltb-true _ _ (not-false (ltb (p .outside) (darts p)) (rw s at e))
+
+pub dart-outside : (k : ℕ) (p : Plan) → (storesOutside k ≡ true → p .outside < darts p) → outsideRefused k p ≡ false
+unfolding outsideRefused
+dart-outside k p h = go (storesOutside k) h
+  where
+    go : (b : Bool) → (b ≡ true → p .outside < darts p) → (b && not (ltb (p .outside) (darts p))) ≡ false
+    go true h = ap not (lt-ltb (p .outside) (darts p) (h refl))
+    go false h = refl
+
+-- ---- loops, by family
+
+pub loopless : (f : ℕ) (rot : List ℕ) → loopRefused f rot ≡ false → takesLoops f ≡ false → hasLoop rot ≡ false
 unfolding loopRefused
-loopless k rot e t = rw t at e
+loopless f rot e t = rw t at e
 
-pub no-loop-refused : (k : ℕ) (rot : List ℕ) → (takesLoops k ≡ false → hasLoop rot ≡ false) → loopRefused k rot ≡ false
+pub no-loop-refused : (f : ℕ) (rot : List ℕ) → (takesLoops f ≡ false → hasLoop rot ≡ false) → loopRefused f rot ≡ false
 unfolding loopRefused
-no-loop-refused k rot h = go (takesLoops k) h
+no-loop-refused f rot h = go (takesLoops f) h
   where
     go : (b : Bool) → (b ≡ false → hasLoop rot ≡ false) → (not b && hasLoop rot) ≡ false
     go true h = refl

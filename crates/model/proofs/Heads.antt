@@ -2,9 +2,11 @@
 --
 --   le16-word16          two bytes are the field of their number
 --   le16-bytes           two bytes
---   kind-cases           what holds of 1, 2 and 4 holds of every kind
---   kind-one, kind-two, kind-four, kind-other   the length of a record of kind 1, of kind 2, of kind 4, and of one that is not 1 or 2
---   recordLength-range   a record has from 7 to 2054 bytes
+--   three-cases          what holds of three numbers holds of every entry of their list
+--   family-cases, kind-cases   what holds of 1, 2 and 4 holds of every family, and of every kind if it holds of 101h, 102h and 104h too
+--   kind-family, kind-small   a kind's family is one; a kind is a 16-bit number
+--   family-one, family-two, family-four, family-other   the length of a payload of family 1, of 2, of 4, and of one that is not 1 or 2
+--   headLength-range, recordLength-range   6 to 8 bytes stand before the payload, and a record has from 7 to 2056
 --   Whole, Kinded, Counted        what the checks so far have shown: the length, and the kind, and the number of edges
 --   refuse-short, refuse-length, refuse-kind, refuse-count, refuse-size, refuse-nothing   the head refusal, check by check
 --   Passes               what passing says
@@ -17,14 +19,14 @@
 use Prim.Native.Nat.{ℕ, _+_, _*_, _/_, _%_, _≤_, _<_}
 use native.Mathlib.Omega.{arith}
 use mathlib.Core.Path.{_≡_, refl, sym, subst}
-use mathlib.Core.Bool.{Bool, true, false, _||_, cond}
+use mathlib.Core.Bool.{Bool, true, false, cond, false≢true}
 use mathlib.Core.List.{List, [], _∷_, _++_}
 use lib.Dec.{eqb, ltb}
 use lib.ListN.{length, getD}
 use borrow.Author.Tests.{lt-ltb, le-ltb, eq-eqb, ne-eqb, ltb-false, eqb-true, not-false}
-use Rattle.model.specs.Numbers.{allBelow, Refusal, firstRefusal}
-use Rattle.model.specs.Map.{isKind, edgeCountFits}
-use Rattle.model.specs.Record.{le16, recordLength}
+use Rattle.model.specs.Numbers.{elem, allBelow, Refusal, firstRefusal}
+use Rattle.model.specs.Map.{isFamily, storesOutside, isKind, family, edgeCountFits}
+use Rattle.model.specs.Record.{le16, headLength, payloadLength, recordLength}
 use Rattle.model.specs.Shelf.{word16, kindOf, edgesOf, headRefusals, headRefusal, passes}
 use Rattle.model.proofs.Booleans.{or-split, or-none}
 use Rattle.model.proofs.Below.{below-cons}
@@ -45,36 +47,70 @@ le16-bytes n = below-cons 256 (n % 256) (n / 256 % 256 ∷ []) (omega arith) (be
 
 -- ---- kinds and lengths
 
-pub kind-cases : (P : ℕ → Type 0) → P 1 → P 2 → P 4 → (k : ℕ) → isKind k ≡ true → P k
-unfolding isKind
-kind-cases P p q s k e =
-    or-split (eqb k 1) (eqb k 2 || eqb k 4) e (λ t. subst P (sym (eqb-true k 1 t)) p)
-    (λ u. or-split (eqb k 2) (eqb k 4) u (λ t. subst P (sym (eqb-true k 2 t)) q) (λ t. subst P (sym (eqb-true k 4 t)) s))
-
-pub kind-one : (k m : ℕ) → k ≡ 1 → 6 + (3 * m + 7) / 8 ≡ recordLength k m
-unfolding recordLength
-kind-one k m e = rw (eq-eqb _ _ e)
-
-pub kind-two : (k m : ℕ) → k ≡ 2 → 6 + (2 * m + 7) / 8 + (m + 4) / 5 ≡ recordLength k m
-unfolding recordLength
-kind-two k m e = rw e
-
-pub kind-four : (k m : ℕ) → k ≡ 4 → 6 + (m + 1) / 2 ≡ recordLength k m
-unfolding recordLength
-kind-four k m e = rw e
-
-pub kind-other : (k m : ℕ) → (k ≡ 1 → ⊥) → (k ≡ 2 → ⊥) → 6 + (m + 1) / 2 ≡ recordLength k m
-unfolding recordLength
-kind-other k m d e = rw (ne-eqb _ _ d, ne-eqb _ _ e)
-
-pub recordLength-range : (k m : ℕ) → 1 ≤ m → m ≤ 4096 → (7 ≤ recordLength k m) × (recordLength k m ≤ 2054)
-unfolding recordLength
-recordLength-range k m h l = go (eqb k 1) (eqb k 2)
+pub three-cases : (a b c : ℕ) (P : ℕ → Type 0) → P a → P b → P c → (k : ℕ) → elem k (a ∷ b ∷ c ∷ []) ≡ true → P k
+unfolding elem
+three-cases a b c P p q s k e = go (eqb k a) (eqb k b) (eqb k c) refl refl refl e
   where
-    go : (t u : Bool) → let n = cond t (6 + (3 * m + 7) / 8) (cond u (6 + (2 * m + 7) / 8 + (m + 4) / 5) (6 + (m + 1) / 2)) in (7 ≤ n) × (n ≤ 2054)
+    go : (t u v : Bool) → eqb k a ≡ t → eqb k b ≡ u → eqb k c ≡ v → cond t true (cond u true (cond v true false)) ≡ true → P k
+    go true u v x y z e = subst P (sym (eqb-true k a x)) p
+    go false true v x y z e = subst P (sym (eqb-true k b y)) q
+    go false false true x y z e = subst P (sym (eqb-true k c z)) s
+    go false false false x y z e = absurd (false≢true e)
+
+pub family-cases : (P : ℕ → Type 0) → P 1 → P 2 → P 4 → (f : ℕ) → isFamily f ≡ true → P f
+unfolding isFamily
+family-cases = three-cases 1 2 4
+
+pub kind-cases : (P : ℕ → Type 0) → P 1 → P 2 → P 4 → P 0x101 → P 0x102 → P 0x104 → (k : ℕ) → isKind k ≡ true → P k
+unfolding isKind storesOutside
+kind-cases P p q s t u v k e = or-split (isFamily k) (storesOutside k) e (family-cases P p q s k) (three-cases 0x101 0x102 0x104 P t u v k)
+
+pub kind-family : (k : ℕ) → isKind k ≡ true → isFamily (family k) ≡ true
+unfolding isFamily family storesOutside elem
+kind-family = kind-cases (λ (x : ℕ). isFamily (family x) ≡ true) refl refl refl refl refl refl
+
+pub kind-small : (k : ℕ) → isKind k ≡ true → k < 65536
+kind-small = kind-cases (λ (x : ℕ). x < 65536) (omega arith) (omega arith) (omega arith) (omega arith) (omega arith) (omega arith)
+
+pub family-one : (f m : ℕ) → f ≡ 1 → (3 * m + 7) / 8 ≡ payloadLength f m
+unfolding payloadLength
+family-one f m e = rw (eq-eqb _ _ e)
+
+pub family-two : (f m : ℕ) → f ≡ 2 → (2 * m + 7) / 8 + (m + 4) / 5 ≡ payloadLength f m
+unfolding payloadLength
+family-two f m e = rw e
+
+pub family-four : (f m : ℕ) → f ≡ 4 → (m + 1) / 2 ≡ payloadLength f m
+unfolding payloadLength
+family-four f m e = rw e
+
+pub family-other : (f m : ℕ) → (f ≡ 1 → ⊥) → (f ≡ 2 → ⊥) → (m + 1) / 2 ≡ payloadLength f m
+unfolding payloadLength
+family-other f m d e = rw (ne-eqb _ _ d, ne-eqb _ _ e)
+
+payloadLength-range : (f m : ℕ) → 1 ≤ m → m ≤ 4096 → (1 ≤ payloadLength f m) × (payloadLength f m ≤ 2048)
+unfolding payloadLength
+payloadLength-range f m h l = go (eqb f 1) (eqb f 2)
+  where
+    go : (t u : Bool) → let n = cond t ((3 * m + 7) / 8) (cond u ((2 * m + 7) / 8 + (m + 4) / 5) ((m + 1) / 2)) in (1 ≤ n) × (n ≤ 2048)
     go true u = (omega arith, omega arith)
     go false true = (omega arith, omega arith)
     go false false = (omega arith, omega arith)
+
+pub headLength-range : (k : ℕ) → (6 ≤ headLength k) × (headLength k ≤ 8)
+unfolding headLength
+headLength-range k = go (storesOutside k)
+  where
+    go : (b : Bool) → (6 ≤ cond b 8 6) × (cond b 8 6 ≤ 8)
+    go true = (omega arith, omega arith)
+    go false = (omega arith, omega arith)
+
+pub recordLength-range : (k m : ℕ) → 1 ≤ m → m ≤ 4096 → (7 ≤ recordLength k m) × (recordLength k m ≤ 2056)
+unfolding recordLength
+recordLength-range k m h l =
+    let p = payloadLength-range (family k) m h l in
+    let q = headLength-range k in
+    (omega arith, omega arith)
 
 -- ---- the head refusal, check by check
 

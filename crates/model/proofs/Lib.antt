@@ -3,6 +3,7 @@ pub mod Permutations
 pub mod Below
 pub mod Opposite
 pub mod Fitness
+pub mod Outside
 pub mod Characteristic
 pub mod Standard
 pub mod Refusals

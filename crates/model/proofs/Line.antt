@@ -37,6 +37,7 @@ pub data Says : Type 0 where
 pub record Writes : Type 0 where
   pub kind : ℕ
   pub root : ℕ
+  pub outside : ℕ
   pub rotation : List ℕ
   pub says : Says
 
@@ -46,12 +47,12 @@ pub data Line : Type 0 where
 
 -- ---- writing
 
--- an output of ten bytes that are no record's, with room for five edges
+-- an output of twelve bytes that are no record's, with room for five edges
 abbrev pub lent : List ℕ
-lent = replicate 10 7
+lent = replicate 12 7
 
 unfoldable pub answer : ℕ → Plan → Written
-answer k p = writeAnswer k p 160 10
+answer k p = writeAnswer k p 160 12
 
 unfoldable pub output : ℕ → Plan → List ℕ
 output k p = writtenOutput k p 160 lent
@@ -77,7 +78,7 @@ agrees k p (refused n) = refuses k p n
 agrees k p (not-planar x) = refuses k p 10 && sameInteger (characteristicOfWritten (answer k p)) x
 
 unfoldable pub holds : Writes → Bool
-holds l = agrees (l .kind) (record { rotation = l .rotation; root = l .root }) (l .says)
+holds l = agrees (l .kind) (record { rotation = l .rotation; root = l .root; outside = l .outside }) (l .says)
 
 unfoldable pub allHold : List Writes → Bool
 allHold [] = true

@@ -9,26 +9,26 @@
 --   measuring-opened     measuring's answer and the list after it
 use Rattle.model.specs.Numbers.{count, some, elem, distinct, allBelow, isPermutation, position, least, cycles, cycleSize, sizesBelow, cycleSizes}
 use Rattle.model.specs.Numbers.{firstRefusal}
-use Rattle.model.specs.Map.{opposite, next, vertexOf, faceNext, edges, vertices, faces, faceLengths, degreeOne, spread, spreads, reached, connected}
-use Rattle.model.specs.Map.{characteristic, planar, hasLoop, hasDeadEnd, isKind, dartCountFits, loopRefused, degreeRefused, fit}
-use Rattle.model.specs.Traversal.{letterAt, onward, seenAfter, walk, visits, number, standardNumbers, renumbered, standardPlan}
+use Rattle.model.specs.Map.{opposite, next, vertexOf, faceNext, faceOf, edges, vertices, faces, faceLengths, degreeOne, spread, spreads, reached, connected}
+use Rattle.model.specs.Map.{characteristic, planar, hasLoop, hasDeadEnd, isFamily, storesOutside, isKind, family, dartCountFits, outsideRefused, loopRefused, degreeRefused, fit}
+use Rattle.model.specs.Traversal.{letterAt, onward, seenAfter, walk, visits, number, standardNumbers, renumbered, standardRotation, standardFace, standardPlan}
 use Rattle.model.specs.LabelledTree.{codesOf, codes, unlabelled, isUpper, gone, before, labelOne, removeCut, takeLeaf, takeOne, takeLeaves}
 use Rattle.model.specs.LabelledTree.{treeLabels, labelOf, bitsOf, along, labels, treeBits}
-use Rattle.model.specs.Record.{digitsFrom, pack, le16, recordLength, payload, contourBits, headed, payloadOf, recordOf}
+use Rattle.model.specs.Record.{digitsFrom, pack, le16, headLength, payloadLength, recordLength, payload, contourBits, headed, payloadOf, outsideBytes, recordOf}
 use Rattle.model.specs.Shelf.{same}
 use Rattle.model.specs.Calls.{front, earlyRefusals, lateRefusals, writeRefusal, writeAnswer, writtenOutput, measureRefusal, measureAnswer, measuredList}
 use Rattle.model.proofs.Line.{answer, output, writes, refuses, agrees, holds}
 
 unfoldable pub map-opened : Unit {0}
-unfolding opposite next vertexOf least faceNext edges vertices faces cycles count degreeOne spread spreads reached some connected characteristic planar
+unfolding opposite next vertexOf least faceNext faceOf edges vertices faces cycles count degreeOne spread spreads reached some connected characteristic planar
 map-opened = tt
 
 unfoldable pub fit-opened : Unit {0}
-unfolding map-opened fit isKind dartCountFits isPermutation allBelow distinct elem loopRefused hasLoop degreeRefused hasDeadEnd
+unfolding map-opened fit isFamily storesOutside isKind family dartCountFits isPermutation allBelow distinct elem outsideRefused loopRefused hasLoop degreeRefused hasDeadEnd
 fit-opened = tt
 
 unfoldable pub walk-opened : Unit {0}
-unfolding map-opened letterAt onward seenAfter walk visits number standardNumbers renumbered standardPlan
+unfolding map-opened letterAt onward seenAfter walk visits number standardNumbers renumbered standardRotation standardFace standardPlan
 walk-opened = tt
 
 unfoldable pub labels-opened : Unit {0}
@@ -36,7 +36,7 @@ unfolding walk-opened codesOf codes position unlabelled isUpper gone before labe
 labels-opened = tt
 
 unfoldable pub record-opened : Unit {0}
-unfolding fit-opened labels-opened digitsFrom pack le16 recordLength payload contourBits headed payloadOf recordOf same
+unfolding fit-opened labels-opened digitsFrom pack le16 headLength payloadLength recordLength payload contourBits headed payloadOf outsideBytes recordOf same
 record-opened = tt
 
 unfoldable pub writing-opened : Unit {0}

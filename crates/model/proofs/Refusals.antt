@@ -13,7 +13,7 @@ use mathlib.Core.List.{List, [], _∷_, _++_}
 use lib.Dec.{eqb}
 use borrow.Author.Tests.{eqb-true, eqb-false, ltb-true, not-true, not-false}
 use Rattle.model.specs.Numbers.{Refusal, firstRefusal}
-use Rattle.model.specs.Map.{Plan, fit}
+use Rattle.model.specs.Map.{Plan, family, fit}
 use Rattle.model.specs.Calls.{earlyRefusals, lateRefusals, writeRefusal}
 use Rattle.model.proofs.Booleans.{and-left, and-right}
 use Rattle.model.proofs.Fitness.{parts-fit}
@@ -74,11 +74,12 @@ append-none rs ss l e = go (eqb (firstRefusal rs) 0) refl (sym (first-append rs 
 pub not-refused : (k : ℕ) (p : Plan) (w o : ℕ) → writeRefusal k p w o ≡ 0 → fit k p ≡ true
 unfolding writeRefusal earlyRefusals lateRefusals
 not-refused k p w o e =
-    let no = none-holds (earlyRefusals k p w o ++ lateRefusals k p) refl e in
+    let no = none-holds (earlyRefusals k p w o ++ lateRefusals (family k) p) refl e in
     parts-fit k p (record {
       kind = not-false _ (no 2);
       count = not-false _ (no 3);
       root = ltb-true _ _ (not-false _ (no 4));
+      outside = no 17;
       entries = not-false _ (no 6);
       joined = not-false _ (no 9);
       flat = not-false _ (no 10);

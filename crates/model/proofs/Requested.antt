@@ -21,27 +21,46 @@ use Rattle.model.proofs.Opened.{writing-opened, measuring-opened}
 -- (a) "Order 0 2 5 4 3 1, start 0, is then 08 00 01 00 03 00 E1 00": from any other start its dead end is not the start's. One trail has two dead ends.
 unfoldable pub requested : List Writes
 requested =
-    record { kind = 1; root = 0; rotation = 0 ∷ 2 ∷ 5 ∷ 4 ∷ 3 ∷ 1 ∷ []; says = record-is (0x08 ∷ 0x00 ∷ 0x01 ∷ 0x00 ∷ 0x03 ∷ 0x00 ∷ 0xE1 ∷ 0x00 ∷ []) }
-    ∷ record { kind = 1; root = 1; rotation = 0 ∷ 2 ∷ 5 ∷ 4 ∷ 3 ∷ 1 ∷ []; says = refused 12 }
-    ∷ record { kind = 1; root = 2; rotation = 0 ∷ 2 ∷ 5 ∷ 4 ∷ 3 ∷ 1 ∷ []; says = refused 12 }
-    ∷ record { kind = 1; root = 3; rotation = 0 ∷ 2 ∷ 5 ∷ 4 ∷ 3 ∷ 1 ∷ []; says = refused 12 }
-    ∷ record { kind = 1; root = 4; rotation = 0 ∷ 2 ∷ 5 ∷ 4 ∷ 3 ∷ 1 ∷ []; says = refused 12 }
-    ∷ record { kind = 1; root = 5; rotation = 0 ∷ 2 ∷ 5 ∷ 4 ∷ 3 ∷ 1 ∷ []; says = refused 12 }
-    ∷ record { kind = 1; root = 0; rotation = 0 ∷ 1 ∷ []; says = refused 12 }
-    ∷ record { kind = 1; root = 1; rotation = 0 ∷ 1 ∷ []; says = refused 12 }
+    record { kind = 1; root = 0; outside = 0; rotation = 0 ∷ 2 ∷ 5 ∷ 4 ∷ 3 ∷ 1 ∷ []; says = record-is (0x08 ∷ 0x00 ∷ 0x01 ∷ 0x00 ∷ 0x03 ∷ 0x00 ∷ 0xE1 ∷ 0x00 ∷ []) }
+    ∷ record { kind = 1; root = 1; outside = 0; rotation = 0 ∷ 2 ∷ 5 ∷ 4 ∷ 3 ∷ 1 ∷ []; says = refused 12 }
+    ∷ record { kind = 1; root = 2; outside = 0; rotation = 0 ∷ 2 ∷ 5 ∷ 4 ∷ 3 ∷ 1 ∷ []; says = refused 12 }
+    ∷ record { kind = 1; root = 3; outside = 0; rotation = 0 ∷ 2 ∷ 5 ∷ 4 ∷ 3 ∷ 1 ∷ []; says = refused 12 }
+    ∷ record { kind = 1; root = 4; outside = 0; rotation = 0 ∷ 2 ∷ 5 ∷ 4 ∷ 3 ∷ 1 ∷ []; says = refused 12 }
+    ∷ record { kind = 1; root = 5; outside = 0; rotation = 0 ∷ 2 ∷ 5 ∷ 4 ∷ 3 ∷ 1 ∷ []; says = refused 12 }
+    ∷ record { kind = 1; root = 0; outside = 0; rotation = 0 ∷ 1 ∷ []; says = refused 12 }
+    ∷ record { kind = 1; root = 1; outside = 0; rotation = 0 ∷ 1 ∷ []; says = refused 12 }
     -- (c) "A single loop gives 07 00 04 00 01 00 B0." One trail, the triangle, three parallel trails, the spur, a loop around a dead end. 9 and 10 are given as in any kind; 11 in the others; 3 and 5 are no kinds.
-    ∷ record { kind = 4; root = 0; rotation = 1 ∷ 0 ∷ []; says = record-is (0x07 ∷ 0x00 ∷ 0x04 ∷ 0x00 ∷ 0x01 ∷ 0x00 ∷ 0xB0 ∷ []) }
-    ∷ record { kind = 4; root = 0; rotation = 0 ∷ 1 ∷ []; says = record-is (0x07 ∷ 0x00 ∷ 0x04 ∷ 0x00 ∷ 0x01 ∷ 0x00 ∷ 0x10 ∷ []) }
-    ∷ record { kind = 4; root = 0; rotation = 5 ∷ 2 ∷ 1 ∷ 4 ∷ 3 ∷ 0 ∷ []; says = record-is (0x08 ∷ 0x00 ∷ 0x04 ∷ 0x00 ∷ 0x03 ∷ 0x00 ∷ 0x09 ∷ 0x70 ∷ []) }
-    ∷ record { kind = 4; root = 0; rotation = 5 ∷ 2 ∷ 4 ∷ 0 ∷ 1 ∷ 3 ∷ []; says = record-is (0x08 ∷ 0x00 ∷ 0x04 ∷ 0x00 ∷ 0x03 ∷ 0x00 ∷ 0x29 ∷ 0xF0 ∷ []) }
-    ∷ record { kind = 4; root = 0; rotation = 0 ∷ 2 ∷ 5 ∷ 4 ∷ 3 ∷ 1 ∷ []; says = record-is (0x08 ∷ 0x00 ∷ 0x04 ∷ 0x00 ∷ 0x03 ∷ 0x00 ∷ 0x09 ∷ 0xD0 ∷ []) }
-    ∷ record { kind = 4; root = 0; rotation = 2 ∷ 1 ∷ 4 ∷ 0 ∷ 3 ∷ 5 ∷ []; says = record-is (0x08 ∷ 0x00 ∷ 0x04 ∷ 0x00 ∷ 0x03 ∷ 0x00 ∷ 0x18 ∷ 0x70 ∷ []) }
-    ∷ record { kind = 4; root = 0; rotation = 0 ∷ 1 ∷ 2 ∷ 3 ∷ []; says = refused 9 }
-    ∷ record { kind = 4; root = 0; rotation = 3 ∷ 2 ∷ 4 ∷ 5 ∷ 1 ∷ 0 ∷ []; says = not-planar (pos 0) }
-    ∷ record { kind = 1; root = 0; rotation = 1 ∷ 0 ∷ []; says = refused 11 }
-    ∷ record { kind = 2; root = 0; rotation = 1 ∷ 0 ∷ []; says = refused 11 }
-    ∷ record { kind = 3; root = 0; rotation = 1 ∷ 0 ∷ []; says = refused 2 }
-    ∷ record { kind = 5; root = 0; rotation = 1 ∷ 0 ∷ []; says = refused 2 }
+    ∷ record { kind = 4; root = 0; outside = 0; rotation = 1 ∷ 0 ∷ []; says = record-is (0x07 ∷ 0x00 ∷ 0x04 ∷ 0x00 ∷ 0x01 ∷ 0x00 ∷ 0xB0 ∷ []) }
+    ∷ record { kind = 4; root = 0; outside = 0; rotation = 0 ∷ 1 ∷ []; says = record-is (0x07 ∷ 0x00 ∷ 0x04 ∷ 0x00 ∷ 0x01 ∷ 0x00 ∷ 0x10 ∷ []) }
+    ∷ record { kind = 4; root = 0; outside = 0; rotation = 5 ∷ 2 ∷ 1 ∷ 4 ∷ 3 ∷ 0 ∷ []; says = record-is (0x08 ∷ 0x00 ∷ 0x04 ∷ 0x00 ∷ 0x03 ∷ 0x00 ∷ 0x09 ∷ 0x70 ∷ []) }
+    ∷ record { kind = 4; root = 0; outside = 0; rotation = 5 ∷ 2 ∷ 4 ∷ 0 ∷ 1 ∷ 3 ∷ []; says = record-is (0x08 ∷ 0x00 ∷ 0x04 ∷ 0x00 ∷ 0x03 ∷ 0x00 ∷ 0x29 ∷ 0xF0 ∷ []) }
+    ∷ record { kind = 4; root = 0; outside = 0; rotation = 0 ∷ 2 ∷ 5 ∷ 4 ∷ 3 ∷ 1 ∷ []; says = record-is (0x08 ∷ 0x00 ∷ 0x04 ∷ 0x00 ∷ 0x03 ∷ 0x00 ∷ 0x09 ∷ 0xD0 ∷ []) }
+    ∷ record { kind = 4; root = 0; outside = 0; rotation = 2 ∷ 1 ∷ 4 ∷ 0 ∷ 3 ∷ 5 ∷ []; says = record-is (0x08 ∷ 0x00 ∷ 0x04 ∷ 0x00 ∷ 0x03 ∷ 0x00 ∷ 0x18 ∷ 0x70 ∷ []) }
+    ∷ record { kind = 4; root = 0; outside = 0; rotation = 0 ∷ 1 ∷ 2 ∷ 3 ∷ []; says = refused 9 }
+    ∷ record { kind = 4; root = 0; outside = 0; rotation = 3 ∷ 2 ∷ 4 ∷ 5 ∷ 1 ∷ 0 ∷ []; says = not-planar (pos 0) }
+    ∷ record { kind = 1; root = 0; outside = 0; rotation = 1 ∷ 0 ∷ []; says = refused 11 }
+    ∷ record { kind = 2; root = 0; outside = 0; rotation = 1 ∷ 0 ∷ []; says = refused 11 }
+    ∷ record { kind = 3; root = 0; outside = 0; rotation = 1 ∷ 0 ∷ []; says = refused 2 }
+    ∷ record { kind = 5; root = 0; outside = 0; rotation = 1 ∷ 0 ∷ []; says = refused 2 }
+    -- (e) "the lowest standard dart of the outside area"; "17, outside dart not below the dart count, right after 4"; a kind without the bytes "ignores the outside in writing"
+    ∷ record { kind = 0x101; root = 0; outside = 0; rotation = 5 ∷ 2 ∷ 1 ∷ 4 ∷ 3 ∷ 0 ∷ []; says = record-is (0x0A ∷ 0x00 ∷ 0x01 ∷ 0x01 ∷ 0x03 ∷ 0x00 ∷ 0x00 ∷ 0x00 ∷ 0xE2 ∷ 0x00 ∷ []) }
+    ∷ record { kind = 0x101; root = 0; outside = 1; rotation = 5 ∷ 2 ∷ 1 ∷ 4 ∷ 3 ∷ 0 ∷ []; says = record-is (0x0A ∷ 0x00 ∷ 0x01 ∷ 0x01 ∷ 0x03 ∷ 0x00 ∷ 0x01 ∷ 0x00 ∷ 0xE2 ∷ 0x00 ∷ []) }
+    ∷ record { kind = 0x101; root = 1; outside = 0; rotation = 5 ∷ 2 ∷ 1 ∷ 4 ∷ 3 ∷ 0 ∷ []; says = record-is (0x0A ∷ 0x00 ∷ 0x01 ∷ 0x01 ∷ 0x03 ∷ 0x00 ∷ 0x01 ∷ 0x00 ∷ 0xE2 ∷ 0x00 ∷ []) }
+    ∷ record { kind = 0x101; root = 0; outside = 2; rotation = 0 ∷ 2 ∷ 5 ∷ 4 ∷ 3 ∷ 1 ∷ []; says = record-is (0x0A ∷ 0x00 ∷ 0x01 ∷ 0x01 ∷ 0x03 ∷ 0x00 ∷ 0x00 ∷ 0x00 ∷ 0xE1 ∷ 0x00 ∷ []) }
+    ∷ record { kind = 0x101; root = 0; outside = 3; rotation = 0 ∷ 2 ∷ 5 ∷ 4 ∷ 3 ∷ 1 ∷ []; says = record-is (0x0A ∷ 0x00 ∷ 0x01 ∷ 0x01 ∷ 0x03 ∷ 0x00 ∷ 0x03 ∷ 0x00 ∷ 0xE1 ∷ 0x00 ∷ []) }
+    ∷ record { kind = 0x101; root = 1; outside = 0; rotation = 0 ∷ 2 ∷ 5 ∷ 4 ∷ 3 ∷ 1 ∷ []; says = refused 12 }
+    ∷ record { kind = 0x102; root = 0; outside = 1; rotation = 4 ∷ 2 ∷ 1 ∷ 0 ∷ 3 ∷ 5 ∷ []; says = record-is (0x0A ∷ 0x00 ∷ 0x02 ∷ 0x01 ∷ 0x03 ∷ 0x00 ∷ 0x01 ∷ 0x00 ∷ 0xCC ∷ 0x12 ∷ []) }
+    ∷ record { kind = 0x102; root = 0; outside = 1; rotation = 0 ∷ 1 ∷ []; says = record-is (0x0A ∷ 0x00 ∷ 0x02 ∷ 0x01 ∷ 0x01 ∷ 0x00 ∷ 0x00 ∷ 0x00 ∷ 0x80 ∷ 0xA2 ∷ []) }
+    ∷ record { kind = 0x102; root = 1; outside = 0; rotation = 2 ∷ 1 ∷ 0 ∷ 3 ∷ []; says = record-is (0x0A ∷ 0x00 ∷ 0x02 ∷ 0x01 ∷ 0x02 ∷ 0x00 ∷ 0x00 ∷ 0x00 ∷ 0xC0 ∷ 0x36 ∷ []) }
+    ∷ record { kind = 0x104; root = 0; outside = 0; rotation = 1 ∷ 0 ∷ []; says = record-is (0x09 ∷ 0x00 ∷ 0x04 ∷ 0x01 ∷ 0x01 ∷ 0x00 ∷ 0x00 ∷ 0x00 ∷ 0xB0 ∷ []) }
+    ∷ record { kind = 0x104; root = 0; outside = 1; rotation = 1 ∷ 0 ∷ []; says = record-is (0x09 ∷ 0x00 ∷ 0x04 ∷ 0x01 ∷ 0x01 ∷ 0x00 ∷ 0x01 ∷ 0x00 ∷ 0xB0 ∷ []) }
+    ∷ record { kind = 0x101; root = 0; outside = 6; rotation = 5 ∷ 2 ∷ 1 ∷ 4 ∷ 3 ∷ 0 ∷ []; says = refused 17 }
+    ∷ record { kind = 1; root = 0; outside = 6; rotation = 5 ∷ 2 ∷ 1 ∷ 4 ∷ 3 ∷ 0 ∷ []; says = record-is (0x08 ∷ 0x00 ∷ 0x01 ∷ 0x00 ∷ 0x03 ∷ 0x00 ∷ 0xE2 ∷ 0x00 ∷ []) }
+    ∷ record { kind = 0x104; root = 6; outside = 6; rotation = 5 ∷ 2 ∷ 1 ∷ 4 ∷ 3 ∷ 0 ∷ []; says = refused 4 }
+    ∷ record { kind = 0x104; root = 0; outside = 2; rotation = 1 ∷ 1 ∷ []; says = refused 17 }
+    ∷ record { kind = 0x104; root = 0; outside = 1; rotation = 1 ∷ 1 ∷ []; says = refused 6 }
+    ∷ record { kind = 0x102; root = 0; outside = 0; rotation = 1 ∷ 0 ∷ []; says = refused 11 }
+    ∷ record { kind = 0x103; root = 0; outside = 0; rotation = 1 ∷ 0 ∷ []; says = refused 2 }
     ∷ []
 
 pub requested-hold : T (allHold requested)

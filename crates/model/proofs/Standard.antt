@@ -9,7 +9,7 @@ use mathlib.Core.List.{List, [], _∷_}
 use Prim.Native.Nat.{ℕ, zero, suc, _+_, _*_}
 use lib.ListN.{length, getD, set, replicate, length-set, length-replicate}
 use Rattle.model.specs.Map.{Plan, darts, opposite, next}
-use Rattle.model.specs.Traversal.{Visit, opens, visits, number, standardNumbers, renumbered, standardPlan}
+use Rattle.model.specs.Traversal.{Visit, opens, visits, number, standardNumbers, renumbered, standardRotation, standardPlan}
 
 number-length : (vs : List Visit) (e : ℕ) (ns : List ℕ) → length (number vs e ns) ≡ length ns
 unfolding number
@@ -34,5 +34,5 @@ renumbered-length ns rot out (suc n) =
     length-set (renumbered ns rot n out) (getD ns n 0) (getD ns (next rot n) 0) ∙ renumbered-length ns rot out n
 
 pub standard-darts : (p : Plan) → darts (standardPlan p) ≡ darts p
-unfolding standardPlan
+unfolding standardPlan standardRotation
 standard-darts p = renumbered-length (standardNumbers p) (p .rotation) (replicate (darts p) 0) (darts p) ∙ length-replicate (darts p) 0

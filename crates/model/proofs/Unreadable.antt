@@ -14,9 +14,9 @@ use lib.ListN.{length, getD}
 use borrow.Author.Tests.{le-ltb, not-true}
 use Rattle.model.specs.declared.ReadBack.{ReadBack}
 use Rattle.model.specs.declared.ReadBack.the-variants as readback
-use Rattle.model.specs.Numbers.{distinct, allBelow, isPermutation, firstRefusal}
-use Rattle.model.specs.Map.{Plan, darts, edges, isKind, fit}
-use Rattle.model.specs.Record.{le16, recordLength, headed, recordOf}
+use Rattle.model.specs.Numbers.{elem, distinct, allBelow, isPermutation, firstRefusal}
+use Rattle.model.specs.Map.{Plan, darts, edges, isFamily, storesOutside, isKind, family, fit}
+use Rattle.model.specs.Record.{le16, headLength, payloadLength, recordLength, headed, recordOf}
 use Rattle.model.specs.Shelf.{same, word16, edgesOf, headRefusals, headRefusal}
 use Rattle.model.specs.Calls.{readRefusal, HasRecord, Reads, refused, read, unreadable}
 use Rattle.model.proofs.Booleans.{and-left, all, at}
@@ -51,12 +51,13 @@ two-edges x = 0x07 ∷ 0x00 ∷ 0x01 ∷ 0x00 ∷ 0x02 ∷ 0x00 ∷ x ∷ []
 unfoldable without : Plan → Bool
 without p = not (fit 1 p && (same (recordOf 1 p) (two-edges 0xCC) || same (recordOf 1 p) (two-edges 0xC9)))
 
-abbrev plan : ℕ → ℕ → ℕ → ℕ → ℕ → Plan
-plan a b c d r = record { rotation = a ∷ b ∷ c ∷ d ∷ []; root = r }
+abbrev plan : ℕ → ℕ → ℕ → ℕ → ℕ → ℕ → Plan
+plan o a b c d r = record { rotation = a ∷ b ∷ c ∷ d ∷ []; root = r; outside = o }
 
-none-of-two : all 4 (λ a. all 4 (λ b. all 4 (λ c. all 4 (λ d. all 4 (λ r. without (plan a b c d r)))))) ≡ true
+-- whatever the outside
+none-of-two : (o : ℕ) → all 4 (λ a. all 4 (λ b. all 4 (λ c. all 4 (λ d. all 4 (λ r. without (plan o a b c d r)))))) ≡ true
 unfolding without record-opened
-none-of-two = refl
+none-of-two o = refl
 
 -- ---- a plan with such a record has two edges
 
@@ -100,14 +101,15 @@ tried p parts n =
     let below = and-left (allBelow (darts p) (p .rotation)) (distinct (p .rotation)) (parts .entries) in
     let bound : (k : ℕ) → k < 4 → getD (p .rotation) k 0 < 4 = λ k h. let z = below-all (darts p) (p .rotation) below k (omega arith) in omega arith in
     let root : p .root < 4 = let z = parts .root in omega arith in
-    four (λ xs. without (record { rotation = xs; root = p .root }) ≡ true) (p .rotation) n (λ a b c d ea eb ec ed.
+    let o = p .outside in
+    four (λ xs. without (record { rotation = xs; root = p .root; outside = p .outside }) ≡ true) (p .rotation) n (λ a b c d ea eb ec ed.
     let ha : a < 4 = let z = bound 0 (omega arith) in omega arith in
     let hb : b < 4 = let z = bound 1 (omega arith) in omega arith in
     let hc : c < 4 = let z = bound 2 (omega arith) in omega arith in
     let hd : d < 4 = let z = bound 3 (omega arith) in omega arith in
-    at 4 (λ r. without (plan a b c d r)) (at 4 (λ d. all 4 (λ r. without (plan a b c d r)))
-    (at 4 (λ c. all 4 (λ d. all 4 (λ r. without (plan a b c d r)))) (at 4 (λ b. all 4 (λ c. all 4 (λ d. all 4 (λ r. without (plan a b c d r)))))
-    (at 4 (λ a. all 4 (λ b. all 4 (λ c. all 4 (λ d. all 4 (λ r. without (plan a b c d r)))))) none-of-two a ha) b hb) c hc) d hd) (p .root) root)
+    at 4 (λ r. without (plan o a b c d r)) (at 4 (λ d. all 4 (λ r. without (plan o a b c d r)))
+    (at 4 (λ c. all 4 (λ d. all 4 (λ r. without (plan o a b c d r)))) (at 4 (λ b. all 4 (λ c. all 4 (λ d. all 4 (λ r. without (plan o a b c d r)))))
+    (at 4 (λ a. all 4 (λ b. all 4 (λ c. all 4 (λ d. all 4 (λ r. without (plan o a b c d r)))))) (none-of-two o) a ha) b hb) c hc) d hd) (p .root) root)
 
 -- x is a payload that was tried
 none : (x : ℕ) → (p : Plan) → (same (two-edges x) (two-edges 0xCC) || same (two-edges x) (two-edges 0xC9)) ≡ true → HasRecord (two-edges x) p → ⊥
@@ -128,9 +130,9 @@ unreadable-C9 p = none 0xC9 p refl
 -- ---- so reading answers 13
 
 pub refuses-CC : Holds (on-reading (two-edges 0xCC) 13)
-unfolding headRefusal headRefusals firstRefusal word16 isKind recordLength
+unfolding headRefusal headRefusals firstRefusal word16 elem isFamily storesOutside isKind family headLength payloadLength recordLength
 refuses-CC = unreadable-refused (two-edges 0xCC) refl unreadable-CC
 
 pub refuses-C9 : Holds (on-reading (two-edges 0xC9) 13)
-unfolding headRefusal headRefusals firstRefusal word16 isKind recordLength
+unfolding headRefusal headRefusals firstRefusal word16 elem isFamily storesOutside isKind family headLength payloadLength recordLength
 refuses-C9 = unreadable-refused (two-edges 0xC9) refl unreadable-C9

@@ -9,6 +9,7 @@
 --   Wrote                 all that writing promises
 --   readRefusal           the first of reading's refusals but 13; 0 if none
 --   HasRecord r p         p is fit for the kind that r names, and r is its record
+--   outsideRead k p       the dart of the outer face that reading returns
 --   Reads                 what reading answers and the output after it
 --   ReadCall              all that reading promises
 --   measureRefusal        the first refusal of measuring the faces; 0 if none
@@ -21,7 +22,7 @@
 --   Fetched               the bytes and the number that fetching promises
 --   numberOfWritten, numberOfRead, numberOfMeasured, numberOfShelved   the paper's number for each case of an answer
 --   lengthOfWritten, characteristicOfWritten   the values of writing's answer
---   edgesOfRead           the value of reading's answer
+--   edgesOfRead, outsideOfRead   the values of reading's answer
 --   countOfMeasured, characteristicOfMeasured   the values of measuring's answer
 --   recordNumberOfShelved, usedOfShelved   the values of shelving's answer
 use Prim.Native.Nat.{ℕ, _+_, _-_, _*_}
@@ -41,8 +42,8 @@ use Rattle.model.specs.declared.Measured.the-variants as measured
 use Rattle.model.specs.declared.Shelved.{Shelved}
 use Rattle.model.specs.declared.Shelved.the-variants as shelved
 use Rattle.model.specs.Numbers.{Refusal, firstRefusal, refuse, isPermutation}
-use Rattle.model.specs.Map.{Plan, darts, edges, faceLengths, isKind, dartCountFits, connected, planar, characteristic, loopRefused, degreeRefused, fit}
-use Rattle.model.specs.Traversal.{standardPlan}
+use Rattle.model.specs.Map.{Plan, darts, edges, faceLengths, isKind, storesOutside, family, dartCountFits, connected, planar, characteristic, outsideRefused, loopRefused, degreeRefused, fit}
+use Rattle.model.specs.Traversal.{standardFace, standardPlan}
 use Rattle.model.specs.Record.{recordLength, recordOf}
 use Rattle.model.specs.Shelf.{kindOf, edgesOf, headRefusals, recordsIn, firstEqual, shelfRefused}
 
@@ -56,27 +57,28 @@ front new old = new ++ drop (length new) old
 
 -- ---- writing
 
--- "Writing meets 2, 3, 4, 6 to 12", for a work area and an output of these lengths
+-- "Writing meets 2, 3, 4, 6 to 12", by document 02 (e) 17 "right after 4", for a work area and an output of these lengths
 unfoldable pub earlyRefusals : ℕ → Plan → ℕ → ℕ → List Refusal
 earlyRefusals k p workLength outLength =
     refuse 2 (not (isKind k))
     ∷ refuse 3 (not (dartCountFits (darts p)))
     ∷ refuse 4 (not (ltb (p .root) (darts p)))
+    ∷ refuse 17 (outsideRefused k p)
     ∷ refuse 6 (not (isPermutation (p .rotation)))
     ∷ refuse 7 (ltb workLength (32 * edges (p .rotation)))
     ∷ refuse 8 (ltb outLength (recordLength k (edges (p .rotation))))
     ∷ []
 
 unfoldable pub lateRefusals : ℕ → Plan → List Refusal
-lateRefusals k p =
+lateRefusals f p =
     refuse 9 (not (connected (p .rotation)))
     ∷ refuse 10 (not (planar (p .rotation)))
-    ∷ refuse 11 (loopRefused k (p .rotation))
-    ∷ refuse 12 (degreeRefused k p)
+    ∷ refuse 11 (loopRefused f (p .rotation))
+    ∷ refuse 12 (degreeRefused f p)
     ∷ []
 
 unfoldable pub writeRefusal : ℕ → Plan → ℕ → ℕ → ℕ
-writeRefusal k p workLength outLength = firstRefusal (earlyRefusals k p workLength outLength ++ lateRefusals k p)
+writeRefusal k p workLength outLength = firstRefusal (earlyRefusals k p workLength outLength ++ lateRefusals (family k) p)
 
 -- "Writing returns the record's length"; refusal 10 "also gives the characteristic"
 unfoldable pub writeAnswer : ℕ → Plan → ℕ → ℕ → Written
@@ -108,12 +110,16 @@ readRefusal r workLength outLength = firstRefusal
 abbrev pub HasRecord : List ℕ → Plan → Type 0
 HasRecord r p = (fit (kindOf r) p ≡ true) × (recordOf (kindOf r) p ≡ r)
 
+-- document 02 (e): "A kind without these bytes .., when read, has the start dart's area outside. Reading also returns the lowest dart of the outside area."
+unfoldable pub outsideRead : ℕ → Plan → ℕ
+outsideRead k p = standardFace p (cond (storesOutside k) (p .outside) (p .root))
+
 -- 13. "No fit plan of this kind has this record." "Reading returns m, with the standard plan in the first 2m entries and start 0."
 pub data Reads (r : List ℕ) (workLength : ℕ) (out : List ℕ) (answer : ReadBack) (out′ : List ℕ) : Type 0 where
   refused : (readRefusal r workLength (length out) ≢ 0) → answer ≡ readback.Refused (readRefusal r workLength (length out)) → out′ ≡ out
       → Reads r workLength out answer out′
-  read : (readRefusal r workLength (length out) ≡ 0) → (p : Plan) → HasRecord r p → answer ≡ readback.Edges (edgesOf r)
-      → out′ ≡ front (standardPlan p .rotation) out → Reads r workLength out answer out′
+  read : (readRefusal r workLength (length out) ≡ 0) → (p : Plan) → HasRecord r p
+      → answer ≡ readback.Edges (edgesOf r) (outsideRead (kindOf r) p) → out′ ≡ front (standardPlan p .rotation) out → Reads r workLength out answer out′
   unreadable : (readRefusal r workLength (length out) ≡ 0) → ((p : Plan) → HasRecord r p → ⊥) → answer ≡ readback.Refused 13 → out′ ≡ out
       → Reads r workLength out answer out′
 
@@ -210,13 +216,18 @@ characteristicOfWritten (written.Refused r) = pos 0
 characteristicOfWritten (written.NotPlanar x) = x
 
 abbrev pub numberOfRead : ReadBack → ℕ
-numberOfRead (readback.Edges m) = 0
+numberOfRead (readback.Edges m outside) = 0
 numberOfRead (readback.Refused r) = r
 
 -- the number of edges that is returned; 0 where reading is refused
 abbrev pub edgesOfRead : ReadBack → ℕ
-edgesOfRead (readback.Edges m) = m
+edgesOfRead (readback.Edges m outside) = m
 edgesOfRead (readback.Refused r) = 0
+
+-- the lowest dart of the outer face that is returned; 0 where reading is refused
+abbrev pub outsideOfRead : ReadBack → ℕ
+outsideOfRead (readback.Edges m outside) = outside
+outsideOfRead (readback.Refused r) = 0
 
 abbrev pub numberOfMeasured : Measured → ℕ
 numberOfMeasured (measured.Count n) = 0

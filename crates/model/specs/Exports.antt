@@ -16,7 +16,7 @@ use Rattle.model.specs.declared.ReadBack.{ReadBack}
 use Rattle.model.specs.Map.{Plan, isKind, edgeCountFits}
 use Rattle.model.specs.Record.{recordLength}
 use Rattle.model.specs.Calls.{zeros, writeAnswer, writtenOutput, numberOfWritten, lengthOfWritten, characteristicOfWritten}
-use Rattle.model.specs.Calls.{Reads, numberOfRead, edgesOfRead}
+use Rattle.model.specs.Calls.{Reads, numberOfRead, edgesOfRead, outsideOfRead}
 use Rattle.model.specs.Calls.{measureAnswer, measuredList, numberOfMeasured, countOfMeasured, characteristicOfMeasured}
 use Rattle.model.specs.Calls.{shelveAnswer, shelvedBytes, numberOfShelved, recordNumberOfShelved, usedOfShelved, fetchRefusal, fetched}
 use Rattle.model.specs.Parts.{fetchedPlace}
@@ -33,11 +33,12 @@ pub record WriteExport (k : ℕ) (p : Plan) (work out : List ℕ) (r l : ℕ) (x
 -- ---- reading
 
 -- the numbers are those of the answer that reading gives
-pub record ReadExport (bytes work out : List ℕ) (r m : ℕ) (work′ out′ : List ℕ) : Type 0 where
+pub record ReadExport (bytes work out : List ℕ) (r m outside : ℕ) (work′ out′ : List ℕ) : Type 0 where
   pub answer : ReadBack
   pub outcome : Reads bytes (length work) out answer out′
   pub number-is : r ≡ numberOfRead answer
   pub edges-are : m ≡ edgesOfRead answer
+  pub outside-is : outside ≡ outsideOfRead answer
   pub cleared : work′ ≡ zeros work
 
 -- ---- measuring

@@ -1,10 +1,11 @@
 -- A plan (document 01) is a rooted map: a rotation of darts and a root dart. `rot` is always the rotation, a list of N = 2m numbers.
 --
---   Plan                 a rotation and a root
+--   Plan                 a rotation, a root and a dart of the outer face
 --   opposite d           the other dart of d's edge
 --   next rot d           the next dart counterclockwise around d's vertex
 --   vertexOf rot d       d's vertex, named by its least dart
 --   faceNext rot d       one step of d's face
+--   faceOf rot d         d's face, named by its least dart
 --   edges, vertices, faces rot   how many there are
 --   faceLengths rot      how many darts each face has
 --   degreeOne rot d      d is alone at its vertex
@@ -16,25 +17,30 @@
 --   planar rot           the characteristic is 2
 --   hasLoop rot          some edge has both darts at one vertex
 --   hasDeadEnd p         some vertex other than the root's has degree one
---   isKind k             k is a kind of record: 1, 2 or 4
+--   isFamily f           f is a kind without the outside's bytes: 1, 2 or 4
+--   storesOutside k      k is a kind with them: 101h, 102h or 104h
+--   isKind k             k is a kind of record
+--   family k             the kind k without the outside's bytes
 --   edgeCountFits m      m is an edge count that a plan may have; dartCountFits n, n is a dart count
---   takesLoops k         kind k takes plans with loops
---   loopRefused k rot    kind k does not take a plan with this rotation for its loop
---   degreeRefused k p    kind k does not take p for its dead end
+--   takesLoops f         kinds of family f take plans with loops
+--   loopRefused f rot    they do not take a plan with this rotation for its loop
+--   degreeRefused f p    they do not take p for its dead end
+--   outsideRefused k p   kind k stores the outside, and p has no such dart
 --   fit k p              the plan p is fit for kind k
 use Prim.Native.Nat.{ℕ, zero, suc, _-_, _*_, _/_, _%_}
 use mathlib.Core.Bool.{Bool, false, not, _&&_, _||_, cond}
-use mathlib.Core.List.{List}
+use mathlib.Core.List.{List, [], _∷_}
 use lib.Dec.{eqb, ltb, leb}
 use lib.IntN.{ℤ, pos, negsuc, _+ℤ_, _-ℤ_}
 use lib.ListN.{length, getD, set, replicate}
-use Rattle.model.specs.Numbers.{some, least, cycles, cycleSizes, isPermutation}
+use Rattle.model.specs.Numbers.{some, elem, least, cycles, cycleSizes, isPermutation}
 
 -- "A plan has m trails .. and 2m darts (trail ends), numbered from 0": an edge is a trail, a dart a trail end, the rotation the turning order,
--- the root the start.
+-- the root the start. Document 02 (e): "A plan gains an outside dart, any dart on that area's walk."
 pub record Plan : Type 0 where
   pub rotation : List ℕ
   pub root : ℕ
+  pub outside : ℕ
 
 -- "the list's length is the dart count"
 abbrev pub darts : Plan → ℕ
@@ -55,6 +61,9 @@ vertexOf rot d = least (next rot) (length rot) d
 -- "An area walk goes from dart d to the entry at the opposite of d; its cycles are the areas": a face is an area.
 unfoldable pub faceNext : List ℕ → ℕ → ℕ
 faceNext rot d = next rot (opposite d)
+
+unfoldable pub faceOf : List ℕ → ℕ → ℕ
+faceOf rot d = least (faceNext rot) (length rot) d
 
 unfoldable pub edges : List ℕ → ℕ
 edges rot = length rot / 2
@@ -116,8 +125,18 @@ hasDeadEnd p =
 -- ---- fitness
 
 -- 2. "The kind is not 1 or 2"; of kind 4, document 02 (c): "2 now admits it"
+unfoldable pub isFamily : ℕ → Bool
+isFamily f = elem f (1 ∷ 2 ∷ 4 ∷ [])
+
+-- document 02 (e): "Kinds 101h, 102h and 104h are 1, 2 and 4 with two more bytes"
+unfoldable pub storesOutside : ℕ → Bool
+storesOutside k = elem k (0x101 ∷ 0x102 ∷ 0x104 ∷ [])
+
 unfoldable pub isKind : ℕ → Bool
-isKind k = eqb k 1 || (eqb k 2 || eqb k 4)
+isKind k = isFamily k || storesOutside k
+
+unfoldable pub family : ℕ → ℕ
+family k = cond (storesOutside k) (k - 0x100) k
 
 -- "A plan has m trails, m from 1 to 4,096, and 2m darts"
 abbrev pub edgeCountFits : ℕ → Bool
@@ -129,16 +148,21 @@ dartCountFits n = eqb (n % 2) 0 && edgeCountFits (n / 2)
 -- "Kind 1 takes connected planar plans with no loop and no junction of degree one", by document 02 (a) none "other than the start's". "Kind 2 takes
 -- connected planar plans with no loop." Document 02 (c): "Kind 4 takes any connected planar plan"; "Refusals 11 and 12 never concern this kind".
 abbrev pub takesLoops : ℕ → Bool
-takesLoops k = eqb k 4
+takesLoops f = eqb f 4
 
 unfoldable pub loopRefused : ℕ → List ℕ → Bool
-loopRefused k rot = not (takesLoops k) && hasLoop rot
+loopRefused f rot = not (takesLoops f) && hasLoop rot
 
 unfoldable pub degreeRefused : ℕ → Plan → Bool
-degreeRefused k p = eqb k 1 && hasDeadEnd p
+degreeRefused f p = eqb f 1 && hasDeadEnd p
 
--- "A plan as set down here, its entries all different and, like the start, below the dart count, is fit for each kind that takes it."
+-- document 02 (e): "only in writing the new kinds: 17, outside dart not below the dart count"
+unfoldable pub outsideRefused : ℕ → Plan → Bool
+outsideRefused k p = storesOutside k && not (ltb (p .outside) (darts p))
+
+-- "A plan as set down here, its entries all different and, like the start, below the dart count, is fit for each kind that takes it." Document 02 (e): so is
+-- the outside, in a kind that stores it.
 unfoldable pub fit : ℕ → Plan → Bool
 fit k p =
-    isKind k && (dartCountFits (darts p) && (ltb (p .root) (darts p) && (isPermutation (p .rotation)
-    && (connected (p .rotation) && (planar (p .rotation) && (not (loopRefused k (p .rotation)) && not (degreeRefused k p)))))))
+    isKind k && (dartCountFits (darts p) && (ltb (p .root) (darts p) && (not (outsideRefused k p) && (isPermutation (p .rotation)
+    && (connected (p .rotation) && (planar (p .rotation) && (not (loopRefused (family k) (p .rotation)) && not (degreeRefused (family k) p))))))))

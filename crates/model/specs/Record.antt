@@ -4,20 +4,23 @@
 --   pack base w n ds      n such numbers: ds in groups of w
 --   bytesFor n w          how many groups of w hold n digits
 --   le16 n                n in two bytes, the low one first
+--   headLength k          how many bytes stand before the payload of a record of kind k
+--   payloadLength f m     the length of the payload of a record of family f with m edges
 --   recordLength k m      the length of a record of kind k with m edges
---   payload k m bits labels   tree bits and labels in bytes
---   labelBase k           labels of kind k are below it
+--   payload f m bits labels   tree bits and labels in bytes
+--   labelBase f           labels of family f are below it
 --   contourBits l d       the two bits of a dart d with the letter l
---   headed k m rest       the payload rest behind its head
---   payloadOf k p         the payload of plan p in kind k
+--   headed k m rest       the bytes rest behind length, kind and m
+--   payloadOf f p         the payload of plan p in family f
+--   outsideBytes k p      the outside's bytes; none in a kind without them
 --   recordOf k p          the record of plan p in kind k
 use Prim.Native.Nat.{ℕ, zero, suc, _+_, _-_, _*_, _/_, _%_}
 use mathlib.Core.Bool.{cond}
 use mathlib.Core.List.{List, [], _∷_, _++_}
 use lib.Dec.{eqb}
 use lib.ListN.{length, drop}
-use Rattle.model.specs.Map.{Plan, edges}
-use Rattle.model.specs.Traversal.{Letter, down, up, first, second, visits}
+use Rattle.model.specs.Map.{Plan, edges, storesOutside, family}
+use Rattle.model.specs.Traversal.{Letter, down, up, first, second, visits, standardFace}
 use Rattle.model.specs.LabelledTree.{along, labels, treeBits}
 
 -- `so-far` is the number that the digits before make
@@ -41,19 +44,25 @@ unfoldable pub le16 : ℕ → List ℕ
 le16 n = n % 256 ∷ n / 256 % 256 ∷ []
 
 -- "Kind 1: .. Length 6 plus 3m/8 rounded up"; "Kind 2: .. Length 6 plus 2m/8 rounded up plus m/5 rounded up"; kind 4, document 02 (c): "Its length is 6
--- plus m/2 rounded up."
+-- plus m/2 rounded up." Of the kinds that store the outside, document 02 (e): "Their lengths are 2 more."
+unfoldable pub headLength : ℕ → ℕ
+headLength k = cond (storesOutside k) 8 6
+
+unfoldable pub payloadLength : ℕ → ℕ → ℕ
+payloadLength f m = cond (eqb f 1) (bytesFor (3 * m) 8) (cond (eqb f 2) (bytesFor (2 * m) 8 + bytesFor m 5) (bytesFor m 2))
+
 unfoldable pub recordLength : ℕ → ℕ → ℕ
-recordLength k m = cond (eqb k 1) (6 + bytesFor (3 * m) 8) (cond (eqb k 2) (6 + bytesFor (2 * m) 8 + bytesFor m 5) (6 + bytesFor m 2))
+recordLength k m = headLength k + payloadLength (family k) m
 
 -- "Kind 1: tree bits, then m label bits, unbroken; padded once." "Kind 2: tree bits padded to a byte, then labels in groups of five (0, 1, star = 2),
 -- first label highest in base 3, one byte a group, the last group filled with 0." "Bits fill a byte from its highest bit; unused low bits are 0."
 unfoldable pub payload : ℕ → ℕ → List ℕ → List ℕ → List ℕ
-payload k m bits labels =
-    cond (eqb k 1) (pack 2 8 (bytesFor (3 * m) 8) (bits ++ labels)) (pack 2 8 (bytesFor (2 * m) 8) bits ++ pack 3 5 (bytesFor m 5) labels)
+payload f m bits labels =
+    cond (eqb f 1) (pack 2 8 (bytesFor (3 * m) 8) (bits ++ labels)) (pack 2 8 (bytesFor (2 * m) 8) bits ++ pack 3 5 (bytesFor m 5) labels)
 
 -- "Kind 1: .. m label bits"; "Kind 2: .. labels .. (0, 1, star = 2)"
 unfoldable pub labelBase : ℕ → ℕ
-labelBase k = cond (eqb k 1) 2 3
+labelBase f = cond (eqb f 1) 2 3
 
 -- document 02 (c): "two bits for each dart in contour order, 00 going down, 01 coming up, 10 for the first-met dart of another trail, 11 for its second"
 unfoldable pub contourBits : Letter → ℕ → List ℕ
@@ -67,9 +76,13 @@ unfoldable pub headed : ℕ → ℕ → List ℕ → List ℕ
 headed k m rest = le16 (6 + length rest) ++ (le16 k ++ (le16 m ++ rest))
 
 unfoldable pub payloadOf : ℕ → Plan → List ℕ
-payloadOf k p =
+payloadOf f p =
     let m = edges (p .rotation) in
-    cond (eqb k 4) (pack 2 8 (bytesFor (4 * m) 8) (along contourBits (visits p))) (payload k m (treeBits p) (labels p))
+    cond (eqb f 4) (pack 2 8 (bytesFor (4 * m) 8) (along contourBits (visits p))) (payload f m (treeBits p) (labels p))
+
+-- document 02 (e): "with two more bytes after m: the lowest standard dart of the outside area"; "A kind without these bytes ignores the outside in writing"
+unfoldable pub outsideBytes : ℕ → Plan → List ℕ
+outsideBytes k p = cond (storesOutside k) (le16 (standardFace p (p .outside))) []
 
 unfoldable pub recordOf : ℕ → Plan → List ℕ
-recordOf k p = headed k (edges (p .rotation)) (payloadOf k p)
+recordOf k p = headed k (edges (p .rotation)) (outsideBytes k p ++ payloadOf (family k) p)

@@ -32,7 +32,7 @@ kindOf r = word16 r 2
 abbrev pub edgesOf : List ℕ → ℕ
 edgesOf r = word16 r 4
 
--- 1. "The record has fewer than 6 bytes, or its length field isn't the number of bytes lent." 2. "The kind is not 1 or 2", by document 02 (c) nor 4.
+-- 1. "The record has fewer than 6 bytes, or its length field isn't the number of bytes lent." 2. "The kind is not 1 or 2", by document 02 (c) nor 4, by (e) nor 101h, 102h or 104h.
 -- 3. "in a record, m is 0 or above 4,096". 5. "The length is not the one for this kind and m."
 unfoldable pub headRefusals : List ℕ → List Refusal
 headRefusals r =

@@ -12,13 +12,15 @@
 --   opens l              at this letter an edge is met first
 --   standardNumbers p    for each dart its standard number; number, from a list of visits
 --   renumbered           a rotation in new numbers
---   standardPlan p       the plan in standard numbers, root 0
+--   standardRotation p   the rotation in standard numbers
+--   standardFace p d     the face of d, named by its least standard number
+--   standardPlan p       the plan in standard numbers: root 0, and the least dart of the outer face
 use Prim.Native.Nat.{ℕ, zero, suc, _+_, _*_}
 use mathlib.Core.Bool.{Bool, true, false, cond}
 use mathlib.Core.List.{List, [], _∷_, map}
 use lib.Dec.{eqb}
 use lib.ListN.{getD, set, replicate}
-use Rattle.model.specs.Map.{Plan, darts, opposite, next, vertexOf}
+use Rattle.model.specs.Map.{Plan, darts, opposite, next, vertexOf, faceOf}
 
 -- down: across a tree edge to a vertex not yet seen. up: the arrival dart, on the way back. first, second: the dart met first and the one met
 -- second of an edge that is no tree edge.
@@ -99,8 +101,12 @@ unfoldable pub renumbered : List ℕ → List ℕ → ℕ → List ℕ → List 
 renumbered numbers rot zero out = out
 renumbered numbers rot (suc d) out = set (renumbered numbers rot d out) (getD numbers d 0) (getD numbers (next rot d) 0)
 
+unfoldable pub standardRotation : Plan → List ℕ
+standardRotation p = renumbered (standardNumbers p) (p .rotation) (darts p) (replicate (darts p) 0)
+
+-- document 02 (e): "the lowest standard dart of the outside area", and of any dart's
+unfoldable pub standardFace : Plan → ℕ → ℕ
+standardFace p d = faceOf (standardRotation p) (getD (standardNumbers p) d 0)
+
 unfoldable pub standardPlan : Plan → Plan
-standardPlan p = record {
-  rotation = renumbered (standardNumbers p) (p .rotation) (darts p) (replicate (darts p) 0);
-  root = 0;
-}
+standardPlan p = record { rotation = standardRotation p; root = 0; outside = standardFace p (p .outside) }

@@ -7,7 +7,7 @@
 --   bytesWritten c        the bytes that the call adds: its record, or none if it was refused
 --   laidOut cs            the records of a list laid end to end
 --   accepted cs           the calls not refused
---   Alike c d             two calls match: one kind, and a renumbering between their plans
+--   Alike c d             two calls match: one kind, and a renumbering between their plans that the kind asks for
 --   PlaceByPlace cs ds    the lists match place by place
 --   AllMeetContract cs    every call of the list did what writing promises
 --   Demand3               demand 3, whole: any two lists of writing calls, and the records that they give
@@ -20,7 +20,7 @@ use lib.ListN.{length, take}
 use Rattle.model.specs.declared.Written.{Written}
 use Rattle.model.specs.Map.{Plan, fit}
 use Rattle.model.specs.Record.{recordOf}
-use Rattle.model.specs.Renumbering.{Renumbering}
+use Rattle.model.specs.Renumbering.{Renumbering, Carries}
 use Rattle.model.specs.Calls.{Wrote, writeRefusal, numberOfWritten, lengthOfWritten}
 
 -- "each call is handed a plan, a kind, a work area and an output, with any content"
@@ -58,7 +58,7 @@ accepted (c ∷ cs) = cond (isAccepted c) (c ∷ accepted cs) (accepted cs)
 pub record Alike (c d : Writing) : Type 0 where
   pub one-kind : c .kind ≡ d .kind
   pub partners : List ℕ
-  pub carried : Renumbering (c .plan) (d .plan) partners
+  pub carried : Carries (c .kind) (c .plan) (d .plan) partners
 
 -- "the first call not refused of one list beside the first of the other, and so on"
 abbrev pub PlaceByPlace : List Writing → List Writing → Type 0
@@ -79,11 +79,11 @@ pub record Demand3 : Type 0 where
   pub gives-record : (c : Writing) → MeetsContract c → refusalOf c ≡ 0
       → (bytesWritten c ≡ recordOf (c .kind) (c .plan)) × (lengthOfWritten (c .answer) ≡ length (recordOf (c .kind) (c .plan)))
   -- "the records laid end to end are the same bytes exactly when the calls not refused are equally many and match, place by place, in kind and by a
-  -- renumbering of darts that carries start, opposites and turning order"
+  -- renumbering of darts that carries start, opposites and turning order", by document 02 (e) outside area to outside area too, where it is stored
   pub equally-many : (cs ds : List Writing) → AllMeetContract cs → AllMeetContract ds → laidOut cs ≡ laidOut ds
       → length (accepted cs) ≡ length (accepted ds)
   pub same-bytes-alike : (cs ds : List Writing) → AllMeetContract cs → AllMeetContract ds → laidOut cs ≡ laidOut ds → PlaceByPlace (accepted cs) (accepted ds)
   pub alike-same-bytes : (cs ds : List Writing) → AllMeetContract cs → AllMeetContract ds → PlaceByPlace (accepted cs) (accepted ds) → laidOut cs ≡ laidOut ds
   -- "Between two fit plans there is at most one renumbering; where there is one and both are fit for a kind, the records in it are equal."
   pub one-renumbering : (k l : ℕ) (p q : Plan) (f g : List ℕ) → fit k p ≡ true → fit l q ≡ true → Renumbering p q f → Renumbering p q g → f ≡ g
-  pub equal-records : (k : ℕ) (p q : Plan) (f : List ℕ) → fit k p ≡ true → fit k q ≡ true → Renumbering p q f → recordOf k p ≡ recordOf k q
+  pub equal-records : (k : ℕ) (p q : Plan) (f : List ℕ) → fit k p ≡ true → fit k q ≡ true → Carries k p q f → recordOf k p ≡ recordOf k q

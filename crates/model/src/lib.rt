@@ -8,9 +8,9 @@ pub enum Written {
     NotPlanar(i32),
 }
 
-// The answer of reading: the number of edges, or a refusal.
+// The answer of reading: the number of edges and the lowest dart of the outer face, or a refusal.
 pub enum ReadBack {
-    Edges(u16),
+    Edges(u16, u16),
     Refused(u16),
 }
 
