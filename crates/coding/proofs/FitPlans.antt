@@ -4,7 +4,7 @@
 --   fit-bracketed         its tree edges match like brackets along the traversal, and so do the others
 --   fit-lower             an edge outside the tree ends at a vertex that was entered no later than the one where it began
 --   fit-descends          and before it, if no edge is a loop
---   fit-standard-plan, fit-valid   its standard plan is that of its word, and the word is valid
+--   fit-standard-rotation, fit-valid   its standard rotation is that of its word, and the word is valid
 --   fit-bits, fit-labels  its tree bits and labels are those of its word, if no edge is a loop
 --   fit-standard          its standard numbering is a renumbering
 --   same-word-renumbering   plans with one word have a renumbering
@@ -12,12 +12,12 @@ use Prim.Native.Nat.{ℕ, _≤_, _<_}
 use mathlib.Core.Path.{_≡_, sym, ap, subst, _∙_}
 use mathlib.Core.Bool.{true, false}
 use mathlib.Core.List.{List}
-use Rattle.model.specs.Map.{Plan, darts, vertexOf, hasLoop, fit}
-use Rattle.model.specs.Traversal.{second, word, standardNumbers, standardPlan}
+use Rattle.model.specs.Map.{Plan, darts, vertexOf, hasLoop, family, fit}
+use Rattle.model.specs.Traversal.{second, word, standardNumbers, standardRotation, standardPlan}
 use Rattle.model.specs.LabelledTree.{treeBits, labels}
 use Rattle.model.specs.Renumbering.{Renumbering}
 use Rattle.model.proofs.Fitness.{Fit, fit-parts, loopless-at}
-use Rattle.words.specs.Word.{valid, wordBits, wordLabels, planOf}
+use Rattle.words.specs.Word.{valid, wordBits, wordLabels, rotationOf}
 use Rattle.words.specs.Toured.{Toured, Bracketed, letterOf, mateOf, dartAt}
 use Rattle.words.specs.Entered.{enteredAt}
 use Rattle.words.proofs.Positions.{mate-dart}
@@ -27,11 +27,12 @@ use Rattle.planarity.proofs.SameVertex.{second-lower, second-descends}
 use Rattle.labelling.proofs.Reading.{tree-labels, tree-bits}
 use Rattle.standard.proofs.Numbering.{numbers-permutation, numbers-opposite, numbers-root}
 use Rattle.standard.proofs.Entries.{standard-entry}
-use Rattle.standard.proofs.Linking.{standard-is-planOf}
+use Rattle.standard.proofs.Linking.{standard-rotation}
 use Rattle.standard.proofs.Valid.{word-valid}
 use Rattle.renumbering.specs.Isomorphism.{inverseOf, composed}
-use Rattle.renumbering.proofs.Renumberings.{inverse, compose}
+use Rattle.renumbering.proofs.Renumberings.{iso-of, with-root, inverse, compose}
 use Rattle.renumbering.proofs.Standard.{standard-renumbering}
+use Rattle.lists.specs.Coder.{rooted}
 
 module _ (k : ℕ) (p : Plan) (fits : fit k p ≡ true) where
   abbrev parts : Fit k p
@@ -46,8 +47,9 @@ module _ (k : ℕ) (p : Plan) (fits : fit k p ≡ true) where
   pub fit-lower : (j : ℕ) → j < darts p → letterOf p j ≡ second → enteredAt p j ≤ enteredAt p (mateOf p j)
   fit-lower = second-lower p fit-toured (parts .count) (parts .entries)
 
-  pub fit-standard-plan : standardPlan p ≡ planOf (word p)
-  fit-standard-plan = standard-is-planOf p fit-toured fit-bracketed (parts .count)
+  pub fit-standard-rotation : standardRotation p ≡ rotationOf (word p)
+  unfolding standardPlan
+  fit-standard-rotation = standard-rotation p fit-toured fit-bracketed (parts .count)
 
   module _ (no-loop : hasLoop (p .rotation) ≡ false) where
     pub fit-descends : (j : ℕ) → j < darts p → letterOf p j ≡ second → enteredAt p j < enteredAt p (mateOf p j)
@@ -62,7 +64,7 @@ module _ (k : ℕ) (p : Plan) (fits : fit k p ≡ true) where
     pub fit-labels : labels p ≡ wordLabels (word p)
     fit-labels = tree-labels p fit-toured fit-bracketed (parts .count) (parts .entries) no-loop
 
-  pub fit-valid : valid k (word p) ≡ true
+  pub fit-valid : valid (family k) (word p) ≡ true
   fit-valid = word-valid p fit-toured fit-bracketed fit-lower fit-descends k fits
 
   pub fit-standard : Renumbering p (standardPlan p) (standardNumbers p)
@@ -70,13 +72,16 @@ module _ (k : ℕ) (p : Plan) (fits : fit k p ≡ true) where
       (numbers-opposite p fit-toured (parts .count)) (standard-entry p fit-toured (parts .count))
 
 pub same-word-renumbering : (k : ℕ) (p q : Plan) → fit k p ≡ true → fit k q ≡ true → word p ≡ word q → (f : List ℕ) × Renumbering p q f
+unfolding standardPlan
 same-word-renumbering k p q e f same =
     let a = fit-parts k p e in
     let b = fit-parts k q f in
-    let one : standardPlan q ≡ standardPlan p = fit-standard-plan k q f ∙ ap planOf (sym same) ∙ sym (fit-standard-plan k p e) in
-    let from : Renumbering q (standardPlan p) (standardNumbers q) =
-    subst (λ (s : Plan). Renumbering q s (standardNumbers q)) one (fit-standard k q f) in (
+    let s = rooted (standardRotation p) in
+    let one : standardRotation q ≡ standardRotation p = fit-standard-rotation k q f ∙ ap rotationOf (sym same) ∙ sym (fit-standard-rotation k p e) in
+    let to : Renumbering p s (standardNumbers p) = with-root (iso-of (fit-standard k p e)) (fit-standard k p e .root-to-root) in
+    let from : Renumbering q s (standardNumbers q) =
+    subst (λ (rot : List ℕ). Renumbering q (rooted rot) (standardNumbers q)) one (with-root (iso-of (fit-standard k q f)) (fit-standard k q f .root-to-root)) in (
       composed (standardNumbers p) (inverseOf (standardNumbers q)),
-      compose p (a .count) (a .root) (a .entries) (standardPlan p) (standardNumbers p) (fit-standard k p e) q (inverseOf (standardNumbers q))
-          (inverse q (b .count) (b .root) (b .entries) (standardPlan p) (standardNumbers q) from),
+      compose p (a .count) (a .root) (a .entries) s (standardNumbers p) to q (inverseOf (standardNumbers q))
+          (inverse q (b .count) (b .root) (b .entries) s (standardNumbers q) from),
     )

@@ -3,23 +3,34 @@
 --   coderOf               the coder of the kind that a plan is fit for
 --   has-decodes           bytes that are a fit plan's record decode to its word
 --   none-has              bytes that do not decode are the record of no fit plan
---   decodes-has, decodes-standard   bytes that decode are the record of the plan that their word builds, and it is in standard numbers
-use Prim.Native.Nat.{ℕ}
-use mathlib.Core.Path.{_≡_}
+--   decodes-map           bytes that decode build a rotation of as many darts as the head says
+--   Sound r v             the outside that the bytes r name is the least dart of its face, in the rotation that the word v builds
+--   has-sound             it is in a fit plan's record
+--   decodes-has           bytes that decode and name a sound outside are the record of the plan that their word builds, with that outside
+--   decodes-standard, decodes-outside   its rotation is in standard numbers, and that is the outside that reading returns
+use Prim.Native.Nat.{ℕ, _*_, _<_}
+use mathlib.Core.Path.{_≡_, refl, sym}
 use mathlib.Core.Bool.{true}
 use mathlib.Core.List.{List}
-use Rattle.model.specs.Numbers.{allBelow}
-use Rattle.model.specs.Map.{Plan, fit}
-use Rattle.model.specs.Traversal.{Letter, word, standardPlan}
-use Rattle.model.specs.Shelf.{kindOf, passes}
-use Rattle.model.specs.Calls.{HasRecord}
+use lib.ListN.{length}
+use Rattle.model.specs.Numbers.{allBelow, isPermutation}
+use Rattle.model.specs.Map.{Plan, faceOf, family, dartCountFits, fit}
+use Rattle.model.specs.Traversal.{Letter, word, standardRotation}
+use Rattle.model.specs.Record.{headLength}
+use Rattle.model.specs.Shelf.{kindOf, edgesOf, passes}
+use Rattle.model.specs.Calls.{HasRecord, outsideRead}
+use Rattle.model.proofs.Below.{below-drop}
 use Rattle.model.proofs.Fitness.{fit-parts}
-use Rattle.words.specs.Word.{found, none, planOf}
+use Rattle.model.proofs.Heads.{passes-facts}
+use Rattle.model.proofs.Outside.{withOutside}
+use Rattle.words.specs.Word.{found, none, rotationOf, planOf}
+use Rattle.words.proofs.Validity.{valid-fits}
+use Rattle.building.proofs.Built.{built-fit}
 use Rattle.packing.proofs.Headed.{passes-sized}
-use Rattle.lists.specs.Coder.{Coder}
+use Rattle.lists.specs.Coder.{outsideOf, Coder}
 use Rattle.lists.proofs.Records as generic
 use Rattle.coding.specs.Payloads.{decodeRecord}
-use Rattle.coding.proofs.Coders.{coders}
+use Rattle.coding.proofs.Coders.{decode-encodes, coders}
 
 pub coderOf : (k : ℕ) (p : Plan) → fit k p ≡ true → Coder k
 coderOf k p e = coders k (fit-parts k p e .kind)
@@ -32,14 +43,38 @@ pub none-has : (r : List ℕ) → decodeRecord r ≡ none → (p : Plan) → Has
 unfolding coders decodeRecord
 none-has r e p h = generic.none-has r (coders (kindOf r) (fit-parts (kindOf r) p (h .0) .kind)) e p h
 
-module _ (r : List ℕ) (v : List Letter) (pass : passes r ≡ true) (bytes : allBelow 256 r ≡ true) (e : decodeRecord r ≡ found v) where
+pub decodes-map : (r : List ℕ) (v : List Letter) → passes r ≡ true → allBelow 256 r ≡ true → decodeRecord r ≡ found v
+    → (isPermutation (rotationOf v) ≡ true) × (dartCountFits (length v) ≡ true) × (length v ≡ 2 * edgesOf r)
+unfolding decodeRecord planOf
+decodes-map r v pass bytes e =
+    let f = family (kindOf r) in
+    let s = passes-sized r pass in
+    let (proper, same, long) = decode-encodes f (edgesOf r) _ v s (below-drop 256 (headLength (kindOf r)) r bytes) e in
+    let fits = built-fit f v proper (kindOf r) (passes-facts r pass .kind) refl in
+    (fit-parts (kindOf r) (planOf v) fits .entries, valid-fits f v proper, long)
+
+abbrev pub Sound : List ℕ → List Letter → Type 0
+Sound r v = (outsideOf r < length v) × (faceOf (rotationOf v) (outsideOf r) ≡ outsideOf r)
+
+pub has-sound : (r : List ℕ) (v : List Letter) → decodeRecord r ≡ found v → (p : Plan) → HasRecord r p → Sound r v
+unfolding coders decodeRecord
+has-sound r v e p h = generic.has-sound r (coders (kindOf r) (fit-parts (kindOf r) p (h .0) .kind)) v e p h
+
+module _ (r : List ℕ) (v : List Letter) (pass : passes r ≡ true) (bytes : allBelow 256 r ≡ true) (e : decodeRecord r ≡ found v) (sound : Sound r v) where
+  abbrev pub given : Plan
+  given = withOutside (planOf v) (outsideOf r)
+
   coder : Coder (kindOf r)
-  coder = coders (kindOf r) (passes-sized r pass .kind)
+  coder = coders (kindOf r) (passes-facts r pass .kind)
 
-  pub decodes-has : HasRecord r (planOf v)
+  pub decodes-has : HasRecord r given
   unfolding coders coder decodeRecord planOf
-  decodes-has = generic.decodes-has r coder v pass bytes e
+  decodes-has = generic.decodes-has r coder v pass bytes e sound
 
-  pub decodes-standard : standardPlan (planOf v) ≡ planOf v
+  pub decodes-standard : standardRotation given ≡ rotationOf v
   unfolding coders coder decodeRecord planOf
-  decodes-standard = generic.decodes-standard r coder v pass bytes e
+  decodes-standard = generic.decodes-standard r coder v pass bytes e sound
+
+  pub decodes-outside : outsideRead (kindOf r) given ≡ outsideOf r
+  unfolding coders coder decodeRecord planOf
+  decodes-outside = sym (generic.has-outside r coder given decodes-has)

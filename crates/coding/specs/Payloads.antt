@@ -1,36 +1,37 @@
 -- Words and payloads.
 --
---   encodeLabelled k w    kinds 1 and 2: the payload that holds the tree bits and labels of the word w
---   decodeLabelled k m ps the word that the bytes ps hold as such a payload of a record with m edges, if any
+--   encodeLabelled f w    kinds 1 and 2: the payload that holds the tree bits and labels of the word w
+--   decodeLabelled f m ps the word that the bytes ps hold as such a payload of a record with m edges, if any
 --   decodeLetters m ps    kind 4: the word that the bytes ps hold, if any; its payload is `lettersPayload`
---   encodePayload k w, decodePayload k m ps   the same, by kind
+--   encodePayload f w, decodePayload f m ps   the same, by family
 --   decodeRecord r        the word that the record r holds, if any
 use mathlib.Core.Bool.{false, cond}
 use mathlib.Core.List.{List}
 use Prim.Native.Nat.{ℕ, _/_}
 use lib.Dec.{eqb}
 use lib.ListN.{length, drop}
+use Rattle.model.specs.Map.{family}
 use Rattle.model.specs.Traversal.{Letter}
-use Rattle.model.specs.Record.{payload}
+use Rattle.model.specs.Record.{headLength, payload}
 use Rattle.model.specs.Shelf.{kindOf, edgesOf}
 use Rattle.words.specs.Word.{Found, none, wordBits, wordLabels, decodeWord, nestedWord}
 use Rattle.packing.specs.Payload.{payloadBits, payloadLabels, payloadClean}
 use Rattle.packing.specs.Letters.{lettersPayload, payloadLetters, lettersClean}
 
 unfoldable pub encodeLabelled : ℕ → List Letter → List ℕ
-encodeLabelled k w = payload k (length w / 2) (wordBits false w) (wordLabels w)
+encodeLabelled f w = payload f (length w / 2) (wordBits false w) (wordLabels w)
 
 unfoldable pub decodeLabelled : ℕ → ℕ → List ℕ → Found
-decodeLabelled k m ps = cond (payloadClean k m ps) (decodeWord (payloadBits m ps) (payloadLabels k m ps)) none
+decodeLabelled f m ps = cond (payloadClean f m ps) (decodeWord (payloadBits m ps) (payloadLabels f m ps)) none
 
 unfoldable pub decodeLetters : ℕ → List ℕ → Found
 decodeLetters m ps = cond (lettersClean m ps) (nestedWord (payloadLetters m ps)) none
 
 unfoldable pub encodePayload : ℕ → List Letter → List ℕ
-encodePayload k w = cond (eqb k 4) (lettersPayload w) (encodeLabelled k w)
+encodePayload f w = cond (eqb f 4) (lettersPayload w) (encodeLabelled f w)
 
 unfoldable pub decodePayload : ℕ → ℕ → List ℕ → Found
-decodePayload k m ps = cond (eqb k 4) (decodeLetters m ps) (decodeLabelled k m ps)
+decodePayload f m ps = cond (eqb f 4) (decodeLetters m ps) (decodeLabelled f m ps)
 
 unfoldable pub decodeRecord : List ℕ → Found
-decodeRecord r = decodePayload (kindOf r) (edgesOf r) (drop 6 r)
+decodeRecord r = decodePayload (family (kindOf r)) (edgesOf r) (drop (headLength (kindOf r)) r)

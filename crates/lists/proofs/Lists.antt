@@ -80,8 +80,8 @@ module _ (coders : (k : ℕ) → isKind k ≡ true → Coder k) where
   alike-record : (c d : Writing) → fit (c .kind) (c .plan) ≡ true → fit (d .kind) (d .plan) ≡ true → Alike c d
       → recordOf (c .kind) (c .plan) ≡ recordOf (d .kind) (d .plan)
   alike-record c d e f a =
-      renumbered-record (c .kind) (coder c e) (c .plan) (d .plan) (a .partners) e
-      (subst (λ (k : ℕ). fit k (d .plan) ≡ true) (sym (a .one-kind)) f) (a .carried)
+      renumbered-record (c .kind) (coder c e) (c .plan) (d .plan) e
+      (subst (λ (k : ℕ). fit k (d .plan) ≡ true) (sym (a .one-kind)) f) (a .partners) (a .carried)
       ∙ ap (λ (k : ℕ). recordOf k (d .plan)) (a .one-kind)
 
   records-match : (cs ds : List Writing) → AllFit cs → AllFit ds → records cs ≡ records ds → PlaceByPlace cs ds
@@ -120,5 +120,5 @@ module _ (coders : (k : ℕ) → isKind k ≡ true → Coder k) where
     alike-same-bytes = λ cs ds h g m. laid-records cs h ∙ match-records (accepted cs) (accepted ds) (accepted-all-fit cs h) (accepted-all-fit ds g) m
         ∙ sym (laid-records ds g);
     one-renumbering = λ k l p q f g e e′ r r′. at-most-one k p q f g e r r′;
-    equal-records = λ k p q f e. renumbered-record k (coders k (fit-parts k p e .kind)) p q f e;
+    equal-records = λ k p q f e g. renumbered-record k (coders k (fit-parts k p e .kind)) p q e g f;
   }

@@ -1,36 +1,45 @@
 -- Records of fit plans, by the laws of a coder.
 --
---   record-sized          a fit plan's payload has the length for its kind
+--   record-sized          a fit plan's payload has the length for its family
 --   record-bytes, record-length   its record's entries are bytes, and it has the length for its kind
 --   record-kind, record-edges, record-passes, record-framed   its fields, that it passes 1, 2, 3 and 5, and that it begins with its length
 --   record-decodes        its payload is decoded to its word
 --   standard-record       its standard plan is fit and has the same record
---   same-record           equal records: equal kinds, and a renumbering
---   renumbered-record     a renumbering: equal records
+--   same-record           equal records: equal kinds, and a renumbering that the kind asks for
+--   renumbered-record     such a renumbering: equal records
 --   has-decodes           bytes that are a fit plan's record decode to its word
+--   has-outside           and name the outside that reading returns
+--   Sound v               the outside that the bytes name is the least dart of its face, in the rotation that v builds
+--   has-sound             bytes that are a fit plan's record have a sound outside
 --   none-has              bytes that do not decode are the record of no fit plan
---   read-back             every fit plan with the record has the standard plan that the word builds
---   decodes-has           bytes that decode are the record of the plan that their word builds
---   decodes-edges, decodes-standard   that plan has as many edges as the head says, and is in standard numbers
-use Prim.Native.Nat.{ℕ, _*_, _/_}
+--   read-back             every fit plan with the record has the standard rotation that the word builds
+--   given                 the plan that the word builds, with the outside that the bytes name
+--   decodes-has           bytes that decode and name a sound outside are the record of that plan
+--   decodes-edges, decodes-standard   it has as many edges as the head says, and is in standard numbers
+use Prim.Native.Nat.{ℕ, _*_, _/_, _<_}
 use native.Mathlib.Omega.{arith}
-use mathlib.Core.Path.{_≡_, sym, ap, ap₂, subst, _∙_}
-use mathlib.Core.Bool.{true}
-use mathlib.Core.List.{List}
-use lib.ListN.{length, drop}
+use mathlib.Core.Path.{_≡_, refl, sym, ap, ap₂, subst, _∙_}
+use mathlib.Core.Logic.{_↔_}
+use mathlib.Core.Bool.{Bool, true, false, cond}
+use mathlib.Core.List.{List, [], _++_}
+use lib.ListN.{length, getD, drop}
 use Rattle.model.specs.Numbers.{allBelow}
-use Rattle.model.specs.Map.{Plan, edges, fit}
-use Rattle.model.specs.Traversal.{Letter, standardPlan}
-use Rattle.model.specs.Record.{recordLength, headed, payloadOf, recordOf}
-use Rattle.model.specs.Shelf.{kindOf, edgesOf, passes}
-use Rattle.model.specs.Calls.{HasRecord}
-use Rattle.model.specs.Renumbering.{Renumbering}
+use Rattle.model.specs.Map.{Plan, darts, edges, faceOf, storesOutside, family, fit}
+use Rattle.model.specs.Traversal.{Letter, standardRotation, standardFace, standardPlan}
+use Rattle.model.specs.Record.{le16, headLength, recordLength, headed, payloadOf, outsideBytes, recordOf}
+use Rattle.model.specs.Shelf.{word16, kindOf, edgesOf, passes}
+use Rattle.model.specs.Calls.{HasRecord, outsideRead}
+use Rattle.model.specs.Renumbering.{Renumbering, Carries}
 use Rattle.model.proofs.Below.{below-drop}
+use Rattle.model.proofs.Fitness.{fit-parts, count-parts, outside-dart}
+use Rattle.model.proofs.Outside.{withOutside, fit-outside}
 use Rattle.words.specs.Word.{Found, found, none}
 use Rattle.words.proofs.Found.{none-found, found-same}
-use Rattle.packing.specs.Payload.{Sized}
-use Rattle.packing.proofs.Headed.{headed-length, headed-payload, headed-bytes, headed-field, headed-kind, headed-edges, headed-passes, headed-injective, passes-sized, passes-headed}
-use Rattle.lists.specs.Coder.{rooted, Coder}
+use Rattle.packing.specs.Payload.{Sized, extraBytes, Behind}
+use Rattle.packing.proofs.Headed.{headed-length, headed-payload, headed-outside, headed-field, headed-kind, headed-edges, headed-passes}
+use Rattle.packing.proofs.Headed.{extra-behind, extra-headed-bytes, passes-sized, passes-headed}
+use Rattle.renumbering.proofs.Faces.{standard-bound, standard-least, standard-root, standard-own, outside-through}
+use Rattle.lists.specs.Coder.{rooted, outsideOf, Coder}
 use Rattle.lists.specs.Framed.{Framed}
 
 module _ (k : ℕ) (c : Coder k) where
@@ -39,118 +48,251 @@ module _ (k : ℕ) (c : Coder k) where
     abbrev m : ℕ
     m = edges (p .rotation)
 
+    -- the outside's number
+    abbrev stored : ℕ
+    stored = standardFace p (p .outside)
+
+    -- what follows m
+    abbrev rest : List ℕ
+    rest = extraBytes k stored ++ payloadOf (family k) p
+
+    record-is : recordOf k p ≡ headed k m rest
+    unfolding recordOf outsideBytes extraBytes
+    record-is = refl
+
     half : length (c .codes p) / 2 ≡ m
     unfolding edges
     half = ap (λ (n : ℕ). n / 2) (c .letters p e)
 
-    pub record-sized : Sized k m (payloadOf k p)
+    pub record-sized : Sized (family k) m (payloadOf (family k) p)
     record-sized = rw (c .written p e, ← half) (c .sized (c .codes p) (c .proper p e))
 
+    behind : Behind k m rest
+    behind = extra-behind k stored m (payloadOf (family k) p) (fit-parts k p e .kind) record-sized
+
     pub record-bytes : allBelow 256 (recordOf k p) ≡ true
-    unfolding recordOf
-    record-bytes = headed-bytes k m (payloadOf k p) (rw (c .written p e) (c .bytes (c .codes p) (c .proper p e)))
+    record-bytes = rw record-is
+        (extra-headed-bytes k stored m (payloadOf (family k) p) (rw (c .written p e) (c .bytes (c .codes p) (c .proper p e))))
 
     pub record-length : length (recordOf k p) ≡ recordLength k m
-    unfolding recordOf
-    record-length = headed-length k m (payloadOf k p) ∙ record-sized .long
+    record-length = ap length record-is ∙ headed-length k m rest ∙ behind .long
 
     pub record-kind : kindOf (recordOf k p) ≡ k
-    unfolding recordOf
-    record-kind = headed-kind k m (payloadOf k p) record-sized
+    record-kind = ap kindOf record-is ∙ headed-kind k m rest behind
 
     pub record-edges : edgesOf (recordOf k p) ≡ m
-    unfolding recordOf
-    record-edges = headed-edges k m (payloadOf k p) record-sized
+    record-edges = ap edgesOf record-is ∙ headed-edges k m rest behind
 
     pub record-passes : passes (recordOf k p) ≡ true
-    unfolding recordOf
-    record-passes = headed-passes k m (payloadOf k p) record-sized
+    record-passes = ap passes record-is ∙ headed-passes k m rest behind
 
-    record-payload : drop 6 (recordOf k p) ≡ payloadOf k p
-    unfolding recordOf
-    record-payload = headed-payload k m (payloadOf k p)
+    record-payload : drop (headLength k) (recordOf k p) ≡ payloadOf (family k) p
+    record-payload = ap (drop (headLength k)) record-is ∙ headed-payload k stored m (payloadOf (family k) p)
+
+    record-outside : storesOutside k ≡ true → word16 (recordOf k p) 6 ≡ stored
+    record-outside s =
+        let n = count-parts (darts p) (fit-parts k p e .count) .2 in
+        let b = standard-bound k p e (c .numbered p e) (p .outside) (outside-dart k p (fit-parts k p e .outside) s) in
+        ap (λ (bs : List ℕ). word16 bs 6) record-is ∙ headed-outside k stored m (payloadOf (family k) p) s (omega arith)
 
     pub record-framed : Framed (recordOf k p)
-    unfolding recordOf
-    record-framed = let l = headed-length k m (payloadOf k p) in
-        record { long = omega arith; field = headed-field k m (payloadOf k p) record-sized }
+    record-framed = let l = headed-length k m rest in
+        rw record-is (record { long = omega arith; field = headed-field k m rest behind })
 
-    payload-decodes : c .decode m (payloadOf k p) ≡ found (c .codes p)
+    payload-decodes : c .decode m (payloadOf (family k) p) ≡ found (c .codes p)
     payload-decodes = rw (c .written p e, ← half) (c .reads (c .codes p) (c .proper p e))
 
-    pub record-decodes : c .decode (edgesOf (recordOf k p)) (drop 6 (recordOf k p)) ≡ found (c .codes p)
+    pub record-decodes : c .decode (edgesOf (recordOf k p)) (drop (headLength k) (recordOf k p)) ≡ found (c .codes p)
     record-decodes = rw (record-edges, record-payload) payload-decodes
 
-    -- the standard plan is the one that the word builds
+  -- ---- a plan that a word builds, with any outside
+
+  module _ (w : List Letter) (ok : c .Proper w) (o : ℕ) where
+    abbrev q : Plan
+    q = withOutside (rooted (c .builds w)) o
+
+    many : length (c .builds w) ≡ length w
+    many = let (fits, same) = c .built w ok in sym (c .letters _ fits) ∙ ap length same
+
+    module _ (h : storesOutside k ≡ true → o < length w) where
+      built-fits : fit k q ≡ true
+      built-fits = fit-outside (rooted (c .builds w)) o k (c .built w ok .0) (λ s. let l = h s in let z = many in omega arith)
+
+      codes-back : c .codes q ≡ w
+      codes-back = c .anywhere (rooted (c .builds w)) o ∙ c .built w ok .1
+
+      built-standard : standardRotation q ≡ c .builds w
+      built-standard = c .standard q built-fits ∙ ap (c .builds) codes-back
+
+      built-face : (d : ℕ) → d < length w → standardFace q d ≡ faceOf (c .builds w) d
+      built-face d l = let z = many in standard-own k q built-fits (c .numbered q built-fits) built-standard refl d (omega arith)
+
+      -- its record, where the outside is the least dart of its face
+      built-record : (storesOutside k ≡ true → faceOf (c .builds w) o ≡ o) → recordOf k q ≡ headed k (length w / 2) (extraBytes k o ++ c .encode w)
+      unfolding edges extraBytes
+      built-record own =
+          record-is q built-fits
+          ∙ ap₂ (λ (n : ℕ) (bs : List ℕ). headed k (n / 2) bs) many
+          (ap₂ (λ (xs ys : List ℕ). xs ++ ys) (go (storesOutside k) refl) (c .written q built-fits ∙ ap (c .encode) codes-back))
+        where
+          go : (b : Bool) → storesOutside k ≡ b → cond b (le16 (standardFace q o)) [] ≡ cond b (le16 o) []
+          go true s = ap le16 (built-face o (h s) ∙ own s)
+          go false s = refl
+
+  -- ---- the standard plan is the one that the word builds
+
+  module _ (p : Plan) (e : fit k p ≡ true) where
+    abbrev v : List Letter
+    v = c .codes p
+
+    here : storesOutside k ≡ true → p .outside < darts p
+    here = outside-dart k p (fit-parts k p e .outside)
+
+    low : storesOutside k ≡ true → standardFace p (p .outside) < length v
+    low s = let b = standard-bound k p e (c .numbered p e) (p .outside) (here s) in let n = c .letters p e in omega arith
+
+    own : storesOutside k ≡ true → faceOf (c .builds v) (standardFace p (p .outside)) ≡ standardFace p (p .outside)
+    own s =
+        ap (λ (rot : List ℕ). faceOf rot (standardFace p (p .outside))) (sym (c .standard p e))
+        ∙ standard-least k p e (c .numbered p e) (p .outside) (here s)
+
     pub standard-record : (fit k (standardPlan p) ≡ true) × (recordOf k (standardPlan p) ≡ recordOf k p)
-    unfolding recordOf standardPlan edges
+    unfolding standardPlan
     standard-record =
-        let (fits, same) = c .built (c .codes p) (c .proper p e) in
-        let q = rooted (c .builds (c .codes p)) in
-        let n = sym (c .letters q fits) ∙ ap length same ∙ c .letters p e in
-        subst (λ (rot : List ℕ). (fit k (rooted rot) ≡ true) × (recordOf k (rooted rot) ≡ recordOf k p)) (sym (c .standard p e))
-        (fits, ap₂ (λ (d : ℕ) (ps : List ℕ). headed k (d / 2) ps) n (c .written q fits ∙ ap (c .encode) same ∙ sym (c .written p e)))
+        let o = standardFace p (p .outside) in
+        subst (λ (rot : List ℕ). (fit k (withOutside (rooted rot) o) ≡ true) × (recordOf k (withOutside (rooted rot) o) ≡ recordOf k p)) (sym (c .standard p e)) (
+          built-fits v (c .proper p e) o low,
+          built-record v (c .proper p e) o low own
+              ∙ ap₂ (λ (n : ℕ) (ps : List ℕ). headed k n (extraBytes k o ++ ps)) (half p e) (sym (c .written p e)) ∙ sym (record-is p e),
+        )
 
   -- ---- two fit plans
 
-  -- one payload, one word, one plan up to renumbering
-  same-payload : (p q : Plan) → fit k p ≡ true → fit k q ≡ true → edges (p .rotation) ≡ edges (q .rotation) → payloadOf k p ≡ payloadOf k q
-      → (f : List ℕ) × Renumbering p q f
-  same-payload p q e f sizes payloads =
-      c .alike p q e f (found-same _ _ (sym (payload-decodes p e) ∙ ap₂ (c .decode) sizes payloads ∙ payload-decodes q f))
+  module _ (p q : Plan) (e : fit k p ≡ true) (g : fit k q ≡ true) where
+    -- one word, one standard rotation
+    one-rotation : c .codes p ≡ c .codes q → standardRotation p ≡ standardRotation q
+    one-rotation same = c .standard p e ∙ ap (c .builds) same ∙ sym (c .standard q g)
 
-  pub renumbered-record : (p q : Plan) (f : List ℕ) → fit k p ≡ true → fit k q ≡ true → Renumbering p q f → recordOf k p ≡ recordOf k q
-  unfolding recordOf edges
-  renumbered-record p q f e g r =
-      ap₂ (λ (n : ℕ) (ps : List ℕ). headed k (n / 2) ps) (r .same-darts)
-      (c .written p e ∙ ap (c .encode) (c .carried p q f e r) ∙ sym (c .written q g))
+    -- the outer faces, where they are stored
+    module _ (f : List ℕ) (r : Renumbering p q f) (same : c .codes p ≡ c .codes q) (s : storesOutside k ≡ true) where
+      outsides : (faceOf (q .rotation) (getD f (p .outside) 0) ≡ faceOf (q .rotation) (q .outside)) ↔ (stored p e ≡ stored q g)
+      outsides = outside-through k p q e g f r (c .numbered p e) (c .numbered q g) (one-rotation same) (here p e s) (here q g s)
+
+    pub renumbered-record : (f : List ℕ) → Carries k p q f → recordOf k p ≡ recordOf k q
+    unfolding edges extraBytes
+    renumbered-record f r =
+        let same = c .carried p q f e (r .renumbering) in
+        record-is p e
+        ∙ ap₂ (λ (n : ℕ) (bs : List ℕ). headed k (n / 2) bs) (r .renumbering .same-darts)
+        (ap₂ (λ (xs ys : List ℕ). xs ++ ys) (go same (storesOutside k) refl)
+        (c .written p e ∙ ap (c .encode) same ∙ sym (c .written q g)))
+        ∙ sym (record-is q g)
+      where
+        go : c .codes p ≡ c .codes q → (b : Bool) → storesOutside k ≡ b → cond b (le16 (stored p e)) [] ≡ cond b (le16 (stored q g)) []
+        go same true s = ap le16 (outsides f (r .renumbering) same s .0 (r .outsides s))
+        go same false s = refl
+
+    -- one record, one word, one plan up to renumbering
+    one-record : recordOf k p ≡ recordOf k q → (f : List ℕ) × Carries k p q f
+    one-record same =
+        let payloads = sym (record-payload p e) ∙ ap (drop (headLength k)) same ∙ record-payload q g in
+        let sizes = sym (record-edges p e) ∙ ap edgesOf same ∙ record-edges q g in
+        let words = found-same _ _ (sym (payload-decodes p e) ∙ ap₂ (c .decode) sizes payloads ∙ payload-decodes q g) in
+        let (f, r) = c .alike p q e g words in (
+          f,
+          record {
+            renumbering = r;
+            outsides = λ s. outsides f r words s .1 (sym (record-outside p e s) ∙ ap (λ (bs : List ℕ). word16 bs 6) same ∙ record-outside q g s);
+          },
+        )
 
 pub same-record : (k l : ℕ) (c : Coder k) (d : Coder l) (p q : Plan) → fit k p ≡ true → fit l q ≡ true → recordOf k p ≡ recordOf l q
-    → (k ≡ l) × ((f : List ℕ) × Renumbering p q f)
-unfolding recordOf
+    → (k ≡ l) × ((f : List ℕ) × Carries k p q f)
 same-record k l c d p q e f same =
-    let (kinds, sizes, payloads) = headed-injective k (edges (p .rotation)) (payloadOf k p) l (edges (q .rotation)) (payloadOf l q)
-    (record-sized k c p e) (record-sized l d q f) same in
+    let kinds = sym (record-kind k c p e) ∙ ap kindOf same ∙ record-kind l d q f in
     let g : fit k q ≡ true = subst (λ (j : ℕ). fit j q ≡ true) (sym kinds) f in
-    (kinds, same-payload k c p q e g sizes (payloads ∙ ap (λ (j : ℕ). payloadOf j q) (sym kinds)))
+    (kinds, one-record k c p q e g (same ∙ ap (λ (j : ℕ). recordOf j q) (sym kinds)))
 
 -- ---- any bytes
 
 module _ (r : List ℕ) (c : Coder (kindOf r)) where
+  abbrev k : ℕ
+  k = kindOf r
+
   abbrev decoded : Found
-  decoded = c .decode (edgesOf r) (drop 6 r)
+  decoded = c .decode (edgesOf r) (drop (headLength k) r)
 
   pub has-decodes : (p : Plan) → HasRecord r p → decoded ≡ found (c .codes p)
   has-decodes p (f, e) =
-      ap (λ (s : List ℕ). c .decode (edgesOf s) (drop 6 s)) (sym e) ∙ record-decodes (kindOf r) c p f
+      ap (λ (s : List ℕ). c .decode (edgesOf s) (drop (headLength k) s)) (sym e) ∙ record-decodes k c p f
 
   pub none-has : decoded ≡ none → (p : Plan) → HasRecord r p → ⊥
   none-has e p h = none-found _ (sym e ∙ has-decodes p h)
 
-  pub read-back : (v : List Letter) (p : Plan) → decoded ≡ found v → HasRecord r p → standardPlan p ≡ rooted (c .builds v)
-  unfolding standardPlan
-  read-back v p e h = ap rooted (c .standard p (h .0) ∙ ap (c .builds) (found-same _ v (sym (has-decodes p h) ∙ e)))
+  pub read-back : (v : List Letter) (p : Plan) → decoded ≡ found v → HasRecord r p → standardRotation p ≡ c .builds v
+  read-back v p e h = c .standard p (h .0) ∙ ap (c .builds) (found-same _ v (sym (has-decodes p h) ∙ e))
 
-  module _ (v : List Letter) (pass : passes r ≡ true) (bytes : allBelow 256 r ≡ true) (e : decoded ≡ found v) where
-    abbrev q : Plan
-    q = rooted (c .builds v)
+  -- the dart whose face reading returns
+  read-dart : (p : Plan) → fit k p ≡ true → cond (storesOutside k) (p .outside) (p .root) < darts p
+  read-dart p f = go (storesOutside k) refl
+    where
+      go : (b : Bool) → storesOutside k ≡ b → cond b (p .outside) (p .root) < darts p
+      go true s = outside-dart k p (fit-parts k p f .outside) s
+      go false s = fit-parts k p f .root
 
-    made : c .Proper v × (c .encode v ≡ drop 6 r) × (length v ≡ 2 * edgesOf r)
-    made = c .made (edgesOf r) (drop 6 r) v (passes-sized r pass) (below-drop 256 6 r bytes) e
+  pub has-outside : (p : Plan) → HasRecord r p → outsideOf r ≡ outsideRead k p
+  unfolding outsideOf outsideRead
+  has-outside p (f, e) = go (storesOutside k) refl
+    where
+      go : (b : Bool) → storesOutside k ≡ b → cond b (word16 r 6) 0 ≡ standardFace p (cond b (p .outside) (p .root))
+      go true s = ap (λ (bs : List ℕ). word16 bs 6) (sym e) ∙ record-outside k c p f s
+      go false s = sym (standard-root k p f (c .numbered p f))
 
-    built : (fit (kindOf r) q ≡ true) × (c .codes q ≡ v)
-    built = c .built v (made .0)
+  abbrev pub Sound : List Letter → Type 0
+  Sound v = (outsideOf r < length v) × (faceOf (c .builds v) (outsideOf r) ≡ outsideOf r)
 
-    pub decodes-edges : edges (q .rotation) ≡ edgesOf r
+  pub has-sound : (v : List Letter) → decoded ≡ found v → (p : Plan) → HasRecord r p → Sound v
+  unfolding outsideRead
+  has-sound v e p h =
+      let o = has-outside p h in
+      let f = h .0 in
+      let b = standard-bound k p f (c .numbered p f) _ (read-dart p f) in
+      let n = c .letters p f in
+      let same = ap length (found-same _ v (sym (has-decodes p h) ∙ e)) in (
+        omega arith,
+        ap₂ faceOf (sym (read-back v p e h)) o ∙ standard-least k p f (c .numbered p f) _ (read-dart p f) ∙ sym o,
+      )
+
+  module _ (v : List Letter) (pass : passes r ≡ true) (bytes : allBelow 256 r ≡ true) (e : decoded ≡ found v) (sound : Sound v) where
+    abbrev pub given : Plan
+    given = withOutside (rooted (c .builds v)) (outsideOf r)
+
+    made : c .Proper v × (c .encode v ≡ drop (headLength k) r) × (length v ≡ 2 * edgesOf r)
+    made = c .made (edgesOf r) (drop (headLength k) r) v (passes-sized r pass) (below-drop 256 (headLength k) r bytes) e
+
+    fits : fit k given ≡ true
+    fits = built-fits k c v (made .0) (outsideOf r) (λ s. sound .0)
+
+    pub decodes-edges : edges (given .rotation) ≡ edgesOf r
     unfolding edges
-    decodes-edges = let n = c .letters q (built .0) in let s = ap length (built .1) in let l = made .2 in omega arith
+    decodes-edges = let n = many k c v (made .0) (outsideOf r) in let l = made .2 in omega arith
 
-    pub decodes-has : HasRecord r q
-    unfolding recordOf
-    decodes-has = (
-      built .0,
-      ap₂ (headed (kindOf r)) decodes-edges (c .written q (built .0) ∙ ap (c .encode) (built .1) ∙ made .1) ∙ passes-headed r pass bytes,
-    )
+    -- the outside's bytes
+    extra : extraBytes k (outsideOf r) ≡ extraBytes k (word16 r 6)
+    unfolding extraBytes outsideOf
+    extra = go (storesOutside k)
+      where
+        go : (b : Bool) → cond b (le16 (cond b (word16 r 6) 0)) [] ≡ cond b (le16 (word16 r 6)) []
+        go true = refl
+        go false = refl
 
-    pub decodes-standard : standardPlan q ≡ q
-    decodes-standard = read-back v q e decodes-has
+    pub decodes-has : HasRecord r given
+    decodes-has =
+        let l : length v / 2 ≡ edgesOf r = (let z = made .2 in omega arith) in (
+          fits,
+          built-record k c v (made .0) (outsideOf r) (λ s. sound .0) (λ s. sound .1)
+              ∙ ap₂ (headed k) l (ap₂ (λ (xs ys : List ℕ). xs ++ ys) extra (made .1)) ∙ passes-headed r pass bytes,
+        )
+
+    pub decodes-standard : standardRotation given ≡ c .builds v
+    decodes-standard = read-back v given e decodes-has

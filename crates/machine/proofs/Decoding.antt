@@ -12,7 +12,7 @@ use mathlib.Core.Bool.{Bool, true, false, cond}
 use mathlib.Core.List.{List, [], _∷_, _++_}
 use lib.ListN.{length}
 use Rattle.model.specs.Numbers.{allBelow}
-use Rattle.model.specs.Map.{isKind, takesLoops, dartCountFits}
+use Rattle.model.specs.Map.{isFamily, takesLoops, dartCountFits}
 use Rattle.model.specs.Traversal.{Letter, down, up, first, second}
 use Rattle.model.specs.LabelledTree.{star}
 use Rattle.model.specs.Record.{labelBase}
@@ -167,11 +167,11 @@ module _ (k : ℕ) (bits labels : List ℕ) (w : List Letter) (low : allBelow 2 
   pub decoded-length : length w ≡ length bits
   decoded-length = let h = bits-count 1 0 [] [] w decoded-nests in let q = ap length decoded-bits in omega arith
 
-  pub decoded-valid : isKind k ≡ true → takesLoops k ≡ false → dartCountFits (length bits) ≡ true → valid k w ≡ true
+  pub decoded-valid : isFamily k ≡ true → takesLoops k ≡ false → dartCountFits (length bits) ≡ true → valid k w ≡ true
   decoded-valid kind strict fits = valid-of k w kind (rw decoded-length fits) (rw strict decoded-nests)
       (λ t. plain-labels w (rw decoded-labels (bound-two k labels bound t)))
 
-pub encode-decode : (k : ℕ) (bits labels : List ℕ) (w : List Letter) → isKind k ≡ true → takesLoops k ≡ false → (m : ℕ) → dartCountFits (2 * m) ≡ true
+pub encode-decode : (k : ℕ) (bits labels : List ℕ) (w : List Letter) → isFamily k ≡ true → takesLoops k ≡ false → (m : ℕ) → dartCountFits (2 * m) ≡ true
     → length bits ≡ 2 * m → length labels ≡ m → allBelow 2 bits ≡ true → allBelow (labelBase k) labels ≡ true
     → decodeWord bits labels ≡ found w
     → (valid k w ≡ true) × (wordBits false w ≡ bits) × (wordLabels w ≡ labels) × (length w ≡ 2 * m)

@@ -8,19 +8,22 @@
 --   vertex-turn            a dart and its entry have one vertex
 --   vertex-bound           a vertex is named by a dart
 --   vertex-alone           a dart that is its own entry is alone at its vertex
+--   face-bound, face-own   a face is named by a dart, and that dart's face has its name
+--   face-zero              dart 0 names its face
 use Prim.Native.Nat.{ℕ, _%_, _<_}
+use native.Mathlib.Omega.{arith}
 use mathlib.Core.Path.{_≡_, sym, _∙_}
 use mathlib.Core.Bool.{true}
 use mathlib.Core.List.{List}
 use lib.ListN.{length, getD}
 use Rattle.model.specs.Numbers.{distinct, allBelow, isPermutation, position}
-use Rattle.model.specs.Map.{opposite, next, vertexOf, faceNext}
+use Rattle.model.specs.Map.{opposite, next, vertexOf, faceNext, faceOf}
 use Rattle.model.proofs.Booleans.{and-right}
 use Rattle.model.proofs.Permutations.{permutation-below, permutation-inj, permutation-of, position-entry}
 use Rattle.model.proofs.Opposite.{opposite-opposite, opposite-ne, opposite-bound}
 use Rattle.orbits.specs.Permutation.{Perm}
 use Rattle.orbits.specs.Chord.{Involution}
-use Rattle.orbits.proofs.Cycle.{iter-fixed, least-step, least-bound, same-reach}
+use Rattle.orbits.proofs.Cycle.{iter-fixed, least-le, least-step, least-bound, least-idem, same-reach}
 use Rattle.orbits.proofs.Chord.{crossed-perm}
 use Rattle.orbits.proofs.Euler.{Free}
 
@@ -61,3 +64,16 @@ module _ (rot : List ℕ) (perm : Perm (length rot) (next rot)) where
   unfolding vertexOf
   vertex-alone d e h own same =
       let (j, reached) = same-reach (length rot) (next rot) perm d e h same in sym (iter-fixed (next rot) j d own) ∙ reached
+
+module _ (rot : List ℕ) (perm : isPermutation rot ≡ true) (two : length rot % 2 ≡ 0) where
+  pub face-bound : (d : ℕ) → d < length rot → faceOf rot d < length rot
+  unfolding faceOf
+  face-bound = least-bound (length rot) (faceNext rot) (face-perm rot perm two)
+
+  pub face-own : (d : ℕ) → d < length rot → faceOf rot (faceOf rot d) ≡ faceOf rot d
+  unfolding faceOf
+  face-own = least-idem (length rot) (faceNext rot) (face-perm rot perm two)
+
+pub face-zero : (rot : List ℕ) → faceOf rot 0 ≡ 0
+unfolding faceOf
+face-zero rot = let h = least-le (faceNext rot) (length rot) 0 in omega arith

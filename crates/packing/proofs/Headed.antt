@@ -1,48 +1,42 @@
--- A payload behind its head, and the head taken off again. Assumes nothing.
+-- Bytes behind length, kind and m, and these taken off again; the payload behind the outside's bytes. Assumes nothing.
 --
---   headed-length, headed-payload, headed-bytes   its length, the payload, and that its entries are bytes
+--   headed-length, headed-bytes   the length of what is headed, and that its entries are bytes
 --   headed-field, headed-kind, headed-edges   its three fields
 --   headed-passes        it passes 1, 2, 3 and 5
---   headed-injective     kind, size and payload are told apart
+--   extra-length, extra-behind   the head with the outside's bytes has its length, and so has what is behind m
+--   headed-payload, headed-outside   the payload, and the outside's number where it is stored
 --   passes-sized         what follows the head of any record that passes is as long as its payload
 --   passes-headed        any record that passes is headed
 use Prim.Native.Nat.{ℕ, _+_, _≤_, _<_}
 use native.Mathlib.Nat.{add-zero}
 use native.Mathlib.Omega.{arith}
 use native.Mathlib.Numerals.{add-one}
-use mathlib.Core.Path.{_≡_, refl, sym, ap, _∙_}
-use mathlib.Core.Bool.{true}
+use mathlib.Core.Path.{_≡_, refl, _∙_}
+use mathlib.Core.Bool.{Bool, true, false, cond}
 use mathlib.Core.List.{List, [], _∷_, _++_}
-use lib.ListN.{length, drop, length-drop}
+use lib.ListN.{length, drop, length-drop, length-append}
 use lib.Seq.{getD-drop, drop-drop}
 use borrow.Author.Tests.{eq-eqb}
 use Rattle.model.specs.Numbers.{allBelow}
-use Rattle.model.specs.Map.{isKind}
-use Rattle.model.specs.Record.{le16, headed}
+use Rattle.model.specs.Map.{storesOutside, isKind, family}
+use Rattle.model.specs.Record.{le16, headLength, payloadLength, recordLength, headed}
 use Rattle.model.specs.Shelf.{word16, kindOf, edgesOf, passes}
 use Rattle.model.proofs.Below.{below-append, below-drop, below-head, below-tail}
-use Rattle.packing.specs.Payload.{Sized}
-use Rattle.model.proofs.Heads.{le16-word16, le16-bytes, kind-cases, recordLength-range, Passes, passes-facts, facts-passes}
+use Rattle.packing.specs.Payload.{Sized, extraBytes, Behind}
+use Rattle.model.proofs.Heads.{le16-word16, le16-bytes, kind-family, kind-small, recordLength-range, Passes, passes-facts, facts-passes}
 
 module _ (k m : ℕ) (ps : List ℕ) where
   pub headed-length : length (headed k m ps) ≡ 6 + length ps
   unfolding headed le16
   headed-length = omega arith
 
-  pub headed-payload : drop 6 (headed k m ps) ≡ ps
-  unfolding headed le16
-  headed-payload = refl
-
   pub headed-bytes : allBelow 256 ps ≡ true → allBelow 256 (headed k m ps) ≡ true
   unfolding headed
   headed-bytes e = below-append 256 (le16 (6 + length ps)) _ (le16-bytes _)
       (below-append 256 (le16 k) _ (le16-bytes _) (below-append 256 (le16 m) ps (le16-bytes _) e))
 
-kind-small : (k : ℕ) → isKind k ≡ true → k < 65536
-kind-small = kind-cases (λ (x : ℕ). x < 65536) (omega arith) (omega arith) (omega arith)
-
-module _ (k m : ℕ) (ps : List ℕ) (s : Sized k m ps) where
-  range : (7 ≤ 6 + length ps) × (6 + length ps ≤ 2054)
+module _ (k m : ℕ) (ps : List ℕ) (s : Behind k m ps) where
+  range : (7 ≤ 6 + length ps) × (6 + length ps ≤ 2056)
   range = let r = recordLength-range k m (s .some-edge) (s .few-edges) in let l = s .long in (omega arith, omega arith)
 
   pub headed-field : word16 (headed k m ps) 0 ≡ length (headed k m ps)
@@ -73,13 +67,48 @@ module _ (k m : ℕ) (ps : List ℕ) (s : Sized k m ps) where
         right-length = l ∙ s .long ∙ rw (headed-kind, headed-edges);
       }))
 
-pub headed-injective : (k m : ℕ) (ps : List ℕ) (l n : ℕ) (qs : List ℕ) → Sized k m ps → Sized l n qs → headed k m ps ≡ headed l n qs
-    → (k ≡ l) × (m ≡ n) × (ps ≡ qs)
-headed-injective k m ps l n qs s t e = (
-  sym (headed-kind k m ps s) ∙ ap kindOf e ∙ headed-kind l n qs t,
-  sym (headed-edges k m ps s) ∙ ap edgesOf e ∙ headed-edges l n qs t,
-  sym (headed-payload k m ps) ∙ ap (drop 6) e ∙ headed-payload l n qs,
-)
+-- ---- the outside's bytes
+
+module _ (k x : ℕ) where
+  pub extra-length : 6 + length (extraBytes k x) ≡ headLength k
+  unfolding extraBytes headLength le16
+  extra-length = go (storesOutside k)
+    where
+      go : (b : Bool) → 6 + length (cond b (le16 x) []) ≡ cond b 8 6
+      go true = refl
+      go false = refl
+
+  extra-bytes : allBelow 256 (extraBytes k x) ≡ true
+  unfolding extraBytes allBelow
+  extra-bytes = go (storesOutside k)
+    where
+      go : (b : Bool) → allBelow 256 (cond b (le16 x) []) ≡ true
+      go true = le16-bytes x
+      go false = refl
+
+  module _ (m : ℕ) (ps : List ℕ) where
+    pub extra-behind : isKind k ≡ true → Sized (family k) m ps → Behind k m (extraBytes k x ++ ps)
+    unfolding recordLength
+    extra-behind kind s =
+        let e = extra-length in
+        let a = length-append (extraBytes k x) ps in
+        let l = s .long in
+        record { kind = kind; some-edge = s .some-edge; few-edges = s .few-edges; long = omega arith }
+
+    pub extra-headed-bytes : allBelow 256 ps ≡ true → allBelow 256 (headed k m (extraBytes k x ++ ps)) ≡ true
+    extra-headed-bytes e = headed-bytes k m (extraBytes k x ++ ps) (below-append 256 (extraBytes k x) ps extra-bytes e)
+
+    pub headed-payload : drop (headLength k) (headed k m (extraBytes k x ++ ps)) ≡ ps
+    unfolding headed le16 extraBytes headLength
+    headed-payload = go (storesOutside k)
+      where
+        go : (b : Bool) → drop (cond b 8 6) (le16 (6 + length (cond b (le16 x) [] ++ ps)) ++ (le16 k ++ (le16 m ++ (cond b (le16 x) [] ++ ps)))) ≡ ps
+        go true = refl
+        go false = refl
+
+    pub headed-outside : storesOutside k ≡ true → x < 65536 → word16 (headed k m (extraBytes k x ++ ps)) 6 ≡ x
+    unfolding headed le16 extraBytes word16
+    headed-outside e h = rw e (omega arith)
 
 -- ---- any record that passes
 
@@ -109,14 +138,30 @@ module _ (r : List ℕ) (pass : passes r ≡ true) where
   long : 6 + length (drop 6 r) ≡ length r
   long = let d = length-drop 6 r in let h = facts .whole-head in omega arith
 
-  pub passes-sized : Sized (kindOf r) (edgesOf r) (drop 6 r)
-  passes-sized = record {
-    kind = facts .kind;
-    some-edge = facts .some-edge;
-    few-edges = facts .few-edges;
-    long = long ∙ facts .right-length;
-  }
+  -- a kind that stores the outside has eight bytes before the payload
+  head-room : storesOutside (kindOf r) ≡ true → 8 ≤ length r
+  unfolding recordLength headLength
+  head-room t = let l = facts .right-length in let z : recordLength (kindOf r) (edgesOf r) ≡ 8 + payloadLength (family (kindOf r)) (edgesOf r) = rw t in omega arith
 
-  pub passes-headed : allBelow 256 r ≡ true → headed (kindOf r) (edgesOf r) (drop 6 r) ≡ r
+  pub passes-sized : Sized (family (kindOf r)) (edgesOf r) (drop (headLength (kindOf r)) r)
+  unfolding recordLength
+  passes-sized =
+      let d = length-drop (headLength (kindOf r)) r in
+      let l = facts .right-length in
+      record { is-family = kind-family (kindOf r) (facts .kind); some-edge = facts .some-edge; few-edges = facts .few-edges; long = omega arith }
+
+  -- what is behind m
+  rest-is : allBelow 256 r ≡ true → extraBytes (kindOf r) (word16 r 6) ++ drop (headLength (kindOf r)) r ≡ drop 6 r
+  unfolding extraBytes headLength
+  rest-is e = go (storesOutside (kindOf r)) refl
+    where
+      go : (b : Bool) → storesOutside (kindOf r) ≡ b → cond b (le16 (word16 r 6)) [] ++ drop (cond b 8 6) r ≡ drop 6 r
+      go true t =
+          let d = length-drop 6 r in
+          rw (← word16-drop 6 r, ← drop-drop 2 6 r) (field (drop 6 r) (let z = head-room t in omega arith) (below-drop 256 6 r e))
+      go false t = refl
+
+  pub passes-headed : allBelow 256 r ≡ true
+      → headed (kindOf r) (edgesOf r) (extraBytes (kindOf r) (word16 r 6) ++ drop (headLength (kindOf r)) r) ≡ r
   unfolding headed
-  passes-headed e = rw (long, ← facts .length-field) (head-fields r (facts .whole-head) e)
+  passes-headed e = rw (rest-is e, long, ← facts .length-field) (head-fields r (facts .whole-head) e)

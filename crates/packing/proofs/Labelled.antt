@@ -1,18 +1,19 @@
--- Kinds whose records hold tree bits and labels: 1 and 2. Assumes nothing.
+-- Families whose records hold tree bits and labels: 1 and 2. Assumes nothing.
 --
---   labelled-cases       what holds of 1 and 2 holds of every such kind
---   labelled-kind, labelled-strict   it is a kind, and takes no loops, so is not 4
+--   labelled-cases       what holds of 1 and 2 holds of every such family
+--   labelled-family, labelled-strict   it is a family, and takes no loops, so is not 4
 --   labelled-two         it is 2 if it is not 1
---   labelled-other, labelled-or-four   every kind but 4 is such a kind
+--   labelled-other, labelled-or-four   every family but 4 is such a one
 use Prim.Native.Nat.{ℕ}
 use mathlib.Core.Path.{_≡_, refl, sym, subst}
 use mathlib.Core.Logic.{_≢_}
 use mathlib.Core.Bool.{Bool, true, false}
 use lib.Dec.{eqb}
 use borrow.Author.Tests.{eqb-true, eqb-false}
-use Rattle.model.specs.Map.{isKind, takesLoops}
+use Rattle.model.specs.Numbers.{elem}
+use Rattle.model.specs.Map.{isFamily, takesLoops}
 use Rattle.model.proofs.Booleans.{or-split}
-use Rattle.model.proofs.Heads.{kind-cases}
+use Rattle.model.proofs.Heads.{family-cases}
 use Rattle.packing.specs.Payload.{hasLabels}
 
 pub labelled-cases : (P : ℕ → Type 0) → P 1 → P 2 → (k : ℕ) → hasLabels k ≡ true → P k
@@ -20,21 +21,21 @@ unfolding hasLabels
 labelled-cases P p q k e =
     or-split (eqb k 1) (eqb k 2) e (λ t. subst P (sym (eqb-true k 1 t)) p) (λ t. subst P (sym (eqb-true k 2 t)) q)
 
-pub labelled-kind : (k : ℕ) → hasLabels k ≡ true → isKind k ≡ true
-unfolding isKind
-labelled-kind = labelled-cases (λ (x : ℕ). isKind x ≡ true) refl refl
+pub labelled-family : (k : ℕ) → hasLabels k ≡ true → isFamily k ≡ true
+unfolding isFamily elem
+labelled-family = labelled-cases (λ (x : ℕ). isFamily x ≡ true) refl refl
 
 pub labelled-strict : (k : ℕ) → hasLabels k ≡ true → takesLoops k ≡ false
 labelled-strict = labelled-cases (λ (x : ℕ). takesLoops x ≡ false) refl refl
 
-pub labelled-other : (k : ℕ) → isKind k ≡ true → k ≢ 4 → hasLabels k ≡ true
+pub labelled-other : (k : ℕ) → isFamily k ≡ true → k ≢ 4 → hasLabels k ≡ true
 unfolding hasLabels
-labelled-other k kind = kind-cases (λ (x : ℕ). x ≢ 4 → hasLabels x ≡ true) (λ d. refl) (λ d. refl) (λ d. absurd (d refl)) k kind
+labelled-other k kind = family-cases (λ (x : ℕ). x ≢ 4 → hasLabels x ≡ true) (λ d. refl) (λ d. refl) (λ d. absurd (d refl)) k kind
 
 pub labelled-two : (k : ℕ) → hasLabels k ≡ true → k ≢ 1 → k ≡ 2
 labelled-two = labelled-cases (λ (x : ℕ). x ≢ 1 → x ≡ 2) (λ d. absurd (d refl)) (λ d. refl)
 
-pub labelled-or-four : {P : Type 0} (k : ℕ) → isKind k ≡ true → (hasLabels k ≡ true → P) → (k ≡ 4 → P) → P
+pub labelled-or-four : {P : Type 0} (k : ℕ) → isFamily k ≡ true → (hasLabels k ≡ true → P) → (k ≡ 4 → P) → P
 labelled-or-four {P} k kind f g =
     go (eqb k 4) refl
   where

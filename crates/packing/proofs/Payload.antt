@@ -15,7 +15,7 @@ use mathlib.Core.List.{List, _++_, append-assoc}
 use lib.ListN.{length, take, drop, replicate, length-append, length-drop, take-append-drop}
 use lib.Seq.{take-at, drop-at, take-add, length-take-le, take-append-le}
 use Rattle.model.specs.Numbers.{allBelow}
-use Rattle.model.specs.Record.{pack, bytesFor, recordLength, payload, labelBase}
+use Rattle.model.specs.Record.{pack, bytesFor, payloadLength, payload, labelBase}
 use Rattle.model.proofs.Booleans.{and-left, and-right, both}
 use Rattle.model.proofs.Below.{below-append, below-take, below-drop, below-mono}
 use Rattle.packing.specs.Unpack.{bits, groups}
@@ -23,10 +23,10 @@ use Rattle.packing.specs.Payload.{hasLabels, blankFrom, payloadBits, pay
 use Rattle.packing.proofs.Packed.{pack-length, pack-below, unpack-append, length-unpack, unpack-below, unpack-packed, blank-past, pack-front}
 use Rattle.packing.proofs.Labelled.{labelled-cases}
 
-pub payload-length : (k m : ℕ) (bs ls : List ℕ) → hasLabels k ≡ true → 6 + length (payload k m bs ls) ≡ recordLength k m
-unfolding payload recordLength
+pub payload-length : (k m : ℕ) (bs ls : List ℕ) → hasLabels k ≡ true → length (payload k m bs ls) ≡ payloadLength k m
+unfolding payload payloadLength
 payload-length k m bs ls =
-    labelled-cases (λ (x : ℕ). 6 + length (payload x m bs ls) ≡ recordLength x m)
+    labelled-cases (λ (x : ℕ). length (payload x m bs ls) ≡ payloadLength x m)
     (rw (pack-length 2 8 (bytesFor (3 * m) 8) (bs ++ ls)) (omega arith))
     (rw (
       length-append (pack 2 8 (bytesFor (2 * m) 8) bs) (pack 3 5 (bytesFor m 5) ls),
@@ -142,8 +142,8 @@ module _ (k m : ℕ) (bs ls : List ℕ) (kind : hasLabels k ≡ true) where
 -- ---- any payload of the right length
 
 module _ (m : ℕ) (ps : List ℕ) where
-  one-parts : 6 + length ps ≡ recordLength 1 m → Parts 1 m (payloadBits m ps) (payloadLabels 1 m ps)
-  unfolding payloadBits payloadLabels recordLength labelBase bits
+  one-parts : length ps ≡ payloadLength 1 m → Parts 1 m (payloadBits m ps) (payloadLabels 1 m ps)
+  unfolding payloadBits payloadLabels payloadLength labelBase bits
   one-parts q =
       let u = length-unpack 2 8 (length ps) ps in
       let d = length-drop (2 * m) (bits ps) in
@@ -154,8 +154,8 @@ module _ (m : ℕ) (ps : List ℕ) where
         labels-fit = below-take 2 m (drop (2 * m) (bits ps)) (below-drop 2 (2 * m) (bits ps) (unpack-below 2 8 (omega arith) (length ps) ps));
       }
 
-  two-parts : 6 + length ps ≡ recordLength 2 m → Parts 2 m (payloadBits m ps) (payloadLabels 2 m ps)
-  unfolding payloadBits payloadLabels recordLength labelBase bits groups
+  two-parts : length ps ≡ payloadLength 2 m → Parts 2 m (payloadBits m ps) (payloadLabels 2 m ps)
+  unfolding payloadBits payloadLabels payloadLength labelBase bits groups
   two-parts q =
       let u = length-unpack 2 8 (length ps) ps in
       let gs = drop (bytesFor (2 * m) 8) ps in
@@ -168,9 +168,9 @@ module _ (m : ℕ) (ps : List ℕ) where
         labels-fit = below-take 3 m (groups gs) (unpack-below 3 5 (omega arith) (length gs) gs);
       }
 
-  one-again : 6 + length ps ≡ recordLength 1 m → allBelow 256 ps ≡ true → payloadClean 1 m ps ≡ true
+  one-again : length ps ≡ payloadLength 1 m → allBelow 256 ps ≡ true → payloadClean 1 m ps ≡ true
       → payload 1 m (payloadBits m ps) (payloadLabels 1 m ps) ≡ ps
-  unfolding payload payloadBits payloadLabels payloadClean recordLength bits
+  unfolding payload payloadBits payloadLabels payloadClean payloadLength bits
   one-again q e z =
       let t : 2 * m + m ≡ 3 * m = omega arith in
       rw (← take-add (2 * m) m (bits ps), t) (pack-front 2 8 (omega arith) (bytesFor (3 * m) 8) (3 * m) ps e (omega arith) z)
@@ -182,13 +182,13 @@ module _ (m : ℕ) (ps : List ℕ) where
   abbrev back : List ℕ
   back = drop (bytesFor (2 * m) 8) ps
 
-  module _ (q : 6 + length ps ≡ recordLength 2 m) where
+  module _ (q : length ps ≡ payloadLength 2 m) where
     front-count : length front ≡ bytesFor (2 * m) 8
-    unfolding recordLength
+    unfolding payloadLength
     front-count = length-take-le (bytesFor (2 * m) 8) ps (omega arith)
 
     back-count : length back ≡ bytesFor m 5
-    unfolding recordLength
+    unfolding payloadLength
     back-count = length-drop (bytesFor (2 * m) 8) ps ∙ omega arith
 
     -- the tree bits stand in the front
@@ -215,13 +215,13 @@ module _ (m : ℕ) (ps : List ℕ) where
         ) (take-append-drop (bytesFor (2 * m) 8) ps)
 
 module _ (k m : ℕ) (ps : List ℕ) (kind : hasLabels k ≡ true) where
-  pub unpayload-parts : 6 + length ps ≡ recordLength k m → Parts k m (payloadBits m ps) (payloadLabels k m ps)
+  pub unpayload-parts : length ps ≡ payloadLength k m → Parts k m (payloadBits m ps) (payloadLabels k m ps)
   unpayload-parts =
-      labelled-cases (λ (x : ℕ). 6 + length ps ≡ recordLength x m → Parts x m (payloadBits m ps) (payloadLabels x m ps))
+      labelled-cases (λ (x : ℕ). length ps ≡ payloadLength x m → Parts x m (payloadBits m ps) (payloadLabels x m ps))
       (one-parts m ps) (two-parts m ps) k kind
 
-  pub payload-unpayload : 6 + length ps ≡ recordLength k m → allBelow 256 ps ≡ true → payloadClean k m ps ≡ true
+  pub payload-unpayload : length ps ≡ payloadLength k m → allBelow 256 ps ≡ true → payloadClean k m ps ≡ true
       → payload k m (payloadBits m ps) (payloadLabels k m ps) ≡ ps
   payload-unpayload =
-      labelled-cases (λ (x : ℕ). 6 + length ps ≡ recordLength x m → allBelow 256 ps ≡ true → payloadClean x m ps ≡ true
+      labelled-cases (λ (x : ℕ). length ps ≡ payloadLength x m → allBelow 256 ps ≡ true → payloadClean x m ps ≡ true
       → payload x m (payloadBits m ps) (payloadLabels x m ps) ≡ ps) (one-again m ps) (two-again m ps) k kind

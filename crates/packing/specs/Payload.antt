@@ -1,7 +1,9 @@
 -- A payload taken apart into its tree bits and labels: the inverse of `payload`.
 --
---   hasLabels k           records of kind k hold tree bits and labels
---   Sized k m ps          ps is as long as the payload of a record of kind k with m edges
+--   hasLabels f           records of family f hold tree bits and labels
+--   Sized f m ps          ps is as long as the payload of a record of family f with m edges
+--   extraBytes k x        the number x of the outside, in a kind that stores it; no bytes in another
+--   Behind k m rest       rest is as long as what follows m in a record of kind k with m edges
 --   blankFrom l ds        every digit from place l on is 0
 --   payloadBits m ps      the tree bits in the payload ps
 --   payloadLabels k m ps  the labels in the payload ps
@@ -9,22 +11,31 @@
 use Prim.Native.Nat.{ℕ, _+_, _*_, _≤_}
 use mathlib.Core.Path.{_≡_}
 use mathlib.Core.Bool.{Bool, true, _&&_, _||_, cond}
-use mathlib.Core.List.{List}
+use mathlib.Core.List.{List, []}
 use lib.Dec.{eqb}
 use lib.ListN.{length, take, drop}
 use Rattle.model.specs.Numbers.{allBelow}
-use Rattle.model.specs.Map.{isKind}
-use Rattle.model.specs.Record.{bytesFor, recordLength}
+use Rattle.model.specs.Map.{isFamily, storesOutside, isKind}
+use Rattle.model.specs.Record.{bytesFor, le16, payloadLength, recordLength}
 use Rattle.packing.specs.Unpack.{bits, groups}
 
 unfoldable pub hasLabels : ℕ → Bool
-hasLabels k = eqb k 1 || eqb k 2
+hasLabels f = eqb f 1 || eqb f 2
 
-pub record Sized (k m : ℕ) (ps : List ℕ) : Type 0 where
+pub record Sized (f m : ℕ) (ps : List ℕ) : Type 0 where
+  pub is-family : isFamily f ≡ true
+  pub some-edge : 1 ≤ m
+  pub few-edges : m ≤ 4096
+  pub long : length ps ≡ payloadLength f m
+
+unfoldable pub extraBytes : ℕ → ℕ → List ℕ
+extraBytes k x = cond (storesOutside k) (le16 x) []
+
+pub record Behind (k m : ℕ) (rest : List ℕ) : Type 0 where
   pub kind : isKind k ≡ true
   pub some-edge : 1 ≤ m
   pub few-edges : m ≤ 4096
-  pub long : 6 + length ps ≡ recordLength k m
+  pub long : 6 + length rest ≡ recordLength k m
 
 abbrev pub blankFrom : ℕ → List ℕ → Bool
 blankFrom l ds = allBelow 1 (drop l ds)

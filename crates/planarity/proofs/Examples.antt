@@ -13,7 +13,7 @@ use Rattle.words.specs.Toured.{letterOf}
 use Rattle.words.specs.Entered.{downs, enteredAt}
 
 abbrev pub example : Plan
-example = record { rotation = 9 ∷ 2 ∷ 11 ∷ 4 ∷ 6 ∷ 0 ∷ 3 ∷ 8 ∷ 10 ∷ 5 ∷ 7 ∷ 1 ∷ []; root = 0 }
+example = record { rotation = 9 ∷ 2 ∷ 11 ∷ 4 ∷ 6 ∷ 0 ∷ 3 ∷ 8 ∷ 10 ∷ 5 ∷ 7 ∷ 1 ∷ []; root = 0; outside = 0 }
 
 -- its word is down down first down first first up up second up second second
 pub example-entries : map (enteredAt example) (0 ∷ 1 ∷ 2 ∷ 3 ∷ 4 ∷ 5 ∷ 6 ∷ 7 ∷ 8 ∷ 9 ∷ 10 ∷ 11 ∷ [])

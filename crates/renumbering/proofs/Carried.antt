@@ -3,7 +3,7 @@
 --   iso-loop, iso-dead-end   an isomorphism makes no loop, and no dead end if it sends root to root
 --   iso-connected         a map that a connected map is carried to is connected
 --   iso-characteristic, iso-planar   it has the same characteristic, so it is planar if the other is
---   carries-fit           a plan that a fit plan is renumbered to is fit
+--   carries-fit           a plan that a fit plan is renumbered to is fit, if its outside is a dart where it is stored
 use Prim.Native.Nat.{ℕ, _/_, _%_, _<_}
 use native.Mathlib.Omega.{arith}
 use mathlib.Core.Path.{_≡_, refl, sym, ap, ap₂, subst, _∙_}
@@ -14,7 +14,7 @@ use lib.IntN.{ℤ, pos, _+ℤ_, _-ℤ_}
 use lib.ListN.{length, getD}
 use Rattle.model.specs.Numbers.{some, cycles, isPermutation}
 use Rattle.model.specs.Map.{Plan, darts, opposite, next, vertexOf, faceNext, edges, vertices, faces, degreeOne}
-use Rattle.model.specs.Map.{connected, characteristic, planar, hasLoop, hasDeadEnd, degreeRefused, fit}
+use Rattle.model.specs.Map.{connected, characteristic, planar, hasLoop, hasDeadEnd, family, outsideRefused, degreeRefused, fit}
 use Rattle.model.specs.Renumbering.{Renumbering}
 use Rattle.model.proofs.Booleans.{some-no, no-some}
 use Rattle.model.proofs.Fitness.{count-even, fit-parts, parts-fit, loopless, no-loop-refused}
@@ -27,7 +27,7 @@ use Rattle.traversal.proofs.Reach.{connected-from, reached-connected}
 use Rattle.renumbering.specs.Isomorphism.{Isomorphism, inverseOf}
 use Rattle.renumbering.proofs.Permutations.{of-list}
 use Rattle.renumbering.proofs.Isomorphisms.{eqb-both, image-bound, image-inj, back-left, back-right, back-bound}
-use Rattle.renumbering.proofs.Isomorphisms.{iso-permutation, iso-face, iso-vertex}
+use Rattle.renumbering.proofs.Isomorphisms.{iso-permutation, iso-step, iso-vertex}
 use Rattle.renumbering.proofs.Renumberings.{iso-of, carries-darts, carries-root, carries-permutation}
 
 module _ {rot rot′ f : List ℕ} (two : length rot % 2 ≡ 0) (perm : isPermutation rot ≡ true) (iso : Isomorphism rot rot′ f) where
@@ -57,10 +57,10 @@ module _ {rot rot′ f : List ℕ} (two : length rot % 2 ≡ 0) (perm : isPermut
       ∙ eqb-both (next rot d) d (getD f (next rot d) 0) (getD f d 0) (ap (of-list f))
       (image-inj iso (next rot d) d (next-perm rot perm .bound d h) h)
 
-  pub iso-dead-end : (r r′ : ℕ) → r < length rot → getD f r 0 ≡ r′
-      → hasDeadEnd (record { rotation = rot; root = r }) ≡ false → hasDeadEnd (record { rotation = rot′; root = r′ }) ≡ false
+  pub iso-dead-end : (r r′ o o′ : ℕ) → r < length rot → getD f r 0 ≡ r′
+      → hasDeadEnd (record { rotation = rot; root = r; outside = o }) ≡ false → hasDeadEnd (record { rotation = rot′; root = r′; outside = o′ }) ≡ false
   unfolding hasDeadEnd
-  iso-dead-end r r′ k e =
+  iso-dead-end r r′ o o′ k e =
       iso-some
       (λ d. degreeOne rot d && not (eqb (vertexOf rot d) (vertexOf rot r))) (λ d. degreeOne rot′ d && not (eqb (vertexOf rot′ d) (vertexOf rot′ r′)))
       (λ d h.
@@ -94,32 +94,33 @@ module _ {rot rot′ f : List ℕ} (two : length rot % 2 ≡ 0) (perm : isPermut
       let perm′ = iso-permutation two perm iso in
       let two′ : length rot′ % 2 ≡ 0 = subst (λ (n : ℕ). n % 2 ≡ 0) (iso .same-darts) two in
       let v = cycles-carried (next rot) (next rot′) (next-perm rot perm) (next-perm rot′ perm′) (iso .rotations) in
-      let g = cycles-carried (faceNext rot) (faceNext rot′) (face-perm rot perm two) (face-perm rot′ perm′ two′) (iso-face two iso) in
+      let g = cycles-carried (faceNext rot) (faceNext rot′) (face-perm rot perm two) (face-perm rot′ perm′ two′) (iso-step two iso) in
       ap₂ (λ (x y : ℤ). x +ℤ y) (ap₂ (λ (x y : ℕ). pos x -ℤ pos y) v (ap (λ (n : ℕ). n / 2) (sym (iso .same-darts)))) (ap pos g)
 
   pub iso-planar : planar rot ≡ true → planar rot′ ≡ true
   unfolding planar
   iso-planar e = rw iso-characteristic e
 
-degree-carried : (k : ℕ) (p q : Plan) → (hasDeadEnd p ≡ false → hasDeadEnd q ≡ false) → degreeRefused k p ≡ false → degreeRefused k q ≡ false
+degree-carried : (f : ℕ) (p q : Plan) → (hasDeadEnd p ≡ false → hasDeadEnd q ≡ false) → degreeRefused f p ≡ false → degreeRefused f q ≡ false
 unfolding degreeRefused
-degree-carried k p q on = go (eqb k 1)
+degree-carried f p q on = go (eqb f 1)
   where
     go : (b : Bool) → (b && hasDeadEnd p) ≡ false → (b && hasDeadEnd q) ≡ false
     go true e = on e
     go false e = refl
 
-pub carries-fit : (k : ℕ) (p q : Plan) (f : List ℕ) → Renumbering p q f → fit k p ≡ true → fit k q ≡ true
-carries-fit k p q f r e =
+pub carries-fit : (k : ℕ) (p q : Plan) (f : List ℕ) → Renumbering p q f → fit k p ≡ true → outsideRefused k q ≡ false → fit k q ≡ true
+carries-fit k p q f r e out =
     let a = fit-parts k p e in
     let two = count-even (darts p) (a .count) in
     parts-fit k q (record {
       kind = a .kind;
       count = carries-darts p (a .count) (a .root) (a .entries) q f r;
       root = carries-root p (a .count) (a .root) (a .entries) q f r;
+      outside = out;
       entries = carries-permutation p (a .count) (a .root) (a .entries) q f r;
       joined = iso-connected two (a .entries) (iso-of r) (omega (arith, a .root)) (a .joined);
       flat = iso-planar two (a .entries) (iso-of r) (a .flat);
-      loops = no-loop-refused k (q .rotation) (λ e. iso-loop two (a .entries) (iso-of r) (loopless k (p .rotation) (a .loops) e));
-      degrees = degree-carried k p q (iso-dead-end two (a .entries) (iso-of r) (p .root) (q .root) (a .root) (r .root-to-root)) (a .degrees);
+      loops = no-loop-refused (family k) (q .rotation) (λ e. iso-loop two (a .entries) (iso-of r) (loopless (family k) (p .rotation) (a .loops) e));
+      degrees = degree-carried (family k) p q (iso-dead-end two (a .entries) (iso-of r) (p .root) (q .root) (p .outside) (q .outside) (a .root) (r .root-to-root)) (a .degrees);
     })

@@ -6,8 +6,8 @@
 --   iso-inverse           the inverse of an isomorphism is one
 --   then, iso-composed    two isomorphisms one after the other are one
 --   iso-permutation       the other rotation is a permutation too
---   iso-face              the partner of a face's next dart is the next dart of the partner's face
---   iso-vertex            two darts are of one vertex exactly when their partners are
+--   iso-step              the partner of a face's next dart is the next dart of the partner's face
+--   iso-vertex, iso-face  two darts are of one vertex exactly when their partners are; and of one face
 use Prim.Native.Nat.{ℕ, _%_, _<_}
 use native.Mathlib.Omega.{arith}
 use mathlib.Core.Path.{_≡_, sym, ap, subst, _∙_}
@@ -18,13 +18,13 @@ use lib.Dec.{eqb}
 use lib.ListN.{length, getD}
 use borrow.Author.Tests.{eq-eqb, ne-eqb}
 use Rattle.model.specs.Numbers.{isPermutation, least}
-use Rattle.model.specs.Map.{opposite, next, vertexOf, faceNext}
+use Rattle.model.specs.Map.{opposite, next, vertexOf, faceNext, faceOf}
 use Rattle.model.proofs.Opposite.{opposite-bound}
 use Rattle.orbits.specs.Permutation.{Perm}
 use Rattle.orbits.proofs.Order.{eq-split}
 use Rattle.orbits.proofs.Cycle.{least-step, least-keeps}
 use Rattle.orbits.proofs.Table.{length-tabulate}
-use Rattle.orbits.proofs.Maps.{list-perm, perm-list, next-perm}
+use Rattle.orbits.proofs.Maps.{list-perm, perm-list, next-perm, face-perm}
 use Rattle.renumbering.specs.Isomorphism.{Isomorphism, inverseOf, composed}
 use Rattle.renumbering.proofs.Permutations.{of-list}
 use Rattle.renumbering.proofs.Permutations.{length-inverse, inverse-bound, inverse-left, inverse-right, inverse-perm, composed-at, composed-perm}
@@ -122,39 +122,57 @@ module _ {rot rot′ rot″ f g : List ℕ} (two : length rot % 2 ≡ 0) (perm :
 
 -- ---- faces and vertices
 
-pub iso-face : {rot rot′ f : List ℕ} → length rot % 2 ≡ 0 → Isomorphism rot rot′ f
+pub iso-step : {rot rot′ f : List ℕ} → length rot % 2 ≡ 0 → Isomorphism rot rot′ f
     → (d : ℕ) → d < length rot → getD f (faceNext rot d) 0 ≡ faceNext rot′ (getD f d 0)
 unfolding faceNext
-iso-face {rot} {rot′} {f} two iso d h =
+iso-step {rot} {rot′} {f} two iso d h =
     iso .rotations (opposite d) (opposite-bound (length rot) d two h) ∙ ap (next rot′) (iso .opposites d h)
 
--- darts of one vertex have partners of one vertex
-vertex-on : {rot rot′ f : List ℕ} → isPermutation rot ≡ true → isPermutation rot′ ≡ true → Isomorphism rot rot′ f
-    → (d e : ℕ) → d < length rot → e < length rot → vertexOf rot d ≡ vertexOf rot e → vertexOf rot′ (getD f d 0) ≡ vertexOf rot′ (getD f e 0)
-unfolding vertexOf
-vertex-on {rot} {rot′} {f} perm perm′ iso d e hd he same = sym (label d hd) ∙ ap at same ∙ label e he
+-- a permutation s that is carried to s′: darts of one cycle have partners of one cycle
+cycle-on : {rot rot′ f : List ℕ} (s s′ : ℕ → ℕ) → Perm (length rot) s → Perm (length rot′) s′ → Isomorphism rot rot′ f
+    → ((d : ℕ) → d < length rot → getD f (s d) 0 ≡ s′ (getD f d 0))
+    → (d e : ℕ) → d < length rot → e < length rot → least s (length rot) d ≡ least s (length rot) e
+    → least s′ (length rot′) (getD f d 0) ≡ least s′ (length rot′) (getD f e 0)
+cycle-on {rot} {rot′} {f} s s′ perm perm′ iso step d e hd he same = sym (label d hd) ∙ ap at same ∙ label e he
   where
     at : ℕ → ℕ
-    at z = least (next rot′) (length rot′) (getD f z 0)
+    at z = least s′ (length rot′) (getD f z 0)
 
-    label : (z : ℕ) → z < length rot → at (least (next rot) (length rot) z) ≡ at z
-    label = least-keeps (length rot) (next rot) (next-perm rot perm) at (λ z h.
+    label : (z : ℕ) → z < length rot → at (least s (length rot) z) ≡ at z
+    label = least-keeps (length rot) s perm at (λ z h.
         let b = image-bound iso z h in
-        ap (least (next rot′) (length rot′)) (iso .rotations z h)
-        ∙ least-step (length rot′) (next rot′) (next-perm rot′ perm′) (getD f z 0) (omega (arith, iso .same-darts)))
+        ap (least s′ (length rot′)) (step z h) ∙ least-step (length rot′) s′ perm′ (getD f z 0) (omega (arith, iso .same-darts)))
 
 module _ {rot rot′ f : List ℕ} (two : length rot % 2 ≡ 0) (perm : isPermutation rot ≡ true) (iso : Isomorphism rot rot′ f) where
-  pub iso-vertex : (d e : ℕ) → d < length rot → e < length rot
-      → (vertexOf rot d ≡ vertexOf rot e) ↔ (vertexOf rot′ (getD f d 0) ≡ vertexOf rot′ (getD f e 0))
-  iso-vertex d e hd he = (
-    vertex-on perm perm′ iso d e hd he,
+  two′ : length rot′ % 2 ≡ 0
+  two′ = subst (λ (n : ℕ). n % 2 ≡ 0) (iso .same-darts) two
+
+  perm′ : isPermutation rot′ ≡ true
+  perm′ = iso-permutation two perm iso
+
+  -- both ways, where the inverse carries s′ back to s
+  iso-cycle : (s s′ : ℕ → ℕ) → Perm (length rot) s → Perm (length rot′) s′
+      → ((d : ℕ) → d < length rot → getD f (s d) 0 ≡ s′ (getD f d 0))
+      → ((d : ℕ) → d < length rot′ → getD (inverseOf f) (s′ d) 0 ≡ s (getD (inverseOf f) d 0))
+      → (d e : ℕ) → d < length rot → e < length rot
+      → (least s (length rot) d ≡ least s (length rot) e) ↔ (least s′ (length rot′) (getD f d 0) ≡ least s′ (length rot′) (getD f e 0))
+  iso-cycle s s′ ps ps′ step back d e hd he = (
+    cycle-on s s′ ps ps′ iso step d e hd he,
     λ same.
         let bd = image-bound iso d hd in
         let be = image-bound iso e he in
-        let on = vertex-on perm′ perm (iso-inverse two perm iso) (getD f d 0) (getD f e 0)
+        let on = cycle-on s′ s ps′ ps (iso-inverse two perm iso) back (getD f d 0) (getD f e 0)
         (omega (arith, iso .same-darts)) (omega (arith, iso .same-darts)) same in
-        ap (vertexOf rot) (sym (back-left two perm iso d hd)) ∙ on ∙ ap (vertexOf rot) (back-left two perm iso e he),
+        ap (least s (length rot)) (sym (back-left two perm iso d hd)) ∙ on ∙ ap (least s (length rot)) (back-left two perm iso e he),
   )
-    where
-      perm′ : isPermutation rot′ ≡ true
-      perm′ = iso-permutation two perm iso
+
+  pub iso-vertex : (d e : ℕ) → d < length rot → e < length rot
+      → (vertexOf rot d ≡ vertexOf rot e) ↔ (vertexOf rot′ (getD f d 0) ≡ vertexOf rot′ (getD f e 0))
+  unfolding vertexOf
+  iso-vertex = iso-cycle (next rot) (next rot′) (next-perm rot perm) (next-perm rot′ perm′) (iso .rotations) (iso-inverse two perm iso .rotations)
+
+  pub iso-face : (d e : ℕ) → d < length rot → e < length rot
+      → (faceOf rot d ≡ faceOf rot e) ↔ (faceOf rot′ (getD f d 0) ≡ faceOf rot′ (getD f e 0))
+  unfolding faceOf
+  iso-face = iso-cycle (faceNext rot) (faceNext rot′) (face-perm rot perm two) (face-perm rot′ perm′ two′)
+      (iso-step two iso) (iso-step two′ (iso-inverse two perm iso))

@@ -5,3 +5,4 @@ pub mod Walk
 pub mod Connected
 mod Carried
 pub mod Standard
+pub mod Faces

@@ -11,7 +11,7 @@ use mathlib.Core.List.{List}
 use lib.ListN.{length, getD, set, replicate, length-replicate}
 use lib.Seq.{getD-set-same, getD-set-other}
 use Rattle.model.specs.Map.{Plan, darts, next, dartCountFits}
-use Rattle.model.specs.Traversal.{standardNumbers, renumbered, standardPlan}
+use Rattle.model.specs.Traversal.{standardNumbers, renumbered, standardRotation, standardPlan}
 use Rattle.model.proofs.Standard.{renumbered-length}
 pub use Rattle.model.proofs.Standard.{standard-darts}
 use Rattle.orbits.proofs.Order.{lt-suc-split}
@@ -36,7 +36,7 @@ module _ (ns rot out : List ℕ) where
 module _ (p : Plan) (t : Toured p) (fits : dartCountFits (darts p) ≡ true) where
   pub standard-entry : (d : ℕ) → d < darts p
       → next (standardPlan p .rotation) (getD (standardNumbers p) d 0) ≡ getD (standardNumbers p) (next (p .rotation) d) 0
-  unfolding standardPlan next
+  unfolding standardPlan standardRotation next
   standard-entry d h =
       renumbered-at (standardNumbers p) (p .rotation) (replicate (darts p) 0) (darts p) d h
       (subst (λ (n : ℕ). getD (standardNumbers p) d 0 < n) (sym (length-replicate (darts p) 0)) (numbers-below p t fits d h))

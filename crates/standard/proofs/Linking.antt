@@ -1,6 +1,6 @@
 -- The word determines the standard plan: the rotation that is built from it enters, at the standard numbers, what the standard plan has.
 --
---   standard-is-planOf  the plan that the word determines is the standard plan
+--   standard-rotation   the rotation that the word builds is the standard plan's
 use Prim.Native.Nat.{ℕ, _+_, _*_, _<_}
 use native.Mathlib.Omega.{arith}
 use mathlib.Core.Path.{_≡_, refl, sym, ap, subst, _∙_}
@@ -13,7 +13,7 @@ use Rattle.model.specs.Traversal.{Letter, down, up, first, second, opens, word,
 use Rattle.orbits.specs.Chord as chord
 use Rattle.orbits.specs.Stack.{matched}
 use Rattle.orbits.proofs.Chord.{next-bound}
-use Rattle.words.specs.Word.{head, rotationOf, planOf}
+use Rattle.words.specs.Word.{head, rotationOf}
 use Rattle.words.specs.Toured.{dartAt, letterOf, posOf, isTree, isChord, matching, Toured, Bracketed}
 use Rattle.words.specs.Brackets.{letter, treeWord}
 use Rattle.words.specs.Position.{dartBy, dartNo, Balance}
@@ -68,14 +68,10 @@ module _ (p : Plan) (t : Toured p) (b : Bracketed p) (fits : dartCountFits (dart
       ∙ turned k hk ∙ dart-number (chord.next (darts p) k) (next-bound (darts p) k hk)
       ∙ ap number-of (dart-next p t k hk ∙ onward-matching p t fits k hk ∙ ap (next (p .rotation)) here)
 
-  same-rotation : standardPlan p .rotation ≡ rotationOf (word p)
+  pub standard-rotation : standardPlan p .rotation ≡ rotationOf (word p)
   unfolding next
-  same-rotation =
+  standard-rotation =
       let same = standard-darts p ∙ sym (rotation-length (word p) ∙ word-length p t) in
       ext-getD 0 (standardPlan p .rotation) (rotationOf (word p)) same (λ y h.
       let (d, hd, e) = numbers-onto p t fits y (omega (arith, standard-darts p)) in
       subst (λ (x : ℕ). getD (standardPlan p .rotation) x 0 ≡ getD (rotationOf (word p)) x 0) e (standard-entry p t fits d hd ∙ sym (entry d hd)))
-
-  pub standard-is-planOf : standardPlan p ≡ planOf (word p)
-  unfolding standardPlan planOf
-  standard-is-planOf = ap (λ (r : List ℕ). record { rotation = r; root = 0 }) same-rotation

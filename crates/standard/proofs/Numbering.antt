@@ -2,8 +2,9 @@
 -- twice the number of edges opened before it, and one more.
 --
 --   opening p i            the letter at i opens an edge
---   rank p i               how many edges are opened before i
+--   rank p i               how many edges are opened before i; rank-opens, rank-stays, past one letter
 --   opened-number, ended-number    the number of the dart at a position, by whether it opens its edge or ends it
+--   other-number           the number of the opposite of a dart that opens its edge
 --   numbers-opposite       opposite darts have opposite numbers
 --   numbers-root           the root has number 0
 --   numbers-below, numbers-inj, numbers-permutation    the numbers are those below the dart count, each once
@@ -87,11 +88,11 @@ opening p i = opens (letterOf p i)
 abbrev pub rank : Plan → ℕ → ℕ
 rank p i = opened (letterOf p) i
 
-rank-opens : (p : Plan) (i : ℕ) → opening p i ≡ true → rank p (suc i) ≡ suc (rank p i)
+pub rank-opens : (p : Plan) (i : ℕ) → opening p i ≡ true → rank p (suc i) ≡ suc (rank p i)
 unfolding opened count
 rank-opens p i e = ap (λ (b : Bool). tick b (count (opening p) i)) e
 
-rank-stays : (p : Plan) (i : ℕ) → opening p i ≡ false → rank p (suc i) ≡ rank p i
+pub rank-stays : (p : Plan) (i : ℕ) → opening p i ≡ false → rank p (suc i) ≡ rank p i
 unfolding opened count
 rank-stays p i e = ap (λ (b : Bool). tick b (count (opening p) i)) e
 
@@ -165,7 +166,7 @@ module _ (p : Plan) (t : Toured p) (fits : dartCountFits (darts p) ≡ true) whe
       let b = t .dart-bound i h in
       e (dartAt p i) refl ∙ entered-first (dartAt p i) (rank p i) ms (omega arith)
 
-  other-number : (i : ℕ) → i < darts p → opening p i ≡ true → number-of (opposite (dartAt p i)) ≡ 2 * rank p i + 1
+  pub other-number : (i : ℕ) → i < darts p → opening p i ≡ true → number-of (opposite (dartAt p i)) ≡ 2 * rank p i + 1
   other-number i h o =
       let (ms, l, e) = given i h o in
       let b = opposite-at p t fits i h in

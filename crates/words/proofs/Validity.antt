@@ -1,8 +1,8 @@
--- The parts of `valid k w`.
+-- The parts of `valid f w`.
 --
---   valid-kind, valid-fits, valid-nested   k is a kind, w has a dart count's length, w is nested from the start
---   valid-strict       without loops, if the kind takes none
---   valid-plain        in kind 1 no vertex but the root has degree one
+--   valid-family, valid-fits, valid-nested   f is a family, w has a dart count's length, w is nested from the start
+--   valid-strict       without loops, if the family takes none
+--   valid-plain        in family 1 no vertex but the root has degree one
 --   valid-of           these make w valid
 use Prim.Native.Nat.{ℕ}
 use mathlib.Core.Path.{_≡_, refl}
@@ -10,7 +10,7 @@ use mathlib.Core.Bool.{Bool, true, false, not, _&&_, false≢true, true≢false,
 use mathlib.Core.List.{List, []}
 use lib.Dec.{eqb}
 use lib.ListN.{length}
-use Rattle.model.specs.Map.{isKind, takesLoops, dartCountFits}
+use Rattle.model.specs.Map.{isFamily, takesLoops, dartCountFits}
 use Rattle.model.specs.Traversal.{Letter}
 use Rattle.words.specs.Word.{nested, bareLeaf, valid}
 
@@ -24,37 +24,37 @@ both-not true true h = absurd (true≢false (h refl))
 both-not true false h = refl
 both-not false b h = refl
 
-module _ (k : ℕ) (w : List Letter) where
+module _ (f : ℕ) (w : List Letter) where
   abbrev kept : Bool
-  kept = not (eqb k 1 && bareLeaf w)
+  kept = not (eqb f 1 && bareLeaf w)
 
   abbrev Parts : Type 0
-  Parts = (isKind k ≡ true) × (dartCountFits (length w) ≡ true) × (nested (takesLoops k) 1 0 [] [] w ≡ true) × (kept ≡ true)
+  Parts = (isFamily f ≡ true) × (dartCountFits (length w) ≡ true) × (nested (takesLoops f) 1 0 [] [] w ≡ true) × (kept ≡ true)
 
-  parts : valid k w ≡ true → Parts
+  parts : valid f w ≡ true → Parts
   unfolding valid
   parts v =
-      let p = and-eq-true-iff (isKind k) (dartCountFits (length w) && (nested (takesLoops k) 1 0 [] [] w && kept)) .0 v in
-      let q = and-eq-true-iff (dartCountFits (length w)) (nested (takesLoops k) 1 0 [] [] w && kept) .0 (p .1) in
-      let r = and-eq-true-iff (nested (takesLoops k) 1 0 [] [] w) kept .0 (q .1) in
+      let p = and-eq-true-iff (isFamily f) (dartCountFits (length w) && (nested (takesLoops f) 1 0 [] [] w && kept)) .0 v in
+      let q = and-eq-true-iff (dartCountFits (length w)) (nested (takesLoops f) 1 0 [] [] w && kept) .0 (p .1) in
+      let r = and-eq-true-iff (nested (takesLoops f) 1 0 [] [] w) kept .0 (q .1) in
       (p .0, q .0, r .0, r .1)
 
-  pub valid-kind : valid k w ≡ true → isKind k ≡ true
-  valid-kind v = parts v .0
+  pub valid-family : valid f w ≡ true → isFamily f ≡ true
+  valid-family v = parts v .0
 
-  pub valid-fits : valid k w ≡ true → dartCountFits (length w) ≡ true
+  pub valid-fits : valid f w ≡ true → dartCountFits (length w) ≡ true
   valid-fits v = parts v .1
 
-  pub valid-nested : valid k w ≡ true → nested (takesLoops k) 1 0 [] [] w ≡ true
+  pub valid-nested : valid f w ≡ true → nested (takesLoops f) 1 0 [] [] w ≡ true
   valid-nested v = parts v .2
 
-  pub valid-strict : valid k w ≡ true → takesLoops k ≡ false → nested false 1 0 [] [] w ≡ true
+  pub valid-strict : valid f w ≡ true → takesLoops f ≡ false → nested false 1 0 [] [] w ≡ true
   valid-strict v e = rw e at (valid-nested v)
 
-  pub valid-plain : valid k w ≡ true → eqb k 1 ≡ true → bareLeaf w ≡ false
-  valid-plain v = not-both (eqb k 1) (bareLeaf w) (parts v .3)
+  pub valid-plain : valid f w ≡ true → eqb f 1 ≡ true → bareLeaf w ≡ false
+  valid-plain v = not-both (eqb f 1) (bareLeaf w) (parts v .3)
 
-  pub valid-of : isKind k ≡ true → dartCountFits (length w) ≡ true → nested (takesLoops k) 1 0 [] [] w ≡ true → (eqb k 1 ≡ true → bareLeaf w ≡ false)
-      → valid k w ≡ true
+  pub valid-of : isFamily f ≡ true → dartCountFits (length w) ≡ true → nested (takesLoops f) 1 0 [] [] w ≡ true → (eqb f 1 ≡ true → bareLeaf w ≡ false)
+      → valid f w ≡ true
   unfolding valid
-  valid-of i f n l = rw (i, f, n) (both-not (eqb k 1) (bareLeaf w) l)
+  valid-of i c n l = rw (i, c, n) (both-not (eqb f 1) (bareLeaf w) l)

@@ -5,7 +5,7 @@
 --                         hangs from, `opens` the vertices where edges outside the tree are open, the last opened first
 --   startsUp w            w begins with up
 --   bareLeaf w            some vertex but the root has degree one: a down stands right before an up
---   valid k w             w is the word of a plan that is fit for kind k
+--   valid f w             w is the word of a plan that is fit for the kinds of family f
 --   startsSecond w        1 if w begins with second, else 0
 --   head, tail            the first entry of a list, 0 if there is none; the others
 --   Ends, ends w          the labels of the edges that w opens, and those of the edges that it ends without opening them, tree and others
@@ -33,7 +33,7 @@ use mathlib.Core.Bool.{Bool, true, false, not, _&&_, _||_, cond}
 use mathlib.Core.List.{List, [], _∷_, _++_}
 use lib.Dec.{eqb, ltb, leb}
 use lib.ListN.{length, set, replicate}
-use Rattle.model.specs.Map.{Plan, dartCountFits, isKind, takesLoops, opposite}
+use Rattle.model.specs.Map.{Plan, dartCountFits, isFamily, takesLoops, opposite}
 use Rattle.model.specs.Traversal.{Letter, down, up, first, second}
 use Rattle.model.specs.LabelledTree.{star}
 
@@ -71,7 +71,7 @@ bareLeaf (first ∷ w) = bareLeaf w
 bareLeaf (second ∷ w) = bareLeaf w
 
 unfoldable pub valid : ℕ → List Letter → Bool
-valid k w = isKind k && (dartCountFits (length w) && (nested (takesLoops k) 1 0 [] [] w && not (eqb k 1 && bareLeaf w)))
+valid f w = isFamily f && (dartCountFits (length w) && (nested (takesLoops f) 1 0 [] [] w && not (eqb f 1 && bareLeaf w)))
 
 -- ---- labels and bits
 
@@ -143,7 +143,7 @@ unfoldable pub rotationOf : List Letter → List ℕ
 rotationOf w = link w (wordDarts 0 [] [] w) (replicate (length w) 0)
 
 unfoldable pub planOf : List Letter → Plan
-planOf w = record { rotation = rotationOf w; root = 0 }
+planOf w = record { rotation = rotationOf w; root = 0; outside = 0 }
 
 -- ---- reading
 
