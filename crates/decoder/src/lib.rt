@@ -237,16 +237,16 @@ fn run(payload: &[u8], m: usize, w: &mut [u16]) -> bool
 }
 
 // The standard plan of a payload of kind 1 or 2: whether there is one, and its rotation in the first 2m entries.
-pub fn decode(payload: &[u8], kind: u16, m: usize, w: &mut [u16]) -> bool
-    requires { ⌜ (hasLabels kind ≡ true) × Sized kind m (now payload) ⌝ }
+pub fn decode(payload: &[u8], family: u16, m: usize, w: &mut [u16]) -> bool
+    requires { ⌜ (hasLabels family ≡ true) × Sized family m (now payload) ⌝ }
     requires { ⌜ 32 * m ≤ length (now w) ⌝ }
-    ensures { λ r. ⌜ Answered (decodeLabelled kind m (now (payload .entry))) (2 * m) r (now (w .exit)) ⌝ }
+    ensures { λ r. ⌜ Answered (decodeLabelled family m (now (payload .entry))) (2 * m) r (now (w .exit)) ⌝ }
 {
-    let clean = unpacker::clean(payload, kind, m);
+    let clean = unpacker::clean(payload, family, m);
     if !clean {
         return false;
     }
-    unpacker::spread(payload, kind, m, w);
+    unpacker::spread(payload, family, m, w);
     work::fill(w, 0, 2 * m, 0);
     run(payload, m, w)
 }

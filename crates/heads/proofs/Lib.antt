@@ -1,1 +1,1 @@
-mod Head
+pub mod Head

@@ -6,28 +6,26 @@
 --   four-is, two-is      the byte of four letters, and of the last two
 --   full-more            one byte more
 --   payload-even, payload-odd   the full bytes are the payload, or the last two letters follow
---   whole-record         head and payload are the record
 use Prim.Native.Nat.{ℕ, zero, suc, _+_, _-_, _*_, _/_, _%_, _≤_, _<_}
 use native.Mathlib.Nat.{not-suc-le-zero, le-of-suc-le-suc}
 use native.Mathlib.Omega.{arith}
 use native.Mathlib.Numerals.{add-one}
 use mathlib.Core.Path.{_≡_, refl, sym, ap, _∙_}
-use mathlib.Core.List.{List, [], _∷_, _++_, map}
+use mathlib.Core.List.{List, [], _∷_, map}
 use lib.ListN.{length, getD, set, drop, length-drop, length-map}
 use lib.Seq.{getD-drop}
 use Rattle.model.specs.Traversal.{Letter, down, up, first, second, code}
-use Rattle.model.specs.Record.{digitsFrom, digits, pack, le16, bytesFor, recordLength}
+use Rattle.model.specs.Record.{digitsFrom, digits, pack, bytesFor}
 use Rattle.model.proofs.Fitness.{below-all}
 use Rattle.packing.specs.Letters.{letterDigit, lettersPayload}
 use Rattle.packing.proofs.Packed.{pack-length, pack-more}
-use Rattle.packing.proofs.Letters.{digits-small, letters-long}
+use Rattle.packing.proofs.Letters.{digits-small}
 use Rattle.work.specs.Map.{LETTERS}
 use Rattle.work.specs.Area.{placed}
 use Rattle.work.specs.Letters.{lettersIn, Coded}
 use Rattle.work.proofs.Regions.{getD-region, placed-snoc}
 use Rattle.work.proofs.Letters.{length-letters}
-use Rattle.packer.proofs.Heads.{head-payload}
-use Rattle.letter_packer.specs.Packed.{digitsAt, Packed}
+use Rattle.letter_packer.specs.Digits.{digitsAt}
 
 -- ---- codes and digits
 
@@ -169,13 +167,3 @@ module _ (at m : ℕ) (w out : List ℕ) where
         let q : m / 2 + 1 ≡ bytesFor (2 * m) 4 = omega arith in
         let e : 4 * (m / 2) ≡ 2 * m - 2 = omega arith in
         full-more (m / 2) x mid h (rw e d) p ∙ rw (payload-is, q)
-
-payload-long : (m : ℕ) (w : List ℕ) → 32 * m ≤ length w → 6 + length (lettersPayload (lettersIn (2 * m) w)) ≡ recordLength 4 m
-unfolding recordLength
-payload-long m w r = let a = letters-long (lettersIn (2 * m) w) in let b = length-letters (2 * m) w (omega arith) in omega arith
-
-pub whole-record : (m total : ℕ) (w out mid out′ : List ℕ) → total ≡ recordLength 4 m → 32 * m ≤ length w → recordLength 4 m ≤ length out
-    → mid ≡ placed 0 (le16 total ++ (le16 4 ++ le16 m)) out → out′ ≡ placed 6 (lettersPayload (lettersIn (2 * m) w)) mid → Packed m w out total out′
-whole-record m total w out mid out′ t r l p q =
-    let long = payload-long m w r in
-    record { answered = t; filled = head-payload 4 m total _ out mid out′ (t ∙ sym long) (omega arith) p q }

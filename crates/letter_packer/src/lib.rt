@@ -1,13 +1,13 @@
-// From the contour word in the work area to the bytes of a record of kind 4: two bits a letter, four letters a byte. It knows letters and places, no plans.
+// From the contour word in the work area to the payload of a record of family 4: two bits a letter, four letters a byte. It knows letters and places, no plans.
 ghost use mathlib.Core.Path.{_≡_};
 ghost use Prim.Native.Nat.{_+_, _*_, _/_, _^_, _≤_, _<_};
 ghost use lib.ListN.{length};
-ghost use Rattle.model.specs.Record.{digits, pack, bytesFor, recordLength};
+ghost use Rattle.model.specs.Record.{digits, pack, bytesFor};
 ghost use Rattle.packing.specs.Letters.{lettersPayload};
 ghost use Rattle.work.specs.Map.{LETTERS};
 ghost use Rattle.work.specs.Area.{placed};
 ghost use Rattle.work.specs.Letters.{lettersIn, Coded};
-ghost use Rattle.letter_packer.specs.Packed.{digitsAt, Packed};
+ghost use Rattle.letter_packer.specs.Digits.{digitsAt};
 
 // The byte of the four letters from position i on.
 fn four(w: &[u16], n: usize, i: usize) -> u16
@@ -41,7 +41,7 @@ fn put_full(w: &[u16], m: usize, out: &mut [u8], at: usize)
 }
 
 // The payload, from place at on.
-fn put_payload(w: &[u16], m: usize, out: &mut [u8], at: usize)
+pub fn put_payload(w: &[u16], m: usize, out: &mut [u8], at: usize)
     requires { ⌜ (m ≤ 4096) × (32 * m ≤ length (now w)) × Coded (2 * m) (now w) × (at ≤ 2 ^ 16) × (at + bytesFor m 2 ≤ length (now out)) ⌝ }
     ensures { λ _. ⌜ now (out .exit) ≡ placed at (lettersPayload (lettersIn (2 * m) (now (w .entry)))) (now (out .entry)) ⌝ }
 {
@@ -50,16 +50,4 @@ fn put_payload(w: &[u16], m: usize, out: &mut [u8], at: usize)
         return;
     }
     out[at + m / 2] = two(w, 2 * m, 2 * m - 2) as u8;
-}
-
-// The whole record.
-pub fn pack(w: &[u16], m: usize, out: &mut [u8]) -> u16
-    requires { ⌜ (1 ≤ m) × (m ≤ 4096) × (32 * m ≤ length (now w)) × Coded (2 * m) (now w) × (recordLength 4 m ≤ length (now out)) ⌝ }
-    ensures { λ r. ⌜ Packed m (now (w .entry)) (now (out .entry)) r (now (out .exit)) ⌝ }
-{
-    let edges = m as u16;
-    let length = heads::record_length(4, edges) as u16;
-    packer::put_head(out, length, 4, edges);
-    put_payload(w, m, out, 6);
-    length
 }

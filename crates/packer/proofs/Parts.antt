@@ -1,9 +1,8 @@
--- The parts of a record, one after the other.
+-- The payload of a record, by its groups.
 --
 --   one-run, bits-run, labels-run   which entries of the work area are tree bits and labels
 --   plain-placed, starred-placed   the payload, by its groups
---   plain-asked, starred-asked, plain-payload, starred-payload   what a payload asks for, and what it is, by kind
---   whole-record       head and payload are the record
+--   plain-asked, starred-asked, plain-payload, starred-payload   what a payload asks for, and what it is, by family
 use Prim.Native.Nat.{ℕ, _+_, _*_, _/_, _≤_}
 use native.Mathlib.Omega.{arith}
 use mathlib.Core.Path.{_≡_, sym, _∙_}
@@ -13,18 +12,17 @@ use mathlib.Core.List.{List, _++_}
 use lib.ListN.{length}
 use borrow.Author.Tests.{eq-eqb, ne-eqb}
 use Rattle.model.specs.Numbers.{allBelow}
-use Rattle.model.specs.Record.{pack, le16, bytesFor, labelBase, recordLength, payload}
+use Rattle.model.specs.Record.{pack, bytesFor, labelBase, payload}
 use Rattle.packing.specs.Payload.{hasLabels}
 use Rattle.packing.proofs.Packed.{pack-length}
 use Rattle.packing.proofs.Labelled.{labelled-two}
 use Rattle.packing.proofs.Payload.{payload-length}
-use Rattle.model.proofs.Heads.{kind-one, kind-two}
+use Rattle.model.proofs.Heads.{family-one, family-two}
 use Rattle.work.specs.Map.{BITS, LABELS}
 use Rattle.work.specs.Area.{placed}
 use Rattle.work.specs.Letters.{workBits, workLabels}
 use Rattle.work.proofs.Regions.{region-is, region-split, placed-next}
-use Rattle.packer.specs.Packed.{between, Packed}
-use Rattle.packer.proofs.Heads.{head-payload}
+use Rattle.packer.specs.Packed.{between}
 
 -- ---- payloads
 
@@ -63,17 +61,17 @@ module _ (m : ℕ) (w : List ℕ) where
       let l = pack-length 2 8 bytes (workBits n w) in
       q ∙ rw (p, labels-run, bits-run, ← e, ← f) (rw l at (placed-next at bits (pack 3 5 count (workLabels n w)) out (omega arith)))
 
--- ---- kinds, and the whole record
+-- ---- by family
 
 module _ (k m at room : ℕ) (bits labels : List ℕ) (has : hasLabels k ≡ true) (fits : at + length (payload k m bits labels) ≤ room)
     (small : allBelow (labelBase k) labels ≡ true) where
   pub plain-asked : k ≡ 1 → (at + bytesFor (3 * m) 8 ≤ room) × (allBelow 2 labels ≡ true)
   unfolding labelBase
-  plain-asked e = let a = payload-length k m bits labels has in let b = kind-one k m e in (omega arith, rw (eq-eqb k 1 e) at small)
+  plain-asked e = let a = payload-length k m bits labels has in let b = family-one k m e in (omega arith, rw (eq-eqb k 1 e) at small)
 
   pub starred-asked : k ≢ 1 → (at + bytesFor (2 * m) 8 + bytesFor m 5 ≤ room) × (allBelow 3 labels ≡ true)
   unfolding labelBase
-  starred-asked d = let a = payload-length k m bits labels has in let b = kind-two k m (labelled-two k has d) in (omega arith, rw (ne-eqb k 1 d) at small)
+  starred-asked d = let a = payload-length k m bits labels has in let b = family-two k m (labelled-two k has d) in (omega arith, rw (ne-eqb k 1 d) at small)
 
 module _ (k m at : ℕ) (bits labels out out′ : List ℕ) where
   pub plain-payload : k ≡ 1 → out′ ≡ placed at (payload 1 m bits labels) out → out′ ≡ placed at (payload k m bits labels) out
@@ -82,10 +80,3 @@ module _ (k m at : ℕ) (bits labels out out′ : List ℕ) where
   pub starred-payload : k ≢ 1 → out′ ≡ placed at (payload 2 m bits labels) out → out′ ≡ placed at (payload k m bits labels) out
   unfolding payload
   starred-payload d p = rw (ne-eqb k 1 d) p
-
-pub whole-record : (k m total : ℕ) (w out mid out′ : List ℕ) → hasLabels k ≡ true → total ≡ recordLength k m → recordLength k m ≤ length out
-    → mid ≡ placed 0 (le16 total ++ (le16 k ++ le16 m)) out → out′ ≡ placed 6 (payload k m (workBits (2 * m) w) (workLabels (2 * m) w)) mid
-    → Packed k m w out total out′
-whole-record k m total w out mid out′ has t l p q =
-    let long = payload-length k m (workBits (2 * m) w) (workLabels (2 * m) w) has in
-    record { answered = t; filled = head-payload k m total _ out mid out′ (t ∙ sym long) (omega arith) p q }

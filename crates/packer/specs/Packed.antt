@@ -1,18 +1,18 @@
--- The record that is packed from the tree bits and labels in the work area.
+-- What is packed into a record.
 --
 --   between a e w        the entries of w from place a to place e
---   Packed               the record in the output, and its length
-use Prim.Native.Nat.{ℕ, _*_}
+--   Headed               what stands before the payload is in the output, and where the payload begins
+use Prim.Native.Nat.{ℕ}
 use mathlib.Core.Path.{_≡_}
-use mathlib.Core.List.{List}
+use mathlib.Core.List.{List, _++_}
 use lib.Seq.{slice}
-use Rattle.model.specs.Record.{recordLength, headed, payload}
-use Rattle.model.specs.Calls.{front}
-use Rattle.work.specs.Letters.{workBits, workLabels}
+use Rattle.model.specs.Record.{le16, headLength}
+use Rattle.packing.specs.Payload.{extraBytes}
+use Rattle.work.specs.Area.{placed}
 
 unfoldable pub between : ℕ → ℕ → List ℕ → List ℕ
 between a e w = slice a e w
 
-pub record Packed (k m : ℕ) (w out : List ℕ) (answer : ℕ) (out′ : List ℕ) : Type 0 where
-  pub answered : answer ≡ recordLength k m
-  pub filled : out′ ≡ front (headed k m (payload k m (workBits (2 * m) w) (workLabels (2 * m) w))) out
+pub record Headed (total k m x : ℕ) (out : List ℕ) (at : ℕ) (out′ : List ℕ) : Type 0 where
+  pub begins : at ≡ headLength k
+  pub filled : out′ ≡ placed 0 (le16 total ++ (le16 k ++ (le16 m ++ extraBytes k x))) out

@@ -1,15 +1,15 @@
-// From the tree bits and labels in the work area to the bytes of a record. It knows digits and places, no letters.
+// The head of a record, and its payload from the tree bits and labels in the work area. It knows digits and places, no letters.
 ghost use mathlib.Core.Path.{_≡_};
 ghost use mathlib.Core.Bool.{true};
 ghost use mathlib.Core.List.{_++_};
 ghost use Prim.Native.Nat.{_+_, _*_, _^_, _≤_, _<_};
 ghost use lib.ListN.{length, getD};
 ghost use Rattle.model.specs.Numbers.{allBelow};
-ghost use Rattle.model.specs.Record.{digits, pack, le16, payload, recordLength, labelBase, bytesFor};
+ghost use Rattle.model.specs.Record.{digits, pack, le16, headLength, payload, labelBase, bytesFor};
 ghost use Rattle.packing.specs.Payload.{hasLabels};
 ghost use Rattle.work.specs.Area.{placed};
 ghost use Rattle.work.specs.Letters.{workBits, workLabels};
-ghost use Rattle.packer.specs.Packed.{between, Packed};
+ghost use Rattle.packer.specs.Packed.{between, Headed};
 
 // Digit i of those from a to e, 0 past them.
 fn digit(w: &[u16], a: usize, e: usize, i: usize) -> u16
@@ -77,8 +77,8 @@ fn groups(n: usize, width: usize) -> usize
     (n + (width - 1)) / width
 }
 
-// What stands before the payload: the record's length, its kind and m.
-pub fn put_head(out: &mut [u8], total: u16, kind: u16, m: u16)
+// The record's length, its kind and m.
+fn put_fields(out: &mut [u8], total: u16, kind: u16, m: u16)
     requires { ⌜ 6 ≤ length (now out) ⌝ }
     ensures { λ _. ⌜ now (out .exit) ≡ placed 0 (le16 total ++ (le16 kind ++ le16 m)) (now (out .entry)) ⌝ }
 {
@@ -87,7 +87,20 @@ pub fn put_head(out: &mut [u8], total: u16, kind: u16, m: u16)
     put16(out, 4, m);
 }
 
-// The payload of kind 1, from place at on: tree bits and labels are one run of bits.
+// What stands before the payload: the fields, and the outside in a kind that stores it. Where the payload begins.
+pub fn put_head(out: &mut [u8], total: u16, kind: u16, m: u16, outside: u16) -> usize
+    requires { ⌜ headLength kind ≤ length (now out) ⌝ }
+    ensures { λ r. ⌜ Headed total kind m outside (now (out .entry)) r (now (out .exit)) ⌝ }
+{
+    put_fields(out, total, kind, m);
+    if heads::stores_outside(kind) {
+        put16(out, 6, outside);
+        return 8;
+    }
+    6
+}
+
+// The payload of family 1, from place at on: tree bits and labels are one run of bits.
 fn put_plain(w: &[u16], m: usize, out: &mut [u8], at: usize)
     requires { ⌜ (m ≤ 4096) × (32 * m ≤ length (now w)) × (at ≤ 2 ^ 16) × (at + bytesFor (3 * m) 8 ≤ length (now out))
         × (allBelow 2 (workBits (2 * m) (now w)) ≡ true) × (allBelow 2 (workLabels (2 * m) (now w)) ≡ true) ⌝ }
@@ -101,7 +114,7 @@ fn put_plain(w: &[u16], m: usize, out: &mut [u8], at: usize)
     put_groups(w, bits, labels + m, 2, 8, out, at, count);
 }
 
-// The payload of kind 2, from place at on: tree bits, then labels in groups of five.
+// The payload of family 2, from place at on: tree bits, then labels in groups of five.
 fn put_starred(w: &[u16], m: usize, out: &mut [u8], at: usize)
     requires { ⌜ (m ≤ 4096) × (32 * m ≤ length (now w)) × (at ≤ 2 ^ 16) × (at + bytesFor (2 * m) 8 + bytesFor m 5 ≤ length (now out))
         × (allBelow 2 (workBits (2 * m) (now w)) ≡ true) × (allBelow 3 (workLabels (2 * m) (now w)) ≡ true) ⌝ }
@@ -117,30 +130,17 @@ fn put_starred(w: &[u16], m: usize, out: &mut [u8], at: usize)
     put_groups(w, labels, labels + m, 3, 5, out, at + bytes, count);
 }
 
-// The payload of a record of this kind, 1 or 2, from place at on.
-fn put_payload(w: &[u16], kind: u16, m: usize, out: &mut [u8], at: usize)
-    requires { ⌜ (hasLabels kind ≡ true) × (m ≤ 4096) × (32 * m ≤ length (now w)) × (at ≤ 2 ^ 16)
-        × (at + length (payload kind m (workBits (2 * m) (now w)) (workLabels (2 * m) (now w))) ≤ length (now out))
-        × (allBelow 2 (workBits (2 * m) (now w)) ≡ true) × (allBelow (labelBase kind) (workLabels (2 * m) (now w)) ≡ true) ⌝ }
-    ensures { λ _. ⌜ now (out .exit) ≡ placed at (payload kind m (workBits (2 * m) (now (w .entry))) (workLabels (2 * m) (now (w .entry))))
+// The payload of a record of this family, 1 or 2, from place at on.
+pub fn put_payload(w: &[u16], family: u16, m: usize, out: &mut [u8], at: usize)
+    requires { ⌜ (hasLabels family ≡ true) × (m ≤ 4096) × (32 * m ≤ length (now w)) × (at ≤ 2 ^ 16)
+        × (at + length (payload family m (workBits (2 * m) (now w)) (workLabels (2 * m) (now w))) ≤ length (now out))
+        × (allBelow 2 (workBits (2 * m) (now w)) ≡ true) × (allBelow (labelBase family) (workLabels (2 * m) (now w)) ≡ true) ⌝ }
+    ensures { λ _. ⌜ now (out .exit) ≡ placed at (payload family m (workBits (2 * m) (now (w .entry))) (workLabels (2 * m) (now (w .entry))))
         (now (out .entry)) ⌝ }
 {
-    if kind == 1 {
+    if family == 1 {
         put_plain(w, m, out, at);
         return;
     }
     put_starred(w, m, out, at);
-}
-
-// The whole record of kind 1 or 2, from tree bits and labels.
-pub fn pack(w: &[u16], kind: u16, m: usize, out: &mut [u8]) -> u16
-    requires { ⌜ (hasLabels kind ≡ true) × (1 ≤ m) × (m ≤ 4096) × (32 * m ≤ length (now w)) × (recordLength kind m ≤ length (now out))
-        × (allBelow 2 (workBits (2 * m) (now w)) ≡ true) × (allBelow (labelBase kind) (workLabels (2 * m) (now w)) ≡ true) ⌝ }
-    ensures { λ r. ⌜ Packed kind m (now (w .entry)) (now (out .entry)) r (now (out .exit)) ⌝ }
-{
-    let edges = m as u16;
-    let length = heads::record_length(kind, edges) as u16;
-    put_head(out, length, kind, edges);
-    put_payload(w, kind, m, out, 6);
-    length
 }

@@ -15,7 +15,7 @@ use mathlib.Core.Bool.{true}
 use mathlib.Core.List.{List}
 use lib.ListN.{length, getD, take, drop}
 use lib.Seq.{length-take-le, getD-take, getD-drop}
-use Rattle.model.specs.Record.{recordLength}
+use Rattle.model.specs.Record.{payloadLength}
 use Rattle.packing.specs.Unpack.{bits, groups}
 use Rattle.packing.specs.Payload.{hasLabels, Sized, payloadBits, payloadLabels}
 use Rattle.packing.proofs.Labelled.{labelled-cases}
@@ -52,7 +52,7 @@ pub record KindTwo (ps : List ℕ) (m : ℕ) : Type 0 where
 
 module _ (ps : List ℕ) (m : ℕ) where
   pub one : Sized 1 m ps → KindOne ps m
-  unfolding recordLength hasLabels
+  unfolding payloadLength hasLabels
   one h =
       let l = h .long in
       record {
@@ -63,7 +63,7 @@ module _ (ps : List ℕ) (m : ℕ) where
       }
 
   pub two : Sized 2 m ps → KindTwo ps m
-  unfolding recordLength
+  unfolding payloadLength
   two h = let l = h .long in record { few-edges = h .few-edges; some-edge = h .some-edge; bytes = omega arith }
 
   pub bits-room : (k : ℕ) → hasLabels k ≡ true → Sized k m ps → 2 * m ≤ 8 * length ps

@@ -60,11 +60,11 @@ fn groups_fit(bytes: &[u8], from: usize) -> bool
 }
 
 // "unused low bits are 0", "the last group filled with 0", and five labels make no more than 242.
-pub fn clean(payload: &[u8], kind: u16, m: usize) -> bool
-    requires { ⌜ (hasLabels kind ≡ true) × Sized kind m (now payload) ⌝ }
-    ensures { λ r. ⌜ r ≡ payloadClean kind m (now (payload .entry)) ⌝ }
+pub fn clean(payload: &[u8], family: u16, m: usize) -> bool
+    requires { ⌜ (hasLabels family ≡ true) × Sized family m (now payload) ⌝ }
+    ensures { λ r. ⌜ r ≡ payloadClean family m (now (payload .entry)) ⌝ }
 {
-    if kind == 1 {
+    if family == 1 {
         return zero_bits(payload, 3 * m, 8 * payload.len());
     }
     let from = (2 * m + 7) / 8;
@@ -125,12 +125,12 @@ fn spread_groups(payload: &[u8], m: usize, w: &mut [u16])
 }
 
 // The labels by number, so that whoever reads them one by one needs no division.
-pub fn spread(payload: &[u8], kind: u16, m: usize, w: &mut [u16])
-    requires { ⌜ (hasLabels kind ≡ true) × Sized kind m (now payload) ⌝ }
+pub fn spread(payload: &[u8], family: u16, m: usize, w: &mut [u16])
+    requires { ⌜ (hasLabels family ≡ true) × Sized family m (now payload) ⌝ }
     requires { ⌜ 32 * m ≤ length (now w) ⌝ }
-    ensures { λ _. ⌜ labelsAt m (now (w .exit)) ≡ payloadLabels kind m (now (payload .entry)) ⌝ }
+    ensures { λ _. ⌜ labelsAt m (now (w .exit)) ≡ payloadLabels family m (now (payload .entry)) ⌝ }
 {
-    if kind == 1 {
+    if family == 1 {
         spread_bits(payload, m, w);
         return;
     }

@@ -7,7 +7,7 @@ use Rattle.decoder.proofs.decode.Statement.{statement}
 use Rattle.decoder.proofs.decode.Tie as tie
 
 begin : (c : tie.After-fill) → let a = c .before .before .before .before .before .before .before .before .before .before .args in
-    Prepared (a .kind) (a .m) (a .payload .now) (c .fill .last .0)
+    Prepared (a .family) (a .m) (a .payload .now) (c .fill .last .0)
 begin c =
     let p = c .before .before .before .before .before .before .before .before .before .before .pre in
     let s = c .before .before .before .before .spread in

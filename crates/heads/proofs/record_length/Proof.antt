@@ -1,31 +1,20 @@
-use Rattle.model.proofs.Heads.{kind-one, kind-two, kind-other}
+use Prim.Native.Nat.{ℕ, _+_}
+use native.Mathlib.Omega.{arith}
+use mathlib.Core.Path.{ap, ap₂, _∙_}
+use Rattle.model.specs.Record.{payloadLength, recordLength}
+use Rattle.model.proofs.Heads.{headLength-range}
 use borrow.Author.Needs.{needs}
 use Rattle.heads.proofs.record_length.Statement.{statement}
 use Rattle.heads.proofs.record_length.Tie as tie
 
+add-result : tie.Need-add-result
+add-result c = let h = headLength-range (c .before .before .before .args .kind) in omega (arith, c .before .head-length .ensures, c .payload-length .ensures)
+
 returns : tie.Need-returns
-returns c = kind-one _ _ (c .if1 .taken)
-
-returns-2 : tie.Need-returns-2
-returns-2 c = kind-two _ _ (c .if2 .taken)
-
-returns-3 : tie.Need-returns-3
-returns-3 c = kind-other _ _ (c .before .if1 .left) (c .if2 .left)
+unfolding recordLength
+returns c =
+    ap₂ (λ (a b : ℕ). a + b) (c .before .head-length .ensures)
+    (c .payload-length .ensures .0 ∙ ap (λ (f : ℕ). payloadLength f (c .before .before .before .args .m)) (c .before .before .family .ensures))
 
 pub record-length-spec : {M : Type 1} → statement M
-record-length-spec =
-    tie.close
-    (tie.spec
-    (λ c. search needs)
-    (λ c. search needs)
-    (λ c. search needs)
-    returns
-    (λ c. search needs)
-    (λ c. search needs)
-    (λ c. search needs)
-    (λ c. search needs)
-    (λ c. search needs)
-    returns-2
-    (λ c. search needs)
-    (λ c. search needs)
-    returns-3)
+record-length-spec = tie.close (tie.spec (λ c κs. search needs) (λ c κs. search needs) (λ c κs. search needs) add-result returns)

@@ -2,7 +2,7 @@ use mathlib.Core.Path.{_≡_, sym}
 use Rattle.work.proofs.Regions.{placed-none}
 use Rattle.work.specs.Area.{placed}
 use Rattle.model.specs.Record.{pack}
-use Rattle.letter_packer.specs.Packed.{digitsAt}
+use Rattle.letter_packer.specs.Digits.{digitsAt}
 use lib.ListN.{length, length-set}
 use Prim.Native.Nat.{_-_, _*_, _/_, _≤_}
 use native.Mathlib.Omega.{arith}

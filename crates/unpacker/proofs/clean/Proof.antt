@@ -16,7 +16,7 @@ in-two : (c : tie.Else1) → KindTwo (c .before .before .args .payload .now) (c 
 in-two c = let h = c .before .before .pre in two _ _ (of-kind _ _ _ _ (labelled-two _ (h .0) (c .if1 .left)) (h .1))
 
 in-parts : (c : tie.Else1) → let a = c .before .before .args in
-    payloadClean (a .kind) (a .m) (a .payload .now) ≡ cleanParts (a .m) (a .payload .now)
+    payloadClean (a .family) (a .m) (a .payload .now) ≡ cleanParts (a .m) (a .payload .now)
 in-parts c = let h = c .before .before .pre in clean-two _ _ _ (h .0) (h .1) (c .if1 .left)
 
 mul-zero-bits-2 : tie.Need-mul-zero-bits-2

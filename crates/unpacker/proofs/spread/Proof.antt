@@ -5,7 +5,7 @@ use borrow.Author.Needs.{needs}
 use Rattle.unpacker.proofs.spread.Statement.{statement}
 use Rattle.unpacker.proofs.spread.Tie as tie
 
-is-two : (c : tie.Else1) → c .before .before .before .args .kind ≡ 2
+is-two : (c : tie.Else1) → c .before .before .before .args .family ≡ 2
 is-two c = labelled-two _ (c .before .before .before .pre .0 .0) (c .if1 .left)
 
 spread-bits-requires : tie.Need-spread-bits-requires
