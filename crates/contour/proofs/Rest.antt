@@ -50,7 +50,7 @@ pub record Walking (rot : List ℕ) (root : ℕ) (w₀ : List ℕ) (d i : ℕ) (
   pub room : 4 * length rot ≤ length w
   pub kept : length w ≡ length w₀
   pub names : VerticesNamed rot w
-  pub rest : codesIn (length rot) i w ++ left rot root d i w ≡ map code (word (record { rotation = rot; root = root }))
+  pub rest : codesIn (length rot) i w ++ left rot root d i w ≡ map code (word (record { rotation = rot; root = root; outside = 0 }))
 
 -- ---- the area is cleared
 
@@ -101,7 +101,7 @@ module _ {rot : List ℕ} {root : ℕ} {w w₂ : List ℕ} (s : Started rot root
   n = length rot
 
   abbrev p : Plan
-  p = record { rotation = rot; root = root }
+  p = record { rotation = rot; root = root; outside = 0 }
 
   -- ---- the start
 

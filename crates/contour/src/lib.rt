@@ -49,7 +49,7 @@ fn visit(order: &[u16], w: &mut [u16], d: usize, i: usize) -> usize
 pub fn walk(order: &[u16], root: usize, w: &mut [u16]) -> usize
     requires { ⌜ (dartCountFits (length (now order)) ≡ true) × (isPermutation (now order) ≡ true) × (root < length (now order))
         × (4 * length (now order) ≤ length (now w)) × VerticesNamed (now order) (now w) ⌝ }
-    ensures { λ r. ⌜ Walked (record { rotation = now (order .entry); root = root }) (now (w .entry)) r (now (w .exit)) ⌝ }
+    ensures { λ r. ⌜ Walked (record { rotation = now (order .entry); root = root; outside = 0 }) (now (w .entry)) r (now (w .exit)) ⌝ }
 {
     let n = order.len();
     work::fill(w, work::MET * n, n, 0);

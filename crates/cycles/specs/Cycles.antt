@@ -2,20 +2,22 @@
 --
 --   stepOf rot across    the step round a vertex, or along a face
 --   Named                each dart's cycle is named by its least dart, from place a on; the cycles are counted, and their sizes stand from place b on
+--   FacesNamed rot w     the faces' names are in the work area
 --   unnamed              no cycle's name
 --   nameBelow f n d x    the name of x's cycle if it is below d; unnamed otherwise
 --   namesBelow f n d     these names of the darts below n
 --   HalfNamed            from place a on stand the names below d, and d is the least dart of its cycle
 --   Followed             the cycle of d has its names too, and its size is told
-use Prim.Native.Nat.{ℕ, _+_, _≤_, _<_}
+use Prim.Native.Nat.{ℕ, _+_, _*_, _≤_, _<_}
 use mathlib.Core.Path.{_≡_}
 use mathlib.Core.Bool.{Bool, true, false, cond}
 use mathlib.Core.List.{List}
 use lib.Dec.{ltb}
 use lib.ListN.{length}
 use Rattle.model.specs.Numbers.{least, cycles, cycleSize, cycleSizes, isPermutation}
-use Rattle.model.specs.Map.{next, faceNext, dartCountFits}
+use Rattle.model.specs.Map.{next, faceNext, faceOf, dartCountFits}
 use Rattle.orbits.specs.Table.{tabulate}
+use Rattle.work.specs.Map.{FACES}
 use Rattle.work.specs.Area.{region, placed}
 
 abbrev pub stepOf : List ℕ → Bool → ℕ → ℕ
@@ -25,6 +27,9 @@ stepOf rot true = faceNext rot
 pub record Named (f : ℕ → ℕ) (n a b : ℕ) (w : List ℕ) (count : ℕ) (w′ : List ℕ) : Type 0 where
   pub counted : count ≡ cycles f n
   pub named : w′ ≡ placed b (cycleSizes f n) (placed a (tabulate (least f n) 0 n) w)
+
+abbrev pub FacesNamed : List ℕ → List ℕ → Type 0
+FacesNamed rot w = region (FACES * length rot) (length rot) w ≡ tabulate (faceOf rot) 0 (length rot)
 
 -- ---- half-way: the cycles with a name below d are named
 

@@ -21,7 +21,7 @@ use lib.ListN.{length}
 use lib.Dec.{eqb}
 use borrow.Author.Tests.{eq-eqb, ne-eqb}
 use Rattle.model.specs.Numbers.{isLeast, cycles, firstRefusal, isPermutation}
-use Rattle.model.specs.Map.{Plan, darts, edges, next, faceNext, vertexOf, vertices, faces, faceLengths, connected, planar, characteristic, is}
+use Rattle.model.specs.Map.{Plan, darts, edges, next, faceNext, faceOf, vertexOf, vertices, faces, faceLengths, connected, planar, characteristic, is}
 use Rattle.model.specs.Map.{hasLoop, hasDeadEnd, loopRefused, degreeRefused, dartCountFits}
 use Rattle.model.specs.Traversal.{code, word}
 use Rattle.model.specs.Calls.{lateRefusals}
@@ -31,7 +31,7 @@ use Rattle.orbits.proofs.Tally.{count-le}
 use Rattle.traversal.proofs.Complete.{connected-long, long-connected}
 use Rattle.work.specs.Map.{LETTERS, FACES, DEGREES, LENGTHS}
 use Rattle.work.specs.Area.{region}
-use Rattle.cycles.specs.Cycles.{Named}
+use Rattle.cycles.specs.Cycles.{Named, FacesNamed}
 use Rattle.cycles.proofs.Names.{named-length, named-names, named-sizes, named-beside}
 use Rattle.contour.specs.Steps.{VerticesNamed}
 use Rattle.contour.specs.Walked.{Walked}
@@ -118,6 +118,7 @@ module _ {k : ℕ} {p : Plan} {w : List ℕ} {s : Survey} {w₁ : List ℕ} (a :
       record {
         answered = rw apart;
         letters = λ z. absurd (suc-ne-zero 8 (rw apart at z));
+        names = λ z. absurd (suc-ne-zero 8 (rw apart at z));
         lengths = λ z. absurd (suc-ne-zero 8 (rw apart at z));
         kept = a .survey .kept;
       }
@@ -149,6 +150,10 @@ module _ {k : ℕ} {p : Plan} {w : List ℕ} {s : Survey} {w₁ : List ℕ} {f :
   length-kept : length w₂ ≡ length w
   length-kept = named-length (faceNext (p .rotation)) (darts p) (FACES * darts p) (LENGTHS * darts p) w₁ f w₂ behind inside (b .named) ∙ a .survey .kept
 
+  faces-named : FacesNamed (p .rotation) w₂
+  unfolding faceOf
+  faces-named = named-names (faceNext (p .rotation)) (darts p) (FACES * darts p) (LENGTHS * darts p) w₁ f w₂ behind inside (b .named)
+
   measured : region (LENGTHS * darts p) (faces (p .rotation)) w₂ ≡ faceLengths (p .rotation)
   unfolding faces faceLengths
   measured = named-sizes (faceNext (p .rotation)) (darts p) (FACES * darts p) (LENGTHS * darts p) w₁ f w₂ behind inside (b .named)
@@ -169,7 +174,7 @@ module _ {k : ℕ} {p : Plan} {w : List ℕ} {s : Survey} {w₁ : List ℕ} {f :
     pub curved : is x 2 ≡ false → Judged k p w (NotPlanar x) w₂
     unfolding verdictOf lateRefusal lateRefusals firstRefusal planar
     curved u = let u′ = rw euler at u in
-        record { answered = rw (joined, u′, euler); letters = λ z. letters-kept; lengths = λ z. measured; kept = length-kept }
+        record { answered = rw (joined, u′, euler); letters = λ z. letters-kept; names = λ z. faces-named; lengths = λ z. measured; kept = length-kept }
 
     module _ (u : is x 2 ≡ true) where
       late-local : lateRefusal k p ≡ localRefusal k p
@@ -178,7 +183,7 @@ module _ {k : ℕ} {p : Plan} {w : List ℕ} {s : Survey} {w₁ : List ℕ} {f :
 
       -- what is found of 11 and 12 makes the verdict
       found : {v : Verdict} → v ≡ verdictOf k p → Judged k p w v w₂
-      found q = record { answered = q; letters = λ z. letters-kept; lengths = λ z. measured; kept = length-kept }
+      found q = record { answered = q; letters = λ z. letters-kept; names = λ z. faces-named; lengths = λ z. measured; kept = length-kept }
 
       pub flat-refused : {r : ℕ} → r ≡ localRefusal k p → r ≢ 0 → Judged k p w (Refused r) w₂
       unfolding verdictOf

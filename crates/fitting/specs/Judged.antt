@@ -1,10 +1,10 @@
 -- What the checks of a plan in the work area find: refusals 9 to 12.
 --
---   Surveyed             how many vertices, whether some edge is a loop that the kind does not take, how many darts are met, and the letters by position
---   localRefusal k p     the first of 11 and 12 that concerns the plan; 0 if none does
---   lateRefusal k p      the first of 9, 10, 11, 12 that concerns the plan; 0 if none does
---   verdictOf k p        the same as a verdict, 10 with the characteristic; of a plan that fits, how many faces it has
---   Judged               the verdict, and in the work area the contour word of a plan that fits and the lengths of its faces
+--   Surveyed             how many vertices, whether some edge is a loop that the family does not take, how many darts are met, and the letters by position
+--   localRefusal f p     the first of 11 and 12 that concerns the plan; 0 if none does
+--   lateRefusal f p      the first of 9, 10, 11, 12 that concerns the plan; 0 if none does
+--   verdictOf f p        the same as a verdict, 10 with the characteristic; of a plan that fits, how many faces it has
+--   Judged               the verdict, and in the work area the contour word of a plan that fits, and its faces, named and measured
 use Prim.Native.Nat.{ℕ, _*_}
 use mathlib.Core.Path.{_≡_}
 use mathlib.Core.Bool.{cond}
@@ -17,30 +17,32 @@ use Rattle.model.specs.Traversal.{code, visits, word}
 use Rattle.model.specs.Calls.{lateRefusals}
 use Rattle.work.specs.Map.{LETTERS, LENGTHS}
 use Rattle.work.specs.Area.{region}
+use Rattle.cycles.specs.Cycles.{FacesNamed}
 use Rattle.fitting.specs.declared.Survey.{Survey}
 use Rattle.fitting.specs.declared.Verdict.{Verdict}
 use Rattle.fitting.specs.declared.Verdict.the-variants.{Fits, Refused, NotPlanar}
 
-pub record Surveyed (k : ℕ) (p : Plan) (w : List ℕ) (s : Survey) (w′ : List ℕ) : Type 0 where
+pub record Surveyed (f : ℕ) (p : Plan) (w : List ℕ) (s : Survey) (w′ : List ℕ) : Type 0 where
   pub counted : s .vertices ≡ vertices (p .rotation)
-  pub searched : s .looped ≡ loopRefused k (p .rotation)
+  pub searched : s .looped ≡ loopRefused f (p .rotation)
   pub all-met : s .met ≡ length (visits p)
   pub letters : region (LETTERS * darts p) (s .met) w′ ≡ map code (word p)
   pub kept : length w′ ≡ length w
 
 unfoldable pub localRefusal : ℕ → Plan → ℕ
-localRefusal k p = cond (loopRefused k (p .rotation)) 11 (cond (degreeRefused k p) 12 0)
+localRefusal f p = cond (loopRefused f (p .rotation)) 11 (cond (degreeRefused f p) 12 0)
 
 unfoldable pub lateRefusal : ℕ → Plan → ℕ
-lateRefusal k p = firstRefusal (lateRefusals k p)
+lateRefusal f p = firstRefusal (lateRefusals f p)
 
 unfoldable pub verdictOf : ℕ → Plan → Verdict
-verdictOf k p =
-    let r = lateRefusal k p in
+verdictOf f p =
+    let r = lateRefusal f p in
     cond (eqb r 0) (Fits (faces (p .rotation))) (cond (eqb r 10) (NotPlanar (characteristic (p .rotation))) (Refused r))
 
-pub record Judged (k : ℕ) (p : Plan) (w : List ℕ) (verdict : Verdict) (w′ : List ℕ) : Type 0 where
-  pub answered : verdict ≡ verdictOf k p
-  pub letters : lateRefusal k p ≡ 0 → region (LETTERS * darts p) (darts p) w′ ≡ map code (word p)
-  pub lengths : lateRefusal k p ≡ 0 → region (LENGTHS * darts p) (faces (p .rotation)) w′ ≡ faceLengths (p .rotation)
+pub record Judged (f : ℕ) (p : Plan) (w : List ℕ) (verdict : Verdict) (w′ : List ℕ) : Type 0 where
+  pub answered : verdict ≡ verdictOf f p
+  pub letters : lateRefusal f p ≡ 0 → region (LETTERS * darts p) (darts p) w′ ≡ map code (word p)
+  pub names : lateRefusal f p ≡ 0 → FacesNamed (p .rotation) w′
+  pub lengths : lateRefusal f p ≡ 0 → region (LENGTHS * darts p) (faces (p .rotation)) w′ ≡ faceLengths (p .rotation)
   pub kept : length w′ ≡ length w

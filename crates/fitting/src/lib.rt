@@ -1,5 +1,5 @@
-// Refusals 9 to 12, and of a plan that fits its contour word and the lengths of its faces. Names of vertices and faces in the work area are its own matter.
-// It knows no records.
+// Refusals 9 to 12, and of a plan that fits its contour word and its faces, named and measured. Names of vertices in the work area are its own matter. It
+// knows no records, and nothing of the outside.
 ghost use mathlib.Core.Path.{_≡_};
 ghost use mathlib.Core.Bool.{true};
 ghost use Prim.Native.Nat.{_*_, _≤_, _<_};
@@ -10,14 +10,14 @@ ghost use Rattle.model.specs.Map.{dartCountFits, hasLoop, hasDeadEnd, loopRefus
 ghost use Rattle.contour.specs.Steps.{VerticesNamed};
 ghost use Rattle.fitting.specs.Judged.{Surveyed, localRefusal, Judged};
 
-// What is found: the plan fits the kind, and has so many faces; a refusal other than 10; refusal 10 with the characteristic.
+// What is found: the plan fits the kinds of the family, and has so many faces; a refusal other than 10; refusal 10 with the characteristic.
 pub enum Verdict {
     Fits(usize),
     Refused(u16),
     NotPlanar(i32),
 }
 
-// How many vertices there are, whether some edge is a loop that the kind does not take, and how many darts the walk meets.
+// How many vertices there are, whether some edge is a loop that the family does not take, and how many darts the walk meets.
 struct Survey {
     vertices: usize,
     looped: bool,
@@ -39,12 +39,12 @@ fn has_loop(order: &[u16], names: &[u16]) -> bool
     false
 }
 
-// Some edge is a loop, and this kind takes none.
-fn loop_refused(order: &[u16], kind: u16, names: &[u16]) -> bool
+// Some edge is a loop, and this family takes none.
+fn loop_refused(order: &[u16], family: u16, names: &[u16]) -> bool
     requires { ⌜ (dartCountFits (length (now order)) ≡ true) × (length (now order) ≤ length (now names)) × VerticesNamed (now order) (now names) ⌝ }
-    ensures { λ r. ⌜ r ≡ loopRefused kind (now (order .entry)) ⌝ }
+    ensures { λ r. ⌜ r ≡ loopRefused family (now (order .entry)) ⌝ }
 {
-    if kind == 4 {
+    if family == 4 {
         return false;
     }
     has_loop(order, names)
@@ -53,7 +53,7 @@ fn loop_refused(order: &[u16], kind: u16, names: &[u16]) -> bool
 // Some dart other than the root is alone at its vertex.
 fn has_dead_end(order: &[u16], root: usize) -> bool
     requires { ⌜ (isPermutation (now order) ≡ true) × (root < length (now order)) ⌝ }
-    ensures { λ r. ⌜ r ≡ hasDeadEnd (record { rotation = now (order .entry); root = root }) ⌝ }
+    ensures { λ r. ⌜ r ≡ hasDeadEnd (record { rotation = now (order .entry); root = root; outside = 0 }) ⌝ }
 {
     let mut d = 0;
     while d < order.len() {
@@ -74,14 +74,14 @@ fn euler(v: usize, e: usize, f: usize) -> i32
 }
 
 // The vertices are named, loops are looked for by their names, and the plan is walked.
-fn surveyed(order: &[u16], root: usize, kind: u16, w: &mut [u16]) -> Survey
+fn surveyed(order: &[u16], root: usize, family: u16, w: &mut [u16]) -> Survey
     requires { ⌜ (dartCountFits (length (now order)) ≡ true) × (isPermutation (now order) ≡ true) × (root < length (now order))
         × (16 * length (now order) ≤ length (now w)) ⌝ }
-    ensures { λ r. ⌜ Surveyed kind (record { rotation = now (order .entry); root = root }) (now (w .entry)) r (now (w .exit)) ⌝ }
+    ensures { λ r. ⌜ Surveyed family (record { rotation = now (order .entry); root = root; outside = 0 }) (now (w .entry)) r (now (w .exit)) ⌝ }
 {
     let n = order.len();
     let vertices = cycles::name(order, false, w, 0, work::DEGREES * n);
-    let looped = loop_refused(order, kind, w);
+    let looped = loop_refused(order, family, w);
     let met = contour::walk(order, root, w);
     Survey {
         vertices,
@@ -91,14 +91,14 @@ fn surveyed(order: &[u16], root: usize, kind: u16, w: &mut [u16]) -> Survey
 }
 
 // The first of 11 and 12 that concerns the plan; 0 if none does.
-fn local(order: &[u16], root: usize, kind: u16, looped: bool) -> u16
-    requires { ⌜ (isPermutation (now order) ≡ true) × (root < length (now order)) × (looped ≡ loopRefused kind (now order)) ⌝ }
-    ensures { λ r. ⌜ r ≡ localRefusal kind (record { rotation = now (order .entry); root = root }) ⌝ }
+fn local(order: &[u16], root: usize, family: u16, looped: bool) -> u16
+    requires { ⌜ (isPermutation (now order) ≡ true) × (root < length (now order)) × (looped ≡ loopRefused family (now order)) ⌝ }
+    ensures { λ r. ⌜ r ≡ localRefusal family (record { rotation = now (order .entry); root = root; outside = 0 }) ⌝ }
 {
     if looped {
         return 11;
     }
-    if kind == 1 {
+    if family == 1 {
         if has_dead_end(order, root) {
             return 12;
         }
@@ -106,14 +106,14 @@ fn local(order: &[u16], root: usize, kind: u16, looped: bool) -> u16
     0
 }
 
-// Refusals 9 to 12; the word of a plan that fits stands at LETTERS, and the lengths of its faces at LENGTHS.
-pub fn judge(order: &[u16], root: usize, kind: u16, w: &mut [u16]) -> Verdict
+// Refusals 9 to 12; the word of a plan that fits stands at LETTERS, the names of its faces at FACES, and their lengths at LENGTHS.
+pub fn judge(order: &[u16], root: usize, family: u16, w: &mut [u16]) -> Verdict
     requires { ⌜ (dartCountFits (length (now order)) ≡ true) × (isPermutation (now order) ≡ true) × (root < length (now order))
         × (16 * length (now order) ≤ length (now w)) ⌝ }
-    ensures { λ r. ⌜ Judged kind (record { rotation = now (order .entry); root = root }) (now (w .entry)) r (now (w .exit)) ⌝ }
+    ensures { λ r. ⌜ Judged family (record { rotation = now (order .entry); root = root; outside = 0 }) (now (w .entry)) r (now (w .exit)) ⌝ }
 {
     let n = order.len();
-    let s = surveyed(order, root, kind, w);
+    let s = surveyed(order, root, family, w);
     let met = s.met;
     if met != n {
         return Verdict::Refused(9);
@@ -123,7 +123,7 @@ pub fn judge(order: &[u16], root: usize, kind: u16, w: &mut [u16]) -> Verdict
     if x != 2 {
         return Verdict::NotPlanar(x);
     }
-    let r = local(order, root, kind, s.looped);
+    let r = local(order, root, family, s.looped);
     if r != 0 {
         return Verdict::Refused(r);
     }

@@ -72,7 +72,7 @@ early-not-ten rot wl = first-lacks 10 (earlyRefusals rot wl) refl refl
 
 -- the root does not matter
 abbrev pub rooted : List ℕ → Plan
-rooted rot = record { rotation = rot; root = 0 }
+rooted rot = record { rotation = rot; root = 0; outside = 0 }
 
 module _ (rot : List ℕ) where
   abbrev planRefusals : List Refusal

@@ -13,7 +13,7 @@ use Rattle.fitting.proofs.judge.Tie as tie
 
 -- the plan is surveyed
 looked : (c : tie.After-surveyed) → let a = c .before .before .before .before in
-    Looked (a .args .kind) (record { rotation = a .args .order .now; root = a .args .root }) (a .args .w .now) (c .surveyed .result) (c .surveyed .last .1 .1 .1 .0)
+    Looked (a .args .family) (record { rotation = a .args .order .now; root = a .args .root; outside = 0 }) (a .args .w .now) (c .surveyed .result) (c .surveyed .last .1 .1 .1 .0)
 looked c =
     let a = c .before .before .before .before in
     record { fits = a .pre .0; entries = a .pre .1; low = a .pre .2; room = a .pre .3; survey = c .surveyed .ensures }
@@ -21,7 +21,7 @@ looked c =
 -- every dart is met, and the faces are counted
 counted : (c : tie.After-name) → let a = c .before .before .before .before .before .before .before .before .before .args in
     let s = c .before .before .before .before .before .surveyed in
-    Counted (a .kind) (record { rotation = a .order .now; root = a .root }) (a .w .now) (s .result) (s .last .1 .1 .1 .0) (c .name .result)
+    Counted (a .family) (record { rotation = a .order .now; root = a .root; outside = 0 }) (a .w .now) (s .result) (s .last .1 .1 .1 .0) (c .name .result)
     (c .name .last .1 .1 .0)
 counted c = record { looked = looked (c .before .before .before .before .before); all = c .before .before .if1 .left; named = c .name .ensures }
 

@@ -6,7 +6,7 @@ use borrow.Author.Needs.{needs}
 use Rattle.fitting.proofs.local.Statement.{statement}
 use Rattle.fitting.proofs.local.Tie as tie
 
-none : (c : tie.Else1) → loopRefused (c .before .before .args .kind) (c .before .before .args .order .now) ≡ false
+none : (c : tie.Else1) → loopRefused (c .before .before .args .family) (c .before .before .args .order .now) ≡ false
 none c = sym (c .before .before .pre .2) ∙ c .if1 .left
 
 returns : tie.Need-returns

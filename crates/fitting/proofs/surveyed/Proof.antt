@@ -8,7 +8,7 @@ use Rattle.fitting.proofs.surveyed.Tie as tie
 named : (c : tie.After-name) → VerticesNamed (c .before .before .before .before .args .order .now) (c .name .last .1 .1 .0)
 named c =
     let st = c .before .before .before .before in
-    vertices-named (record { rotation = st .args .order .now; root = st .args .root }) _ _ _ (st .pre .3) (c .name .ensures)
+    vertices-named (record { rotation = st .args .order .now; root = st .args .root; outside = 0 }) _ _ _ (st .pre .3) (c .name .ensures)
 
 loop-refused-requires : tie.Need-loop-refused-requires
 loop-refused-requires c κs = (c .before .before .before .before .before .before .before .pre .0, search needs, named (c .before .before .before))

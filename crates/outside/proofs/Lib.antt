@@ -1,0 +1,5 @@
+mod Lowest
+mod Least
+mod Search
+mod Steps
+mod Searching
