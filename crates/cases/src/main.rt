@@ -83,25 +83,41 @@ fn show(name: &[u8], kind: u16, answer: Written, out: &[u8]) {
     io::write_all(1, b"\n");
 }
 
-fn run(name: &[u8], order: &[u16], start: u16, kind: u16, work: &mut [u16], out: &mut [u8]) {
-    let answer = writing::write(order, start, kind, work, out);
+fn run(
+    name: &[u8],
+    order: &[u16],
+    start: u16,
+    outside: u16,
+    kind: u16,
+    work: &mut [u16],
+    out: &mut [u8],
+) {
+    let answer = writing::write(order, start, outside, kind, work, out);
     show(name, kind, answer, out);
 }
 
-// The plan is written, with a work area and an output of these lengths.
-fn one(name: &[u8], order: &[u16], start: u16, kind: u16, room: usize, space: usize)
-    requires { ⌜ (room ≤ 131072) × (space ≤ 2054) ⌝ }
+// The plan with this outside is written, with a work area and an output of these lengths.
+fn sheet(name: &[u8], order: &[u16], start: u16, outside: u16, kind: u16, room: usize, space: usize)
+    requires { ⌜ (room ≤ 131072) × (space ≤ 2056) ⌝ }
 {
     let mut work = [7u16; 131072];
-    let mut out = [9u8; 2054];
+    let mut out = [9u8; 2056];
     run(
         name,
         order,
         start,
+        outside,
         kind,
         &mut work[0..room],
         &mut out[0..space],
     );
+}
+
+// The plan is written in a kind without the outside, which may be any number there.
+fn one(name: &[u8], order: &[u16], start: u16, kind: u16, room: usize, space: usize)
+    requires { ⌜ (room ≤ 131072) × (space ≤ 2056) ⌝ }
+{
+    sheet(name, order, start, 65535, kind, room, space);
 }
 
 // The first n lengths.
@@ -189,23 +205,23 @@ fn turning(order: &mut [u16], even: usize, odd: usize)
 }
 
 fn small() {
-    one(b"order 1 0", &[1, 0], 0, 1, 32, 2054);
-    one(b"order 1 0", &[1, 0], 0, 2, 32, 2054);
-    one(b"order 0 1", &[0, 1], 0, 1, 32, 2054);
-    one(b"order 0 1", &[0, 1], 0, 2, 32, 2054);
-    one(b"order 0 1 2 3", &[0, 1, 2, 3], 0, 2, 64, 2054);
-    one(b"order 3 2 4 5 1 0", &[3, 2, 4, 5, 1, 0], 0, 2, 96, 2054);
+    one(b"order 1 0", &[1, 0], 0, 1, 32, 2056);
+    one(b"order 1 0", &[1, 0], 0, 2, 32, 2056);
+    one(b"order 0 1", &[0, 1], 0, 1, 32, 2056);
+    one(b"order 0 1", &[0, 1], 0, 2, 32, 2056);
+    one(b"order 0 1 2 3", &[0, 1, 2, 3], 0, 2, 64, 2056);
+    one(b"order 3 2 4 5 1 0", &[3, 2, 4, 5, 1, 0], 0, 2, 96, 2056);
 }
 
 fn refused() {
-    one(b"order 0 1", &[0, 1], 0, 0, 32, 2054);
-    one(b"order 0 1", &[0, 1], 0, 3, 32, 2054);
-    one(b"order 0 1", &[0, 1], 0, 5, 32, 2054);
-    one(b"order 0", &[0], 0, 2, 32, 2054);
-    one(b"order 0 1 2", &[0, 1, 2], 0, 2, 64, 2054);
-    one(b"order 0 1, start 2", &[0, 1], 2, 2, 32, 2054);
-    one(b"order 1 1", &[1, 1], 0, 2, 32, 2054);
-    one(b"order 0 2", &[0, 2], 0, 2, 32, 2054);
+    one(b"order 0 1", &[0, 1], 0, 0, 32, 2056);
+    one(b"order 0 1", &[0, 1], 0, 3, 32, 2056);
+    one(b"order 0 1", &[0, 1], 0, 5, 32, 2056);
+    one(b"order 0", &[0], 0, 2, 32, 2056);
+    one(b"order 0 1 2", &[0, 1, 2], 0, 2, 64, 2056);
+    one(b"order 0 1, start 2", &[0, 1], 2, 2, 32, 2056);
+    one(b"order 1 1", &[1, 1], 0, 2, 32, 2056);
+    one(b"order 0 2", &[0, 2], 0, 2, 32, 2056);
 }
 
 fn short() {
@@ -215,66 +231,162 @@ fn short() {
         0,
         1,
         63,
-        2054,
+        2056,
     );
     one(b"order 3 2 1 0, output 6", &[3, 2, 1, 0], 0, 1, 64, 6);
     one(b"order 3 2 1 0, output 7", &[3, 2, 1, 0], 0, 1, 64, 7);
     one(b"order 1 0, output 6", &[1, 0], 0, 4, 32, 6);
     one(b"order 1 0, output 7", &[1, 0], 0, 4, 32, 7);
     let none = [0u16; 2];
-    one(b"order of length 0", &none[0..0], 0, 2, 32, 2054);
+    one(b"order of length 0", &none[0..0], 0, 2, 32, 2056);
 }
 
 fn counts() {
     let mut order = [0u16; 8194];
     turning(&mut order, 0, 0);
-    one(b"8192 darts, work area 0", &order[0..8192], 0, 1, 0, 2054);
-    one(b"8194 darts, work area 0", &order, 0, 1, 0, 2054);
+    one(b"8192 darts, work area 0", &order[0..8192], 0, 1, 0, 2056);
+    one(b"8194 darts, work area 0", &order, 0, 1, 0, 2056);
     one(
         b"8192 darts, each loose",
         &order[0..8192],
         0,
         2,
         131072,
-        2054,
+        2056,
     );
 }
 
 fn large() {
     let mut order = [0u16; 8192];
     turning(&mut order, 8191, 1);
-    one(b"ring of 4096 trails", &order, 0, 1, 131072, 2054);
-    one(b"ring of 4096 trails", &order, 0, 2, 131072, 2054);
-    one(b"ring of 4096 trails", &order, 0, 4, 131072, 2054);
+    one(b"ring of 4096 trails", &order, 0, 1, 131072, 2056);
+    one(b"ring of 4096 trails", &order, 0, 2, 131072, 2056);
+    one(b"ring of 4096 trails", &order, 0, 4, 131072, 2056);
     turning(&mut order, 2, 0);
-    one(b"star of 4096 trails", &order, 0, 1, 131072, 2054);
-    one(b"star of 4096 trails", &order, 0, 2, 131072, 2054);
-    one(b"star of 4096 trails", &order, 0, 4, 131072, 2054);
+    one(b"star of 4096 trails", &order, 0, 1, 131072, 2056);
+    one(b"star of 4096 trails", &order, 0, 2, 131072, 2056);
+    one(b"star of 4096 trails", &order, 0, 4, 131072, 2056);
     turning(&mut order, 1, 1);
-    one(b"loops of 4096 trails", &order, 0, 2, 131072, 2054);
-    one(b"loops of 4096 trails", &order, 0, 4, 131072, 2054);
+    one(b"loops of 4096 trails", &order, 0, 2, 131072, 2056);
+    one(b"loops of 4096 trails", &order, 0, 4, 131072, 2056);
 }
 
 // The car-park spur, from each of its starts.
 fn spur() {
     let order = [0u16, 2, 5, 4, 3, 1];
-    one(b"order 0 2 5 4 3 1", &order, 0, 1, 96, 2054);
-    one(b"order 0 2 5 4 3 1, start 1", &order, 1, 1, 96, 2054);
-    one(b"order 0 2 5 4 3 1, start 2", &order, 2, 1, 96, 2054);
-    one(b"order 0 2 5 4 3 1, start 3", &order, 3, 1, 96, 2054);
-    one(b"order 0 2 5 4 3 1, start 4", &order, 4, 1, 96, 2054);
-    one(b"order 0 2 5 4 3 1, start 5", &order, 5, 1, 96, 2054);
+    one(b"order 0 2 5 4 3 1", &order, 0, 1, 96, 2056);
+    one(b"order 0 2 5 4 3 1, start 1", &order, 1, 1, 96, 2056);
+    one(b"order 0 2 5 4 3 1, start 2", &order, 2, 1, 96, 2056);
+    one(b"order 0 2 5 4 3 1, start 3", &order, 3, 1, 96, 2056);
+    one(b"order 0 2 5 4 3 1, start 4", &order, 4, 1, 96, 2056);
+    one(b"order 0 2 5 4 3 1, start 5", &order, 5, 1, 96, 2056);
 }
 
 // Any planar plan, with loops and dead ends.
 fn any_plan() {
-    one(b"order 1 0", &[1, 0], 0, 4, 32, 2054);
-    one(b"order 0 1", &[0, 1], 0, 4, 32, 2054);
-    one(b"order 5 2 1 4 3 0", &[5, 2, 1, 4, 3, 0], 0, 4, 96, 2054);
-    one(b"order 5 2 4 0 1 3", &[5, 2, 4, 0, 1, 3], 0, 4, 96, 2054);
-    one(b"order 0 2 5 4 3 1", &[0, 2, 5, 4, 3, 1], 0, 4, 96, 2054);
-    one(b"order 0 1 2 3", &[0, 1, 2, 3], 0, 4, 64, 2054);
-    one(b"order 3 2 4 5 1 0", &[3, 2, 4, 5, 1, 0], 0, 4, 96, 2054);
+    one(b"order 1 0", &[1, 0], 0, 4, 32, 2056);
+    one(b"order 0 1", &[0, 1], 0, 4, 32, 2056);
+    one(b"order 5 2 1 4 3 0", &[5, 2, 1, 4, 3, 0], 0, 4, 96, 2056);
+    one(b"order 5 2 4 0 1 3", &[5, 2, 4, 0, 1, 3], 0, 4, 96, 2056);
+    one(b"order 0 2 5 4 3 1", &[0, 2, 5, 4, 3, 1], 0, 4, 96, 2056);
+    one(b"order 0 1 2 3", &[0, 1, 2, 3], 0, 4, 64, 2056);
+    one(b"order 3 2 4 5 1 0", &[3, 2, 4, 5, 1, 0], 0, 4, 96, 2056);
+}
+
+// The plan with this outside is written, with all the room that a plan may need.
+fn outer(name: &[u8], order: &[u16], start: u16, outside: u16, kind: u16) {
+    sheet(name, order, start, outside, kind, 131072, 2056);
+}
+
+// The outside of the sheet.
+fn outsides() {
+    let triangle = [5u16, 2, 1, 4, 3, 0];
+    let spur = [0u16, 2, 5, 4, 3, 1];
+    let pair = [4u16, 2, 1, 0, 3, 5];
+    outer(b"order 5 2 1 4 3 0, outside 0", &triangle, 0, 0, 0x101);
+    outer(b"order 5 2 1 4 3 0, outside 1", &triangle, 0, 1, 0x101);
+    outer(
+        b"order 5 2 1 4 3 0, start 1, outside 0",
+        &triangle,
+        1,
+        0,
+        0x101,
+    );
+    outer(b"order 0 2 5 4 3 1, outside 2", &spur, 0, 2, 0x101);
+    outer(b"order 0 2 5 4 3 1, outside 3", &spur, 0, 3, 0x101);
+    outer(b"order 4 2 1 0 3 5, outside 1", &pair, 0, 1, 0x102);
+    outer(b"order 0 1, outside 1", &[0, 1], 0, 1, 0x102);
+    outer(
+        b"order 2 1 0 3, start 1, outside 0",
+        &[2, 1, 0, 3],
+        1,
+        0,
+        0x102,
+    );
+    outer(b"order 1 0, outside 0", &[1, 0], 0, 0, 0x104);
+    outer(b"order 1 0, outside 1", &[1, 0], 0, 1, 0x104);
+    outer(b"order 5 2 1 4 3 0, outside 6", &triangle, 0, 6, 1);
+}
+
+// Refusal 17, and those before and behind it.
+fn no_outside() {
+    let triangle = [5u16, 2, 1, 4, 3, 0];
+    outer(b"order 5 2 1 4 3 0, outside 6", &triangle, 0, 6, 0x101);
+    outer(
+        b"order 5 2 1 4 3 0, start 6, outside 6",
+        &triangle,
+        6,
+        6,
+        0x104,
+    );
+    outer(b"order 1 1, outside 2", &[1, 1], 0, 2, 0x104);
+    outer(b"order 1 1, outside 1", &[1, 1], 0, 1, 0x104);
+    outer(b"order 1 0, outside 0", &[1, 0], 0, 0, 0x101);
+    outer(b"order 0 1, outside 0", &[0, 1], 0, 0, 0x101);
+    outer(b"order 0 1, outside 0", &[0, 1], 0, 0, 0x103);
+    sheet(
+        b"order 1 0, outside 2, work area 0, output 0",
+        &[1, 0],
+        0,
+        2,
+        0x102,
+        0,
+        0,
+    );
+    sheet(
+        b"order 1 0, outside 1, output 8",
+        &[1, 0],
+        0,
+        1,
+        0x104,
+        32,
+        8,
+    );
+    sheet(
+        b"order 1 0, outside 1, output 9",
+        &[1, 0],
+        0,
+        1,
+        0x104,
+        32,
+        9,
+    );
+}
+
+fn large_outsides() {
+    let mut order = [0u16; 8192];
+    turning(&mut order, 8191, 1);
+    outer(b"ring of 4096 trails, outside 1", &order, 0, 1, 0x101);
+    outer(b"ring of 4096 trails, outside 1", &order, 0, 1, 0x102);
+    outer(b"ring of 4096 trails, outside 1", &order, 0, 1, 0x104);
+    turning(&mut order, 1, 1);
+    outer(
+        b"loops of 4096 trails, outside 8191",
+        &order,
+        0,
+        8191,
+        0x104,
+    );
 }
 
 // How long each area is.
@@ -313,6 +425,9 @@ fn main() {
     short();
     counts();
     large();
+    outsides();
+    no_outside();
+    large_outsides();
     areas();
     large_areas();
 }

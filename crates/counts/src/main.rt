@@ -1,5 +1,6 @@
-// Reads every payload of a record with one, two or three edges, in all kinds, and prints kind, edges, payloads and how many of them are read: that is how
-// many plans there are up to renumbering. The file stdout has what it must write.
+// Reads every payload of a record with one, two or three edges, in all kinds, and prints kind, edges, payloads and how many records are read: that is how
+// many plans there are up to renumbering. In a kind with the outside each payload is read behind every number from 0 to 2m. The file stdout has what it must
+// write.
 ghost use Prim.Native.Nat.{_≤_};
 use model::ReadBack;
 
@@ -10,7 +11,7 @@ fn plans(record: &[u8]) -> u32
     let mut work = [0u16; 96];
     let mut out = [0u16; 6];
     match reading::read(record, &mut work, &mut out) {
-        ReadBack::Edges(m) => {
+        ReadBack::Edges(m, x) => {
             return 1;
         }
         ReadBack::Refused(r) => {
@@ -35,10 +36,37 @@ fn counted(kind: u8, m: u8, size: usize, payloads: u32) -> u32
     n
 }
 
-fn line(kind: u8, m: u8, size: usize, payloads: u32)
+// The same payloads in the kind of this family that stores the outside, behind this number.
+fn counted_behind(family: u8, m: u8, outside: u8, size: usize, payloads: u32) -> u32
     requires { ⌜ (size ≤ 8) × (payloads ≤ 65536) ⌝ }
+    ensures { λ r. ⌜ r ≤ 65536 ⌝ }
 {
-    let n = counted(kind, m, size, payloads);
+    let mut n: u32 = 0;
+    let mut x: u32 = 0;
+    while x < payloads {
+        let low = (x % 256) as u8;
+        let high = (x / 256) as u8;
+        let record = [(size + 2) as u8, 0, family, 1, m, 0, outside, 0, low, high];
+        n += plans(&record[0..size + 2]);
+        x += 1;
+    }
+    n
+}
+
+// Behind every number from 0 to 2m.
+fn counted_outside(family: u8, m: u8, size: usize, payloads: u32) -> u32
+    requires { ⌜ (size ≤ 8) × (payloads ≤ 65536) × (m ≤ 3) ⌝ }
+{
+    let mut n: u32 = 0;
+    let mut x: u8 = 0;
+    while x <= 2 * m {
+        n += counted_behind(family, m, x, size, payloads);
+        x += 1;
+    }
+    n
+}
+
+fn show(kind: u16, m: u8, payloads: u32, n: u32) {
     io::print_decimal(1, kind as u64);
     io::write_all(1, b" ");
     io::print_decimal(1, m as u64);
@@ -47,6 +75,20 @@ fn line(kind: u8, m: u8, size: usize, payloads: u32)
     io::write_all(1, b" ");
     io::print_decimal(1, n as u64);
     io::write_all(1, b"\n");
+}
+
+fn line(kind: u8, m: u8, size: usize, payloads: u32)
+    requires { ⌜ (size ≤ 8) × (payloads ≤ 65536) ⌝ }
+{
+    let n = counted(kind, m, size, payloads);
+    show(kind as u16, m, payloads, n);
+}
+
+fn outside_line(family: u8, m: u8, size: usize, payloads: u32)
+    requires { ⌜ (size ≤ 8) × (payloads ≤ 65536) × (m ≤ 3) ⌝ }
+{
+    let n = counted_outside(family, m, size, payloads);
+    show(0x100 + family as u16, m, payloads, n);
 }
 
 fn main() {
@@ -59,4 +101,13 @@ fn main() {
     line(4, 1, 7, 256);
     line(4, 2, 7, 256);
     line(4, 3, 8, 65536);
+    outside_line(1, 1, 7, 256);
+    outside_line(1, 2, 7, 256);
+    outside_line(1, 3, 8, 65536);
+    outside_line(2, 1, 8, 65536);
+    outside_line(2, 2, 8, 65536);
+    outside_line(2, 3, 8, 65536);
+    outside_line(4, 1, 7, 256);
+    outside_line(4, 2, 7, 256);
+    outside_line(4, 3, 8, 65536);
 }

@@ -12,7 +12,7 @@ use Rattle.model.specs.declared.ReadBack.{ReadBack}
 use Rattle.model.specs.declared.Measured.{Measured}
 use Rattle.model.specs.declared.Shelved.{Shelved}
 use Rattle.model.specs.Map.{Plan}
-use Rattle.model.specs.Calls.{Wrote, ReadCall, Stored, numberOfWritten, lengthOfWritten, characteristicOfWritten, numberOfRead, edgesOfRead}
+use Rattle.model.specs.Calls.{Wrote, ReadCall, Stored, numberOfWritten, lengthOfWritten, characteristicOfWritten, numberOfRead, edgesOfRead, outsideOfRead}
 use Rattle.model.specs.Calls.{Measures, numberOfMeasured, countOfMeasured, characteristicOfMeasured}
 use Rattle.model.specs.Calls.{numberOfShelved, recordNumberOfShelved, usedOfShelved}
 use Rattle.model.specs.Exports.{WriteExport, ReadExport, MeasureExport, ShelveExport}
@@ -30,13 +30,14 @@ write-out k p work out a b work′ out′ w e =
     }
 
 pub read-out : (bytes work out : List ℕ) (a b : ReadBack) (work′ out′ : List ℕ) → ReadCall bytes work out a work′ out′ → a ≡ b
-    → ReadExport bytes work out (numberOfRead b) (edgesOfRead b) work′ out′
+    → ReadExport bytes work out (numberOfRead b) (edgesOfRead b) (outsideOfRead b) work′ out′
 read-out bytes work out a b work′ out′ c e =
     record {
       answer = a;
       outcome = c .outcome;
       number-is = ap numberOfRead (sym e);
       edges-are = ap edgesOfRead (sym e);
+      outside-is = ap outsideOfRead (sym e);
       cleared = c .cleared;
     }
 

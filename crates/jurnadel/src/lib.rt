@@ -44,15 +44,16 @@ pub extern "C" fn jurnadel_work_length(trails: u16) -> usize
 pub extern "C" fn jurnadel_write(
     order: &[u16],
     start: u16,
+    outside: u16,
     kind: u16,
     work: &mut [u16],
     output: &mut [u8],
     length: &mut u16,
     characteristic: &mut i32,
 ) -> u16
-    ensures { λ r. ⌜ WriteExport kind (record { rotation = now (order .entry); root = start }) (now (work .entry)) (now (output .entry)) r (now (length .exit)) (now (characteristic .exit)) (now (work .exit)) (now (output .exit)) ⌝ }
+    ensures { λ r. ⌜ WriteExport kind (record { rotation = now (order .entry); root = start; outside = outside }) (now (work .entry)) (now (output .entry)) r (now (length .exit)) (now (characteristic .exit)) (now (work .exit)) (now (output .exit)) ⌝ }
 {
-    let answer = writing::write(order, start, kind, work, output);
+    let answer = writing::write(order, start, outside, kind, work, output);
     match answer {
         Written::Length(n) => {
             *length = n;
@@ -72,24 +73,28 @@ pub extern "C" fn jurnadel_write(
     }
 }
 
-// The plan in its standard numbering goes to the first entries of `order`, and the number of its trails to `trails`, 0 if refused.
+// The plan in its standard numbering goes to the first entries of `order`, the number of its trails to `trails`, and the lowest dart of the outside area to
+// `outside`; both are 0 if refused.
 #[no_mangle]
 pub extern "C" fn jurnadel_read(
     record: &[u8],
     work: &mut [u16],
     order: &mut [u16],
     trails: &mut u16,
+    outside: &mut u16,
 ) -> u16
-    ensures { λ r. ⌜ ReadExport (now («record» .entry)) (now (work .entry)) (now (order .entry)) r (now (trails .exit)) (now (work .exit)) (now (order .exit)) ⌝ }
+    ensures { λ r. ⌜ ReadExport (now («record» .entry)) (now (work .entry)) (now (order .entry)) r (now (trails .exit)) (now (outside .exit)) (now (work .exit)) (now (order .exit)) ⌝ }
 {
     let answer = reading::read(record, work, order);
     match answer {
-        ReadBack::Edges(m) => {
+        ReadBack::Edges(m, x) => {
             *trails = m;
+            *outside = x;
             0
         }
         ReadBack::Refused(number) => {
             *trails = 0;
+            *outside = 0;
             number
         }
     }

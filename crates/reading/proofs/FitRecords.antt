@@ -1,8 +1,9 @@
 -- The record of a fit plan, as a reader meets it, and that reading it has one outcome.
 --
---   record-length        its length
+--   record-length, record-kind   its length, and its kind
 --   own-record           the plan has it
---   one-standard         plans with one record have one standard plan
+--   one-standard, one-outside   plans with one record have one standard rotation, and reading returns one outside for them
+--   read-plan            what reading gives back has the record
 --   standard-record      the standard plan is fit and has the same record
 --   reads-one            reading is determined: what it answers, and the output after it
 --   has-edges, has-passes   bytes that are a fit plan's record name its number of edges and pass 1, 2, 3 and 5
@@ -12,11 +13,15 @@ use mathlib.Core.Bool.{true}
 use mathlib.Core.List.{List}
 use lib.ListN.{length}
 use Rattle.model.specs.declared.ReadBack.{ReadBack}
+use Rattle.model.specs.declared.ReadBack.the-variants as readback
+use Rattle.model.specs.Numbers.{allBelow}
 use Rattle.model.specs.Map.{Plan, edges, fit}
-use Rattle.model.specs.Traversal.{standardPlan}
+use Rattle.model.specs.Traversal.{standardRotation, standardPlan}
 use Rattle.model.specs.Record.{recordLength, recordOf}
 use Rattle.model.specs.Shelf.{kindOf, edgesOf, passes}
-use Rattle.model.specs.Calls.{front, HasRecord, Reads, refused, read, unreadable}
+use Rattle.model.specs.Calls.{front, HasRecord, outsideRead, Reads, refused, read, unreadable}
+use Rattle.model.proofs.Outside.{withOutside}
+use Rattle.lists.specs.Coder.{rooted, outsideOf}
 use Rattle.lists.proofs.Records as coded
 use Rattle.coding.proofs.Records.{coderOf}
 
@@ -27,32 +32,51 @@ module _ (r : List ℕ) (p : Plan) (has : HasRecord r p) where
   pub has-passes : passes r ≡ true
   has-passes = ap passes (sym (has .1)) ∙ coded.record-passes (kindOf r) (coderOf (kindOf r) p (has .0)) p (has .0)
 
-pub one-standard : (r : List ℕ) (p q : Plan) → HasRecord r p → HasRecord r q → standardPlan q ≡ standardPlan p
-one-standard r p q h g =
+module _ (r : List ℕ) (p q : Plan) (h : HasRecord r p) (g : HasRecord r q) where
+  pub one-standard : standardRotation q ≡ standardRotation p
+  one-standard =
+      let c = coderOf (kindOf r) p (h .0) in
+      let found = coded.has-decodes r c p h in
+      coded.read-back r c (c .codes p) q found g ∙ sym (coded.read-back r c (c .codes p) p found h)
+
+  pub one-outside : outsideRead (kindOf r) q ≡ outsideRead (kindOf r) p
+  one-outside =
+      let c = coderOf (kindOf r) p (h .0) in
+      sym (coded.has-outside r c q g) ∙ coded.has-outside r c p h
+
+pub read-plan : (r : List ℕ) (p : Plan) → HasRecord r p → HasRecord r (withOutside (rooted (standardRotation p)) (outsideRead (kindOf r) p))
+read-plan r p h =
     let c = coderOf (kindOf r) p (h .0) in
     let found = coded.has-decodes r c p h in
-    coded.read-back r c (c .codes p) q found g ∙ sym (coded.read-back r c (c .codes p) p found h)
+    let bytes = ap (allBelow 256) (sym (h .1)) ∙ coded.record-bytes (kindOf r) c p (h .0) in
+    let sound = coded.has-sound r c (c .codes p) found p h in
+    subst (λ (o : ℕ). HasRecord r (withOutside (rooted (standardRotation p)) o)) (coded.has-outside r c p h)
+    (subst (λ (rot : List ℕ). HasRecord r (withOutside (rooted rot) (outsideOf r))) (sym (coded.read-back r c (c .codes p) p found h))
+    (coded.decodes-has r c (c .codes p) (has-passes r p h) bytes found sound))
 
 module _ (k : ℕ) (p : Plan) (fits : fit k p ≡ true) where
   pub record-length : length (recordOf k p) ≡ recordLength k (edges (p .rotation))
   record-length = coded.record-length k (coderOf k p fits) p fits
 
-  kind-is : kindOf (recordOf k p) ≡ k
-  kind-is = coded.record-kind k (coderOf k p fits) p fits
+  pub record-kind : kindOf (recordOf k p) ≡ k
+  record-kind = coded.record-kind k (coderOf k p fits) p fits
 
   pub own-record : HasRecord (recordOf k p) p
-  own-record = (subst (λ (j : ℕ). fit j p ≡ true) (sym kind-is) fits, ap (λ (j : ℕ). recordOf j p) kind-is)
+  own-record = (subst (λ (j : ℕ). fit j p ≡ true) (sym record-kind) fits, ap (λ (j : ℕ). recordOf j p) record-kind)
 
   pub standard-record : (fit k (standardPlan p) ≡ true) × (recordOf k (standardPlan p) ≡ recordOf k p)
   standard-record = coded.standard-record k (coderOf k p fits) p fits
 
 pub reads-one : (r : List ℕ) (w : ℕ) (out : List ℕ) (a b : ReadBack) (o o′ : List ℕ) → Reads r w out a o → Reads r w out b o′ → (a ≡ b) × (o ≡ o′)
+unfolding standardPlan
 reads-one r w out a b o o′ (refused d e f) (refused d′ e′ f′) = (e ∙ sym e′, f ∙ sym f′)
 reads-one r w out a b o o′ (refused d e f) (read z q g e′ f′) = absurd (d z)
 reads-one r w out a b o o′ (refused d e f) (unreadable z never e′ f′) = absurd (d z)
 reads-one r w out a b o o′ (read z p h e f) (refused d e′ f′) = absurd (d z)
-reads-one r w out a b o o′ (read z p h e f) (read z′ q g e′ f′) =
-    (e ∙ sym e′, f ∙ (ap (λ (s : Plan). front (s .rotation) out) (one-standard r q p g h) ∙ sym f′))
+reads-one r w out a b o o′ (read z p h e f) (read z′ q g e′ f′) = (
+  e ∙ ap (readback.Edges (edgesOf r)) (one-outside r q p g h) ∙ sym e′,
+  f ∙ ap (λ (rot : List ℕ). front rot out) (one-standard r q p g h) ∙ sym f′,
+)
 reads-one r w out a b o o′ (read z p h e f) (unreadable z′ never e′ f′) = absurd (never p h)
 reads-one r w out a b o o′ (unreadable z never e f) (refused d e′ f′) = absurd (d z)
 reads-one r w out a b o o′ (unreadable z never e f) (read z′ q g e′ f′) = absurd (never q g)

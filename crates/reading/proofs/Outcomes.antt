@@ -1,25 +1,31 @@
 -- Each way out of reading, at plain values.
 --
---   core-read, core-unreadable   the two ways out of reading a record whose head passes
+--   face-asked           where a word is found, what testing the outside asks
+--   core-read, core-unsound, core-unreadable   the ways out of reading a record whose head passes
 --   core-room            it has room in the work area
 --   edges-room           where a plan is read, work area and output have room for it
 --   out-refused, out-read, out-not-read   the ways out of reading
 use Prim.Native.Nat.{ℕ, _*_, _≤_}
 use native.Mathlib.Omega.{arith}
-use mathlib.Core.Path.{_≡_, refl, sym, ap, _∙_}
+use mathlib.Core.Path.{_≡_, refl, sym, ap, ap₂, _∙_}
 use mathlib.Core.Logic.{_≢_}
-use mathlib.Core.Bool.{Bool, true, false}
+use mathlib.Core.Bool.{Bool, true, false, _&&_, true≢false}
 use mathlib.Core.List.{List}
+use lib.Dec.{eqb, ltb}
 use lib.ListN.{length}
+use borrow.Author.Tests.{ltb-true, lt-ltb, eqb-true, eq-eqb}
 use Rattle.model.specs.declared.ReadBack.{ReadBack}
 use Rattle.model.specs.declared.ReadBack.the-variants as readback
-use Rattle.model.specs.Numbers.{allBelow}
-use Rattle.model.specs.Map.{Plan}
+use Rattle.model.specs.Numbers.{allBelow, isPermutation}
+use Rattle.model.specs.Map.{faceOf, dartCountFits}
+use Rattle.model.specs.Traversal.{Letter, standardPlan}
 use Rattle.model.specs.Shelf.{edgesOf, passes}
 use Rattle.model.specs.Calls.{front, readRefusal, Reads, refused, read, unreadable, edgesOfRead}
-use Rattle.words.specs.Word.{planOf}
+use Rattle.model.proofs.Booleans.{and-left, and-right, both}
+use Rattle.words.specs.Word.{found, rotationOf}
+use Rattle.lists.specs.Coder.{outsideOf}
 use Rattle.coding.specs.Payloads.{decodeRecord}
-use Rattle.coding.proofs.Records.{decodes-has, decodes-standard, none-has}
+use Rattle.coding.proofs.Records.{none-has, decodes-map, Sound, has-sound, given, decodes-has, decodes-standard, decodes-outside}
 use Rattle.work.specs.Area.{region}
 use Rattle.builder.specs.Decoded.{Answered}
 use Rattle.reading.specs.Planned.{Planned, planned, no-plan}
@@ -33,12 +39,43 @@ module _ (r : List ℕ) (b : Bool) (w : List ℕ) (decoded : Answered (decodeRec
   pub core-unreadable : b ≡ false → Planned r (readback.Refused 13) w
   core-unreadable e = no-plan (none-has r (decoded .none-found e)) refl
 
-  pub core-read : passes r ≡ true → allBelow 256 r ≡ true → (m : ℕ) → m ≡ edgesOf r → b ≡ true → Planned r (readback.Edges m) w
-  unfolding planOf
-  core-read passed bytes m m-is e =
-      let f = decoded .word-found e in
-      planned (planOf (f .0)) (decodes-has r (f .0) passed bytes (f .1)) (ap readback.Edges m-is)
-      (f .2 ∙ ap (λ (p : Plan). p .rotation) (sym (decodes-standard r (f .0) passed bytes (f .1))))
+  module _ (passed : passes r ≡ true) (bytes : allBelow 256 r ≡ true) (e : b ≡ true) where
+    abbrev v : List Letter
+    v = decoded .word-found e .0
+
+    is-word : decodeRecord r ≡ found v
+    is-word = decoded .word-found e .1
+
+    in-work : region 0 (2 * edgesOf r) w ≡ rotationOf v
+    in-work = decoded .word-found e .2
+
+    long : length v ≡ 2 * edgesOf r
+    long = decodes-map r v passed bytes is-word .2
+
+    -- what the search for a lower dart asks
+    pub face-asked : (m : ℕ) → m ≡ edgesOf r → (dartCountFits (2 * m) ≡ true) × (isPermutation (region 0 (2 * m) w) ≡ true)
+    face-asked m m-is =
+        let (entries, count, same) = decodes-map r v passed bytes is-word in
+        (rw (m-is, ← same) count, rw (m-is, in-work) entries)
+
+    module _ (m x : ℕ) (m-is : m ≡ edgesOf r) (x-is : x ≡ outsideOf r) (c : Bool) (told : c ≡ (ltb x (2 * m) && eqb (faceOf (region 0 (2 * m) w) x) x)) where
+      -- the test, and what it says of the record
+      test : c ≡ (ltb (outsideOf r) (2 * edgesOf r) && eqb (faceOf (rotationOf v) (outsideOf r)) (outsideOf r))
+      test = rw (m-is, x-is, in-work) at told
+
+      pub core-read : c ≡ true → Planned r (readback.Edges m x) w
+      core-read so =
+          let t = sym test ∙ so in
+          let low = ltb-true (outsideOf r) (2 * edgesOf r) (and-left (ltb (outsideOf r) (2 * edgesOf r)) _ t) in
+          let sound : Sound r v = (omega (arith, long), eqb-true _ (outsideOf r) (and-right (ltb (outsideOf r) (2 * edgesOf r)) _ t)) in
+          planned (given r v passed bytes is-word sound) (decodes-has r v passed bytes is-word sound)
+          (ap₂ readback.Edges m-is (x-is ∙ sym (decodes-outside r v passed bytes is-word sound)))
+          (in-work ∙ sym (decodes-standard r v passed bytes is-word sound))
+
+      pub core-unsound : c ≡ false → Planned r (readback.Refused 13) w
+      core-unsound off = no-plan (λ p h.
+          let sound = has-sound r v is-word p h in
+          true≢false (sym (both (lt-ltb (outsideOf r) (2 * edgesOf r) (omega (arith, sound .0, long))) (eq-eqb _ (outsideOf r) (sound .1))) ∙ sym test ∙ off)) refl
 
 -- ---- with an output
 
@@ -52,23 +89,24 @@ module _ (r : List ℕ) (n : ℕ) (out : List ℕ) where
     core-room = let f = early-facts r n (length out) early in (f .passed, f .work-room)
 
     module _ (w : List ℕ) (a : ReadBack) where
-      edges-are : (m : ℕ) → a ≡ readback.Edges m → Planned r a w → m ≡ edgesOf r
-      edges-are m q (planned p h e s) = ap edgesOfRead (sym q ∙ e)
-      edges-are m q (no-plan never e) = absurd (not-both m 13 (sym q ∙ e))
+      edges-are : (m x : ℕ) → a ≡ readback.Edges m x → Planned r a w → m ≡ edgesOf r
+      edges-are m x q (planned p h e s) = ap edgesOfRead (sym q ∙ e)
+      edges-are m x q (no-plan never e) = absurd (not-both m x 13 (sym q ∙ e))
 
-      pub edges-room : (m : ℕ) → a ≡ readback.Edges m → Planned r a w → length w ≡ n → (2 * m ≤ length w) × (2 * m ≤ length out)
-      edges-room m q c kept =
+      pub edges-room : (m x : ℕ) → a ≡ readback.Edges m x → Planned r a w → length w ≡ n → (2 * m ≤ length w) × (2 * m ≤ length out)
+      edges-room m x q c kept =
           let f = early-facts r n (length out) early in
-          let e = edges-are m q c in
+          let e = edges-are m x q c in
           (omega arith, omega arith)
 
-      pub out-read : (m : ℕ) (out′ : List ℕ) → a ≡ readback.Edges m → Planned r a w → out′ ≡ front (region 0 (2 * m) w) out
-          → Reads r n out (readback.Edges m) out′
-      out-read m out′ q (planned p h e s) o =
+      pub out-read : (m x : ℕ) (out′ : List ℕ) → a ≡ readback.Edges m x → Planned r a w → out′ ≡ front (region 0 (2 * m) w) out
+          → Reads r n out (readback.Edges m x) out′
+      unfolding standardPlan
+      out-read m x out′ q (planned p h e s) o =
           read early p h (sym q ∙ e)
           (o ∙ ap (λ (k : ℕ). front (region 0 (2 * k) w) out) (ap edgesOfRead (sym q ∙ e)) ∙ ap (λ (f : List ℕ). front f out) s)
-      out-read m out′ q (no-plan never e) o = absurd (not-both m 13 (sym q ∙ e))
+      out-read m x out′ q (no-plan never e) o = absurd (not-both m x 13 (sym q ∙ e))
 
       pub out-not-read : (x : ℕ) → a ≡ readback.Refused x → Planned r a w → Reads r n out (readback.Refused x) out
-      out-not-read x q (planned p h e s) = absurd (not-both _ x (sym e ∙ q))
+      out-not-read x q (planned p h e s) = absurd (not-both _ _ x (sym e ∙ q))
       out-not-read x q (no-plan never e) = unreadable early never (sym q ∙ e) refl

@@ -1,55 +1,67 @@
--- The payload of a record whose head passes, as the slice past its six bytes, and what decoding it says of the record.
+-- The payload of a record whose head passes, as the slice past its head, and what decoding it says of the record.
 --
---   letters-asked, letters-answered   kind 4: what reading its letters asks, and that it gives the answer
---   labels-asked, labels-answered   another kind: the same of reading its tree bits and labels
---   payload-sized        it is as long as the payload of its kind and size
+--   letters-asked, letters-answered   family 4: what reading its letters asks, and that it gives the answer
+--   labels-asked, labels-answered   another: the same of reading its tree bits and labels
+--   outer-head, plain-head   a kind that stores the outside has eight bytes before it, another six, and is its own family
+--   payload-sized        it is as long as the payload of its family and size
 --   record-decoded       the answer for the payload is the answer for the record
 use Prim.Native.Nat.{ℕ, _-_, _*_, _≤_}
 use native.Mathlib.Omega.{arith}
 use mathlib.Core.Path.{_≡_}
 use mathlib.Core.Logic.{_≢_}
-use mathlib.Core.Bool.{Bool, true}
+use mathlib.Core.Bool.{Bool, true, false}
 use mathlib.Core.List.{List}
 use lib.ListN.{length, take, drop, length-drop}
 use lib.Seq.{take-all}
 use borrow.Author.Tests.{ne-eqb}
-use Rattle.model.specs.Record.{bytesFor}
+use Rattle.model.specs.Map.{storesOutside, family}
+use Rattle.model.specs.Record.{bytesFor, headLength, recordLength}
 use Rattle.model.specs.Shelf.{kindOf, edgesOf, passes}
-use Rattle.model.proofs.Heads.{kind-four, passes-facts}
+use Rattle.model.proofs.Heads.{family-four, passes-facts}
+use Rattle.heads.proofs.Head.{head-stores, head-plain, family-plain}
 use Rattle.packing.specs.Payload.{hasLabels, Sized}
 use Rattle.packing.proofs.Labelled.{labelled-other}
+use Rattle.packing.proofs.Headed.{passes-sized}
 use Rattle.coding.specs.Payloads.{decodeLabelled, decodeLetters, decodePayload, decodeRecord}
 use Rattle.builder.specs.Decoded.{Answered}
 
-module _ (k m : ℕ) (ps : List ℕ) (s : Sized k m ps) where
-  pub letters-asked : k ≡ 4 → (1 ≤ m) × (m ≤ 4096) × (length ps ≡ bytesFor m 2)
-  letters-asked e = let l = s .long in let q = kind-four k m e in (s .some-edge, s .few-edges, omega arith)
+module _ (f m : ℕ) (ps : List ℕ) (s : Sized f m ps) where
+  pub letters-asked : f ≡ 4 → (1 ≤ m) × (m ≤ 4096) × (length ps ≡ bytesFor m 2)
+  letters-asked e = let l = s .long in let q = family-four f m e in (s .some-edge, s .few-edges, omega arith)
 
-  pub labels-asked : k ≢ 4 → (hasLabels k ≡ true) × Sized k m ps
-  labels-asked d = (labelled-other k (s .kind) d, s)
+  pub labels-asked : f ≢ 4 → (hasLabels f ≡ true) × Sized f m ps
+  labels-asked d = (labelled-other f (s .is-family) d, s)
 
-module _ (k m : ℕ) (ps : List ℕ) (b : Bool) (w : List ℕ) where
-  pub letters-answered : k ≡ 4 → Answered (decodeLetters m ps) (2 * m) b w → Answered (decodePayload k m ps) (2 * m) b w
+module _ (f m : ℕ) (ps : List ℕ) (b : Bool) (w : List ℕ) where
+  pub letters-answered : f ≡ 4 → Answered (decodeLetters m ps) (2 * m) b w → Answered (decodePayload f m ps) (2 * m) b w
   unfolding decodePayload
   letters-answered e a = rw e a
 
-  pub labels-answered : k ≢ 4 → Answered (decodeLabelled k m ps) (2 * m) b w → Answered (decodePayload k m ps) (2 * m) b w
+  pub labels-answered : f ≢ 4 → Answered (decodeLabelled f m ps) (2 * m) b w → Answered (decodePayload f m ps) (2 * m) b w
   unfolding decodePayload
-  labels-answered d a = rw (ne-eqb k 4 d) a
+  labels-answered d a = rw (ne-eqb f 4 d) a
 
-module _ (r : List ℕ) (k m : ℕ) (passed : passes r ≡ true) (k-is : k ≡ kindOf r) (m-is : m ≡ edgesOf r) where
-  abbrev part : List ℕ
-  part = take (length r - 6) (drop 6 r)
+module _ (r : List ℕ) (passed : passes r ≡ true) where
+  fits : headLength (kindOf r) ≤ length r
+  unfolding recordLength
+  fits = let l = passes-facts r passed .right-length in omega arith
 
-  part-is : part ≡ drop 6 r
-  part-is = take-all (length r - 6) (drop 6 r) (let e = length-drop 6 r in omega arith)
+  pub outer-head : storesOutside (kindOf r) ≡ true → (8 ≡ headLength (kindOf r)) × (8 ≤ length r)
+  outer-head s = let h = head-stores (kindOf r) s in let l = fits in (h, omega arith)
 
-  pub payload-sized : Sized k m part
-  payload-sized =
-      let f = passes-facts r passed in
-      let h = f .whole-head in let d = length-drop 6 r in let l = f .right-length in
-      rw (part-is, k-is, m-is) (record { kind = f .kind; some-edge = f .some-edge; few-edges = f .few-edges; long = omega arith })
+  pub plain-head : storesOutside (kindOf r) ≡ false → (6 ≡ headLength (kindOf r)) × (6 ≤ length r) × (kindOf r ≡ family (kindOf r))
+  plain-head s = let h = head-plain (kindOf r) s in let l = fits in (h, omega arith, family-plain (kindOf r) s)
 
-  pub record-decoded : (b : Bool) (w : List ℕ) → Answered (decodePayload k m part) (2 * m) b w → Answered (decodeRecord r) (2 * edgesOf r) b w
-  unfolding decodeRecord
-  record-decoded b w a = rw (part-is, k-is, m-is) at a
+  module _ (f m at : ℕ) (f-is : f ≡ family (kindOf r)) (m-is : m ≡ edgesOf r) (at-is : at ≡ headLength (kindOf r)) where
+    abbrev part : List ℕ
+    part = take (length r - at) (drop at r)
+
+    part-is : part ≡ drop (headLength (kindOf r)) r
+    part-is = rw at-is (take-all (length r - headLength (kindOf r)) (drop (headLength (kindOf r)) r) (let e = length-drop (headLength (kindOf r)) r in omega arith))
+
+    pub payload-sized : Sized f m part
+    payload-sized = rw (part-is, f-is, m-is) (passes-sized r passed)
+
+    pub record-decoded : (b : Bool) (w : List ℕ) → Answered (decodePayload f m part) (2 * m) b w → Answered (decodeRecord r) (2 * edgesOf r) b w
+    unfolding decodeRecord
+    record-decoded b w a = rw (part-is, f-is, m-is) at a

@@ -1,15 +1,15 @@
 -- Reading and writing undo each other, over the contracts of the two calls alone.
 --
---   read-record          reading a fit plan's record with room answers m and gives the standard plan
+--   read-record          reading a fit plan's record with room answers m and the outside, and gives the standard plan
 --   wrote-fit, wrote-bytes   a call that wrote was handed a fit plan, and the bytes are its record
---   read-written         reading what writing wrote answers m and gives the standard plan
+--   read-written         reading what writing wrote answers m and the outside, and gives the standard plan
 --   write-fit            writing a fit plan with room gives its record
---   planIn m out         the plan with the first 2m entries, and root 0
+--   planIn m x out       the plan with the first 2m entries, root 0 and outside x
 --   given-plan           what reading gave is fit for the record's kind, and the record is its record
 --   written-read         writing what reading gave, in the record's kind, gives the same bytes
 use Prim.Native.Nat.{ℕ, _*_, _≤_}
 use native.Mathlib.Omega.{arith}
-use mathlib.Core.Path.{_≡_, refl, sym, ap, subst, _∙_}
+use mathlib.Core.Path.{_≡_, refl, sym, ap, ap₂, subst, _∙_}
 use mathlib.Core.Bool.{true}
 use mathlib.Core.List.{List}
 use lib.ListN.{length, take, drop}
@@ -21,26 +21,28 @@ use Rattle.model.specs.declared.ReadBack.{ReadBack}
 use Rattle.model.specs.declared.ReadBack.the-variants as readback
 use Rattle.model.specs.Numbers.{firstRefusal}
 use Rattle.model.specs.Map.{Plan, edges, fit}
-use Rattle.model.specs.Traversal.{standardPlan}
+use Rattle.model.specs.Traversal.{standardRotation, standardPlan}
 use Rattle.model.specs.Record.{recordLength, recordOf}
 use Rattle.model.specs.Shelf.{kindOf, edgesOf}
-use Rattle.model.specs.Calls.{front, earlyRefusals, lateRefusals, writeRefusal, writeAnswer, writtenOutput, Wrote, readRefusal, HasRecord, Reads, refused, read, unreadable, ReadCall, edgesOfRead}
+use Rattle.model.specs.Calls.{front, earlyRefusals, lateRefusals, writeRefusal, writeAnswer, writtenOutput, Wrote, readRefusal, HasRecord, outsideRead, Reads, refused, read, unreadable, ReadCall, edgesOfRead, outsideOfRead}
 use Rattle.model.specs.Writings.{Writing, MeetsContract, isAccepted, bytesWritten}
 use Rattle.model.proofs.Fitness.{fit-parts, even-darts}
+use Rattle.model.proofs.Outside.{withOutside}
 use Rattle.lists.specs.Coder.{rooted}
 use Rattle.lists.proofs.Calls.{accepted-fit, accepted-bytes}
 use Rattle.reading.proofs.Answers.{not-both}
 use Rattle.reading.proofs.Checks.{facts-early}
-use Rattle.reading.proofs.FitRecords.{record-length, own-record, standard-record, one-standard, has-edges, has-passes}
+use Rattle.reading.proofs.FitRecords.{record-length, record-kind, own-record, one-standard, one-outside, read-plan, has-edges, has-passes}
 
 -- ---- reading what writing wrote
 
 module _ (r : List ℕ) (p : Plan) (has : HasRecord r p) (work out : List ℕ) (answer : ReadBack) (work′ out′ : List ℕ) where
   abbrev Given : Type 0
-  Given = (answer ≡ readback.Edges (edges (p .rotation))) × (out′ ≡ front (standardPlan p .rotation) out)
+  Given = (answer ≡ readback.Edges (edges (p .rotation)) (outsideRead (kindOf r) p)) × (out′ ≡ front (standardPlan p .rotation) out)
 
   -- a call with room reads the record of a fit plan
   pub read-record : ReadCall r work out answer work′ out′ → 32 * edges (p .rotation) ≤ length work → 2 * edges (p .rotation) ≤ length out → Given
+  unfolding standardPlan
   read-record c h l = go (c .outcome)
     where
       clear : readRefusal r (length work) (length out) ≡ 0
@@ -50,7 +52,10 @@ module _ (r : List ℕ) (p : Plan) (has : HasRecord r p) (work out : List ℕ) (
 
       go : Reads r (length work) out answer out′ → Given
       go (refused d a o) = absurd (d clear)
-      go (read e q g a o) = (a ∙ ap readback.Edges (has-edges r p has), o ∙ ap (λ (s : Plan). front (s .rotation) out) (one-standard r p q has g))
+      go (read e q g a o) = (
+        a ∙ ap₂ readback.Edges (has-edges r p has) (one-outside r p q has g),
+        o ∙ ap (λ (rot : List ℕ). front rot out) (one-standard r p q has g),
+      )
       go (unreadable e never a o) = absurd (never p has)
 
 module _ (k : ℕ) (p : Plan) (w o : List ℕ) (n : ℕ) (w′ o′ : List ℕ) (wrote : Wrote k p w o (written.Length n) w′ o′) where
@@ -78,8 +83,10 @@ module _ (k : ℕ) (p : Plan) (w o : List ℕ) (n : ℕ) (w′ o′ : List ℕ) 
 
   pub read-written : (work out : List ℕ) (answer : ReadBack) (work′ out′ : List ℕ) → ReadCall (take n o′) work out answer work′ out′
       → 32 * edges (p .rotation) ≤ length work → 2 * edges (p .rotation) ≤ length out
-      → (answer ≡ readback.Edges (edges (p .rotation))) × (out′ ≡ front (standardPlan p .rotation) out)
-  read-written work out answer work′ out′ = read-record (take n o′) p wrote-has work out answer work′ out′
+      → (answer ≡ readback.Edges (edges (p .rotation)) (outsideRead k p)) × (out′ ≡ front (standardPlan p .rotation) out)
+  read-written work out answer work′ out′ c h l =
+      subst (λ (j : ℕ). (answer ≡ readback.Edges (edges (p .rotation)) (outsideRead j p)) × (out′ ≡ front (standardPlan p .rotation) out))
+      (ap kindOf wrote-bytes ∙ record-kind k p wrote-fit) (read-record (take n o′) p wrote-has work out answer work′ out′ c h l)
 
 -- ---- writing what reading gave
 
@@ -89,7 +96,7 @@ fit-accepted : (k : ℕ) (p : Plan) (w o : ℕ) → fit k p ≡ true → 32 * ed
 unfolding writeRefusal earlyRefusals lateRefusals firstRefusal
 fit-accepted k p w o fits h l =
     let f = fit-parts k p fits in
-    rw (f .kind, f .count, lt-ltb _ _ (f .root), f .entries, le-ltb w _ h, le-ltb o _ l, f .joined, f .flat, f .loops, f .degrees)
+    rw (f .kind, f .count, lt-ltb _ _ (f .root), f .outside, f .entries, le-ltb w _ h, le-ltb o _ l, f .joined, f .flat, f .loops, f .degrees)
 
 module _ (k : ℕ) (p : Plan) (fits : fit k p ≡ true) (w o : List ℕ) (answer : Written) (w′ o′ : List ℕ) (wrote : Wrote k p w o answer w′ o′) where
   -- a call with room writes the record
@@ -100,40 +107,42 @@ module _ (k : ℕ) (p : Plan) (fits : fit k p ≡ true) (w o : List ℕ) (answer
       let e = fit-accepted k p (length w) (length o) fits h l in
       (wrote .answered ∙ simp (eq-eqb _ 0 e), wrote .filled ∙ simp (eq-eqb _ 0 e))
 
--- the plan in the first 2m entries, root 0
-abbrev pub planIn : ℕ → List ℕ → Plan
-planIn m out = rooted (take (2 * m) out)
+-- the plan in the first 2m entries, root 0, with this outside
+abbrev pub planIn : ℕ → ℕ → List ℕ → Plan
+planIn m x out = withOutside (rooted (take (2 * m) out)) x
 
-module _ (r work out : List ℕ) (m : ℕ) (work′ out′ : List ℕ) (call : ReadCall r work out (readback.Edges m) work′ out′) where
-  pub given-plan : (edgesOf r ≡ m) × HasRecord r (planIn m out′)
+module _ (r work out : List ℕ) (m x : ℕ) (work′ out′ : List ℕ) (call : ReadCall r work out (readback.Edges m x) work′ out′) where
+  pub given-plan : (edgesOf r ≡ m) × HasRecord r (planIn m x out′)
   unfolding front standardPlan
   given-plan = go (call .outcome)
     where
-      go : Reads r (length work) out (readback.Edges m) out′ → (edgesOf r ≡ m) × HasRecord r (planIn m out′)
-      go (refused d a o) = absurd (not-both m _ a)
-      go (unreadable e never a o) = absurd (not-both m _ a)
-      go (read e p has a o) = (same, subst (HasRecord r) (sym given) (std .0, std .1 ∙ has .1))
+      go : Reads r (length work) out (readback.Edges m x) out′ → (edgesOf r ≡ m) × HasRecord r (planIn m x out′)
+      go (refused d a o) = absurd (not-both m x _ a)
+      go (unreadable e never a o) = absurd (not-both m x _ a)
+      go (read e p has a o) = (same, subst (HasRecord r) (sym given) back)
         where
           same : edgesOf r ≡ m
           same = sym (ap edgesOfRead a)
 
-          std : (fit (kindOf r) (standardPlan p) ≡ true) × (recordOf (kindOf r) (standardPlan p) ≡ recordOf (kindOf r) p)
-          std = standard-record (kindOf r) p (has .0)
+          back : HasRecord r (withOutside (rooted (standardRotation p)) (outsideRead (kindOf r) p))
+          back = read-plan r p has
 
-          size : length (standardPlan p .rotation) ≡ 2 * m
+          size : length (standardRotation p) ≡ 2 * m
           size =
-              let d = even-darts (standardPlan p) (fit-parts _ _ (std .0) .count) in
-              let s = has-edges r (standardPlan p) (std .0, std .1 ∙ has .1) in
+              let q : Plan = withOutside (rooted (standardRotation p)) (outsideRead (kindOf r) p) in
+              let d : length (standardRotation p) ≡ 2 * edges (standardRotation p) = even-darts q (fit-parts (kindOf r) q (back .0) .count) in
+              let s : edgesOf r ≡ edges (standardRotation p) = has-edges r q back in
               let e = same in
               omega arith
 
-          given : planIn m out′ ≡ standardPlan p
-          given = ap rooted (ap (take (2 * m)) o ∙ take-at (standardPlan p .rotation) (drop (length (standardPlan p .rotation)) out) (2 * m) size)
+          given : planIn m x out′ ≡ withOutside (rooted (standardRotation p)) (outsideRead (kindOf r) p)
+          given = ap₂ (λ (rot : List ℕ) (o : ℕ). withOutside (rooted rot) o)
+              (ap (take (2 * m)) o ∙ take-at (standardRotation p) (drop (length (standardRotation p)) out) (2 * m) size) (ap outsideOfRead a)
 
-  pub written-read : (w o : List ℕ) (answer : Written) (w′ o′ : List ℕ) → Wrote (kindOf r) (planIn m out′) w o answer w′ o′
+  pub written-read : (w o : List ℕ) (answer : Written) (w′ o′ : List ℕ) → Wrote (kindOf r) (planIn m x out′) w o answer w′ o′
       → 32 * m ≤ length w → length r ≤ length o → (answer ≡ written.Length (length r)) × (o′ ≡ front r o)
   written-read w o answer w′ o′ wrote h l =
-      let q = planIn m out′ in
+      let q = planIn m x out′ in
       let has = given-plan .1 in
       let e = has-edges r q has in
       let same = given-plan .0 in

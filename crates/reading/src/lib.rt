@@ -1,13 +1,17 @@
 // Reading, the call: any bytes come back as the plan in its standard numbering, or as one refusal. It puts the head checks and the decoder in
 // order and clears the work area; how a payload is decoded is not known here.
 ghost use mathlib.Core.Path.{_≡_};
-ghost use mathlib.Core.Bool.{true};
+ghost use mathlib.Core.Bool.{true, _&&_};
 ghost use Prim.Native.Nat.{_*_, _≤_};
+ghost use lib.Dec.{eqb, ltb};
 ghost use lib.ListN.{length};
-ghost use Rattle.model.specs.Shelf.{edgesOf, passes};
+ghost use Rattle.model.specs.Numbers.{isPermutation};
+ghost use Rattle.model.specs.Map.{faceOf, storesOutside, dartCountFits};
+ghost use Rattle.model.specs.Shelf.{kindOf, edgesOf, passes};
 ghost use Rattle.model.specs.Calls.{readRefusal, Reads, ReadCall};
 ghost use Rattle.packing.specs.Payload.{Sized};
 ghost use Rattle.coding.specs.Payloads.{decodePayload};
+ghost use Rattle.work.specs.Area.{region};
 ghost use Rattle.builder.specs.Decoded.{Answered};
 ghost use Rattle.reading.specs.Planned.{Planned};
 use model::ReadBack;
@@ -30,16 +34,45 @@ fn early(record: &[u8], work: usize, out: usize) -> u16
     0
 }
 
-// The standard plan of a payload of this kind: whether there is one, and its rotation in the first 2m entries.
-fn decode(payload: &[u8], kind: u16, m: usize, w: &mut [u16]) -> bool
-    requires { ⌜ Sized kind m (now payload) ⌝ }
+// The standard plan of a payload of this family: whether there is one, and its rotation in the first 2m entries.
+fn decode(payload: &[u8], family: u16, m: usize, w: &mut [u16]) -> bool
+    requires { ⌜ Sized family m (now payload) ⌝ }
     requires { ⌜ 32 * m ≤ length (now w) ⌝ }
-    ensures { λ r. ⌜ Answered (decodePayload kind m (now (payload .entry))) (2 * m) r (now (w .exit)) ⌝ }
+    ensures { λ r. ⌜ Answered (decodePayload family m (now (payload .entry))) (2 * m) r (now (w .exit)) ⌝ }
 {
-    if kind == 4 {
+    if family == 4 {
         return letter_decoder::decode(payload, m, w);
     }
-    decoder::decode(payload, kind, m, w)
+    decoder::decode(payload, family, m, w)
+}
+
+// x is the lowest dart of a face of the rotation in the first n entries.
+fn is_face(w: &[u16], n: usize, x: usize) -> bool
+    requires { ⌜ (dartCountFits n ≡ true) × (n ≤ length (now w)) × (isPermutation (region 0 n (now w)) ≡ true) ⌝ }
+    ensures { λ r. ⌜ r ≡ (ltb x n && eqb (faceOf (region 0 n (now (w .entry))) x) x) ⌝ }
+{
+    if x == 0 {
+        return true;
+    }
+    if x >= n {
+        return false;
+    }
+    outside::is_lowest(&w[..n], x)
+}
+
+// The standard plan and the outside of a record of a kind that stores it, whose head passes; or 13.
+fn read_outer(record: &[u8], kind: u16, m: u16, w: &mut [u16]) -> ReadBack
+    requires { ⌜ (passes (now «record») ≡ true) × (kind ≡ kindOf (now «record»)) × (m ≡ edgesOf (now «record»)) × (storesOutside kind ≡ true)
+        × (32 * edgesOf (now «record») ≤ length (now w)) ⌝ }
+    ensures { λ r. ⌜ Planned (now («record» .entry)) r (now (w .exit)) ⌝ }
+{
+    let x = heads::field(record, 6);
+    if decode(&record[8..], heads::family(kind), m as usize, w) {
+        if is_face(w, 2 * (m as usize), x as usize) {
+            return ReadBack::Edges(m, x);
+        }
+    }
+    ReadBack::Refused(13)
 }
 
 // The standard plan of a record whose head passes, in the first 2m entries of a work area with room, or 13. The work area is not cleared.
@@ -49,9 +82,12 @@ fn read_core(record: &[u8], w: &mut [u16]) -> ReadBack
 {
     let kind = heads::field(record, 2);
     let m = heads::field(record, 4);
+    if heads::stores_outside(kind) {
+        return read_outer(record, kind, m, w);
+    }
     let found = decode(&record[6..], kind, m as usize, w);
     if found {
-        return ReadBack::Edges(m);
+        return ReadBack::Edges(m, 0);
     }
     ReadBack::Refused(13)
 }
@@ -65,9 +101,9 @@ fn read_out(record: &[u8], work: &mut [u16], out: &mut [u16]) -> ReadBack
         return ReadBack::Refused(e);
     }
     match read_core(record, work) {
-        ReadBack::Edges(m) => {
+        ReadBack::Edges(m, x) => {
             work::copy_front(work, 2 * (m as usize), out);
-            return ReadBack::Edges(m);
+            return ReadBack::Edges(m, x);
         }
         ReadBack::Refused(r) => {
             return ReadBack::Refused(r);
@@ -75,7 +111,7 @@ fn read_out(record: &[u8], work: &mut [u16], out: &mut [u16]) -> ReadBack
     }
 }
 
-// "Reading returns m, with the standard plan in the first 2m entries"; the work area is zeros on every return.
+// "Reading returns m, with the standard plan in the first 2m entries", and "the lowest dart of the outside area"; the work area is zeros on every return.
 pub fn read(record: &[u8], work: &mut [u16], out: &mut [u16]) -> ReadBack
     ensures { λ r. ⌜ ReadCall (now («record» .entry)) (now (work .entry)) (now (out .entry)) r (now (work .exit)) (now (out .exit)) ⌝ }
 {

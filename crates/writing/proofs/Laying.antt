@@ -1,42 +1,56 @@
--- The record of a plan that fits, from the word in the work area.
+-- The record of a plan that fits, from the word and the faces in the work area.
 --
---   letters-asked, letters-laid   kind 4: what packing the letters asks, and what it leaves
---   valid-two            a word that is valid for a kind with labels is valid for kind 2
---   word-asked, bytes-asked   such a kind: what the pass over the word and the packing ask
---   laid                 what they leave
-use Prim.Native.Nat.{ℕ, _*_, _/_, _%_, _≤_, _<_}
+--   letters-asked, letters-packed   family 4: what packing the letters asks, and what it leaves
+--   word-asked, bytes-asked, bytes-packed   another: what the pass over the word and the packing ask, and what they leave
+--   small                the plan and its record are small
+--   mapped               where the outside is stored, its number can be found
+--   head-room, payload-asked   what the head and the payload ask
+--   recorded             what they leave
+use Prim.Native.Nat.{ℕ, _+_, _*_, _/_, _%_, _≤_, _<_}
 use native.Mathlib.Omega.{arith}
-use mathlib.Core.Path.{_≡_, refl, ap, subst, _∙_}
+use mathlib.Core.Path.{_≡_, refl, sym, ap, subst, _∙_}
 use mathlib.Core.Logic.{_≢_}
-use mathlib.Core.Bool.{true, false, false≢true}
-use mathlib.Core.List.{List}
+use mathlib.Core.Bool.{Bool, true, false, cond, false≢true}
+use mathlib.Core.List.{List, [], _++_, map}
 use lib.ListN.{length}
 use borrow.Author.Tests.{ne-eqb}
-use Rattle.model.specs.Numbers.{allBelow}
-use Rattle.model.specs.Map.{isKind}
-use Rattle.model.specs.Traversal.{Letter}
-use Rattle.model.specs.Record.{recordLength, labelBase, payload, headed}
+use Rattle.model.specs.Numbers.{elem, allBelow}
+use Rattle.model.specs.Map.{Plan, darts, edges, isFamily, storesOutside, family}
+use Rattle.model.specs.Traversal.{Letter, code, word, standardFace}
+use Rattle.model.specs.Record.{bytesFor, le16, headLength, recordLength, labelBase, payload, headed, payloadOf, outsideBytes, recordOf}
 use Rattle.model.specs.Calls.{front}
-use Rattle.model.proofs.Fitness.{count-parts}
+use Rattle.model.proofs.Fitness.{fit-parts, count-parts}
+use Rattle.model.proofs.Outside.{fit-widest}
+use Rattle.model.proofs.Heads.{family-four, kind-family, headLength-range, recordLength-range}
 use Rattle.words.specs.Word.{valid}
 use Rattle.words.proofs.Validity.{valid-fits, valid-strict, valid-plain, valid-of}
 use Rattle.machine.proofs.Sizes.{labels-bound}
 use Rattle.machine.proofs.Bounds.{bits-below}
-use Rattle.packing.specs.Payload.{hasLabels}
+use Rattle.packing.specs.Payload.{hasLabels, Sized, extraBytes}
 use Rattle.packing.proofs.Labelled.{labelled-strict, labelled-other}
+use Rattle.packing.proofs.Payload.{payload-length}
+use Rattle.lists.proofs.Records.{record-sized}
 use Rattle.coding.specs.Payloads.{encodeLabelled, encodePayload}
-use Rattle.work.proofs.Letters.{length-letters}
+use Rattle.coding.proofs.FitPlans.{fit-valid}
+use Rattle.coding.proofs.Coders.{payload-of-word}
+use Rattle.coding.proofs.Records.{coderOf}
+use Rattle.work.specs.Area.{placed}
 use Rattle.work.specs.Letters.{lettersIn, Coded, workBits, workLabels}
+use Rattle.work.proofs.Letters.{length-letters, letters-code}
+use Rattle.outside.specs.Numbered.{Mapped}
 use Rattle.encoder.specs.Encoded.{Encoded}
-use Rattle.packer.specs.Packed.{Packed}
-use Rattle.letter_packer.specs.Packed as letters
-use Rattle.writing.specs.Early.{Ready, Recorded}
+use Rattle.packer.specs.Packed.{Headed}
+use Rattle.packer.proofs.Heads.{head-payload}
+use Rattle.packing.specs.Letters.{lettersPayload}
+use Rattle.writing.specs.Laid.{Ready, Packed, ToLay, Recorded}
 
-valid-two : (k : ℕ) (v : List Letter) → hasLabels k ≡ true → valid k v ≡ true → valid 2 v ≡ true
-unfolding isKind
-valid-two k v has e = valid-of 2 v refl (valid-fits k v e) (valid-strict k v e (labelled-strict k has)) (λ one. absurd (false≢true one))
+-- ---- the payload
 
-module _ (n k : ℕ) (w out : List ℕ) (r : Ready n k w out) where
+valid-two : (f : ℕ) (v : List Letter) → hasLabels f ≡ true → valid f v ≡ true → valid 2 v ≡ true
+unfolding isFamily elem
+valid-two f v has e = valid-of 2 v refl (valid-fits f v e) (valid-strict f v e (labelled-strict f has)) (λ one. absurd (false≢true one))
+
+module _ (n f at : ℕ) (w out : List ℕ) (r : Ready n f at w out) where
   size : length (lettersIn n w) ≡ n
   size = length-letters n w (let z = r .room in omega arith)
 
@@ -45,53 +59,123 @@ module _ (n k : ℕ) (w out : List ℕ) (r : Ready n k w out) where
 
   counts : (0 < n) × (n % 2 ≡ 0) × (n ≤ 8192)
   counts =
-      let c = count-parts (length v) (valid-fits k v (r .proper)) in
+      let c = count-parts (length v) (valid-fits f v (r .proper)) in
       let s = size in
       (omega arith, subst (λ (m : ℕ). m % 2 ≡ 0) s (c .1), omega arith)
 
   half : 2 * (n / 2) ≡ n
   half = let c = counts in omega arith
 
-  module _ (four : k ≡ 4) where
-    pub letters-asked : (1 ≤ n / 2) × (n / 2 ≤ 4096) × (32 * (n / 2) ≤ length w) × Coded (2 * (n / 2)) w × (recordLength 4 (n / 2) ≤ length out)
+  module _ (four : f ≡ 4) where
+    pub letters-asked : (n / 2 ≤ 4096) × (32 * (n / 2) ≤ length w) × Coded (2 * (n / 2)) w × (at ≤ 65536) × (at + bytesFor (n / 2) 2 ≤ length out)
     letters-asked =
         let c = counts in
         let h = half in
-        (omega arith, omega arith, (let z = r .room in omega arith), rw h (r .coded), rw four at (r .space))
+        let l = family-four f (n / 2) four in
+        let b = r .begins in
+        let s = r .space in
+        (omega arith, (let z = r .room in omega arith), rw h (r .coded), omega arith, omega arith)
 
-    pub letters-laid : (answer : ℕ) (out′ : List ℕ) → letters.Packed (n / 2) w out answer out′ → Recorded n k w out answer w out′
+    pub letters-packed : (out′ : List ℕ) → out′ ≡ placed at (lettersPayload (lettersIn (2 * (n / 2)) w)) out → Packed n f at w out w out′
     unfolding encodePayload
-    letters-laid answer out′ u =
-        let h = half in
-        record { answered = rw four (u .answered); filled = rw four (rw h at (u .filled)); kept = refl }
+    letters-packed out′ e = let h = half in record { filled = rw four (rw h at e); kept = refl }
 
-  labelled : k ≢ 4 → hasLabels k ≡ true
-  labelled = labelled-other k (r .kind)
+  labelled : f ≢ 4 → hasLabels f ≡ true
+  labelled = labelled-other f (r .is-family)
 
-  pub word-asked : k ≢ 4 → (valid 2 (lettersIn n w) ≡ true) × (16 * n ≤ length w)
-  word-asked d = (valid-two k (lettersIn n w) (labelled d) (r .proper), r .room)
+  pub word-asked : f ≢ 4 → (valid 2 (lettersIn n w) ≡ true) × (16 * n ≤ length w)
+  word-asked d = (valid-two f (lettersIn n w) (labelled d) (r .proper), r .room)
 
-  module _ (d : k ≢ 4) (w₁ : List ℕ) (t : Encoded n w w₁) where
-    pub bytes-asked : (hasLabels k ≡ true) × (1 ≤ n / 2) × (n / 2 ≤ 4096) × (32 * (n / 2) ≤ length w₁) × (recordLength k (n / 2) ≤ length out)
-        × (allBelow 2 (workBits (2 * (n / 2)) w₁) ≡ true) × (allBelow (labelBase k) (workLabels (2 * (n / 2)) w₁) ≡ true)
+  module _ (d : f ≢ 4) (w₁ : List ℕ) (t : Encoded n w w₁) where
+    abbrev bits : List ℕ
+    bits = workBits (2 * (n / 2)) w₁
+
+    abbrev labels : List ℕ
+    labels = workLabels (2 * (n / 2)) w₁
+
+    pub bytes-asked : (hasLabels f ≡ true) × (n / 2 ≤ 4096) × (32 * (n / 2) ≤ length w₁) × (at ≤ 65536) × (at + length (payload f (n / 2) bits labels) ≤ length out)
+        × (allBelow 2 bits ≡ true) × (allBelow (labelBase f) labels ≡ true)
     bytes-asked =
         let c = counts in
-        let h = half in (
+        let h = half in
+        let b = r .begins in
+        let s = r .space in
+        let l = payload-length f (n / 2) bits labels (labelled d) in (
           labelled d,
           omega arith,
-          omega arith,
           (let z = r .room in let e = t .kept in omega arith),
-          r .space,
+          omega arith,
+          omega arith,
           ap (λ (m : ℕ). allBelow 2 (workBits m w₁)) h ∙ ap (allBelow 2) (t .bits) ∙ bits-below false (lettersIn n w),
-          ap (λ (m : ℕ). allBelow (labelBase k) (workLabels m w₁)) h ∙ ap (allBelow (labelBase k)) (t .labels)
-              ∙ labels-bound k (lettersIn n w) (valid-plain k (lettersIn n w) (r .proper)),
+          ap (λ (m : ℕ). allBelow (labelBase f) (workLabels m w₁)) h ∙ ap (allBelow (labelBase f)) (t .labels)
+              ∙ labels-bound f (lettersIn n w) (valid-plain f (lettersIn n w) (r .proper)),
         )
 
-    pub laid : (answer : ℕ) (out′ : List ℕ) → Packed k (n / 2) w₁ out answer out′ → Recorded n k w out answer w₁ out′
+    pub bytes-packed : (out′ : List ℕ) → out′ ≡ placed at (payload f (n / 2) bits labels) out → Packed n f at w out w₁ out′
     unfolding encodePayload encodeLabelled
-    laid answer out′ u = record {
-      answered = u .answered;
-      filled = u .filled ∙ ap (λ (m : ℕ). front (headed k (n / 2) (payload k (n / 2) (workBits m w₁) (workLabels m w₁))) out) half
-          ∙ rw (ne-eqb k 4 d, t .bits, t .labels, size);
+    bytes-packed out′ e = record {
+      filled = e ∙ ap (λ (m : ℕ). placed at (payload f (n / 2) (workBits m w₁) (workLabels m w₁)) out) half ∙ rw (ne-eqb f 4 d, t .bits, t .labels, size);
       kept = t .kept;
     }
+
+-- ---- the record
+
+module _ (k : ℕ) (p : Plan) (w out : List ℕ) (r : ToLay k p w out) where
+  abbrev m : ℕ
+  m = edges (p .rotation)
+
+  letters : lettersIn (darts p) w ≡ word p
+  letters = letters-code (darts p) w (word p) (r .letters)
+
+  sized : Sized (family k) m (payloadOf (family k) p)
+  sized = record-sized k (coderOf k p (r .fits)) p (r .fits)
+
+  range : (7 ≤ recordLength k m) × (recordLength k m ≤ 2056)
+  range = recordLength-range k m (sized .some-edge) (sized .few-edges)
+
+  pub small : (darts p ≤ 8192) × (recordLength k m < 65536)
+  small = let z = range in (count-parts (darts p) (fit-parts k p (r .fits) .count) .2, omega arith)
+
+  pub mapped : storesOutside k ≡ true → Mapped p w
+  mapped s = record { fits = fit-widest k p (r .fits) s; room = r .room; letters = r .letters; names = r .names }
+
+  pub head-room : headLength k ≤ length out
+  unfolding recordLength
+  head-room = let z = r .space in omega arith
+
+  pub payload-asked : (f at : ℕ) (out₁ : List ℕ) → f ≡ family k → at ≡ headLength k → length out₁ ≡ length out → Ready (darts p) f at w out₁
+  unfolding recordLength edges
+  payload-asked f at out₁ of e same =
+      let z = r .space in
+      let h = headLength-range k in
+      rw of (record {
+        is-family = kind-family k (fit-parts k p (r .fits) .kind);
+        coded = r .letters ∙ ap (map code) (sym letters);
+        proper = ap (valid (family k)) letters ∙ fit-valid k p (r .fits);
+        room = r .room;
+        begins = omega arith;
+        space = omega arith;
+      })
+
+  module _ (x : ℕ) (stored : storesOutside k ≡ true → x ≡ standardFace p (p .outside)) where
+    extra : extraBytes k x ≡ outsideBytes k p
+    unfolding extraBytes outsideBytes
+    extra = go (storesOutside k) stored
+      where
+        go : (b : Bool) → (b ≡ true → x ≡ standardFace p (p .outside)) → cond b (le16 x) [] ≡ cond b (le16 (standardFace p (p .outside))) []
+        go true s = ap le16 (s refl)
+        go false s = refl
+
+    pub recorded : (total f at : ℕ) (out₁ w₂ out₂ : List ℕ) → total ≡ recordLength k m → f ≡ family k
+        → Headed total k m x out at out₁ → Packed (darts p) f at w out₁ w₂ out₂ → Recorded k p w out total w₂ out₂
+    unfolding recordOf recordLength
+    recorded total f at out₁ w₂ out₂ t of h q =
+        let whole = payload-of-word k p (r .fits) in
+        let l = sized .long in
+        let z = r .space in
+        record {
+          answered = t;
+          filled = head-payload k m x total at (payloadOf (family k) p) out out₁ out₂ (omega arith) (omega arith) h (q .filled ∙ rw (of, letters, sym whole))
+              ∙ ap (λ (bs : List ℕ). front (headed k m (bs ++ payloadOf (family k) p)) out) extra;
+          kept = q .kept;
+        }

@@ -2,32 +2,41 @@
 --
 --   refusal-split        writing's refusal is the early one, else the late one
 --   early-not-ten        an early refusal is not 10
---   two, three, four, six, seven, eight, passed   the early refusals, test by test
+--   not-below            a dart that is none of n
+--   two, three, four, seventeen, six, seven, eight, passed   the early refusals, test by test
 --   Passed, early-parts  what a call that passes them is handed
 use Prim.Native.Nat.{ℕ, _*_, _≤_, _<_}
 use native.Mathlib.Omega.{arith}
-use mathlib.Core.Path.{_≡_, refl}
-use mathlib.Core.Bool.{true, false, cond}
-use lib.Dec.{eqb}
-use borrow.Author.Tests.{lt-ltb, le-ltb, ltb-true, ltb-false, not-false}
-use Rattle.model.specs.Numbers.{firstRefusal, isPermutation}
-use Rattle.model.specs.Map.{Plan, darts, edges, isKind, dartCountFits}
+use mathlib.Core.Path.{_≡_, refl, sym, ap, _∙_}
+use mathlib.Core.Bool.{true, false, not, cond}
+use mathlib.Core.List.{[], _∷_}
+use lib.Dec.{eqb, ltb, leb}
+use borrow.Author.Tests.{lt-ltb, le-ltb, le-leb, ltb-true, ltb-false, leb-true, not-false}
+use Rattle.model.specs.Numbers.{firstRefusal, refuse, isPermutation}
+use Rattle.model.specs.Map.{Plan, darts, edges, isKind, family, dartCountFits, outsideRefused}
 use Rattle.model.specs.Record.{recordLength}
 use Rattle.model.specs.Calls.{earlyRefusals, lateRefusals, writeRefusal}
+use Rattle.model.proofs.Booleans.{not-intro}
 use Rattle.model.proofs.Fitness.{even-darts}
 use Rattle.model.proofs.Refusals.{none-holds, first-lacks, first-append}
+use Rattle.orbits.proofs.Order.{lt-or-le}
 use Rattle.fitting.specs.Judged.{lateRefusal}
 use Rattle.writing.specs.Early.{earlyRefusal}
 
-pub refusal-split : (k : ℕ) (p : Plan) (wl ol : ℕ) → writeRefusal k p wl ol ≡ cond (eqb (earlyRefusal k p wl ol) 0) (lateRefusal k p) (earlyRefusal k p wl ol)
+pub refusal-split : (k : ℕ) (p : Plan) (wl ol : ℕ) → writeRefusal k p wl ol ≡ cond (eqb (earlyRefusal k p wl ol) 0) (lateRefusal (family k) p) (earlyRefusal k p wl ol)
 unfolding writeRefusal earlyRefusal earlyRefusals lateRefusal
-refusal-split k p wl ol = first-append (earlyRefusals k p wl ol) (lateRefusals k p) refl
+refusal-split k p wl ol = first-append (earlyRefusals k p wl ol) (lateRefusals (family k) p) refl
 
 pub early-not-ten : (k : ℕ) (p : Plan) (wl ol : ℕ) → eqb (earlyRefusal k p wl ol) 10 ≡ false
 unfolding earlyRefusal earlyRefusals
 early-not-ten k p wl ol = first-lacks 10 (earlyRefusals k p wl ol) refl refl
 
 -- ---- the early refusals, test by test
+
+pub not-below : (n d : ℕ) → leb n d ≡ not (ltb d n)
+not-below n d = lt-or-le d n
+    (λ l. not-intro (leb n d) (λ e. let z = leb-true n d e in absurd (omega arith)) ∙ sym (ap not (lt-ltb d n l)))
+    (λ l. le-leb n d l ∙ sym (ap not (le-ltb d n l)))
 
 module _ (k : ℕ) (p : Plan) (wl ol : ℕ) where
   pub two : isKind k ≡ false → 2 ≡ earlyRefusal k p wl ol
@@ -45,25 +54,37 @@ module _ (k : ℕ) (p : Plan) (wl ol : ℕ) where
       four e = rw (h2, h3, le-ltb (p .root) (darts p) e)
 
       module _ (h4 : p .root < darts p) where
-        pub six : isPermutation (p .rotation) ≡ false → 6 ≡ earlyRefusal k p wl ol
+        pub seventeen : outsideRefused k p ≡ true → 17 ≡ earlyRefusal k p wl ol
         unfolding earlyRefusal earlyRefusals firstRefusal
-        six e = rw (h2, h3, lt-ltb (p .root) (darts p) h4, e)
+        seventeen e = rw (h2, h3, lt-ltb (p .root) (darts p) h4, e)
 
-        module _ (h6 : isPermutation (p .rotation) ≡ true) where
-          pub seven : wl < 32 * edges (p .rotation) → 7 ≡ earlyRefusal k p wl ol
+        -- the refusals that follow, once these are passed
+        module _ (h17 : outsideRefused k p ≡ false) where
+          rest : earlyRefusal k p wl ol ≡ firstRefusal
+              (refuse 6 (not (isPermutation (p .rotation)))
+              ∷ refuse 7 (ltb wl (32 * edges (p .rotation)))
+              ∷ refuse 8 (ltb ol (recordLength k (edges (p .rotation))))
+              ∷ [])
           unfolding earlyRefusal earlyRefusals firstRefusal
-          seven e = rw (h2, h3, lt-ltb (p .root) (darts p) h4, h6, lt-ltb wl (32 * edges (p .rotation)) e)
+          rest = rw (h2, h3, lt-ltb (p .root) (darts p) h4, h17)
 
-          module _ (h7 : 32 * edges (p .rotation) ≤ wl) where
-            pub eight : ol < recordLength k (edges (p .rotation)) → 8 ≡ earlyRefusal k p wl ol
-            unfolding earlyRefusal earlyRefusals firstRefusal
-            eight e =
-                rw (h2, h3, lt-ltb (p .root) (darts p) h4, h6, le-ltb wl (32 * edges (p .rotation)) h7, lt-ltb ol (recordLength k (edges (p .rotation))) e)
+          pub six : isPermutation (p .rotation) ≡ false → 6 ≡ earlyRefusal k p wl ol
+          unfolding firstRefusal
+          six e = rw (rest, e)
 
-            pub passed : recordLength k (edges (p .rotation)) ≤ ol → 0 ≡ earlyRefusal k p wl ol
-            unfolding earlyRefusal earlyRefusals firstRefusal
-            passed e =
-                rw (h2, h3, lt-ltb (p .root) (darts p) h4, h6, le-ltb wl (32 * edges (p .rotation)) h7, le-ltb ol (recordLength k (edges (p .rotation))) e)
+          module _ (h6 : isPermutation (p .rotation) ≡ true) where
+            pub seven : wl < 32 * edges (p .rotation) → 7 ≡ earlyRefusal k p wl ol
+            unfolding firstRefusal
+            seven e = rw (rest, h6, lt-ltb wl (32 * edges (p .rotation)) e)
+
+            module _ (h7 : 32 * edges (p .rotation) ≤ wl) where
+              pub eight : ol < recordLength k (edges (p .rotation)) → 8 ≡ earlyRefusal k p wl ol
+              unfolding firstRefusal
+              eight e = rw (rest, h6, le-ltb wl (32 * edges (p .rotation)) h7, lt-ltb ol (recordLength k (edges (p .rotation))) e)
+
+              pub passed : recordLength k (edges (p .rotation)) ≤ ol → 0 ≡ earlyRefusal k p wl ol
+              unfolding firstRefusal
+              passed e = rw (rest, h6, le-ltb wl (32 * edges (p .rotation)) h7, le-ltb ol (recordLength k (edges (p .rotation))) e)
 
 -- ---- what a call that passes is handed
 

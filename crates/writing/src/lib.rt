@@ -1,13 +1,29 @@
-// The public call of writing: the refusals in document 01's order, the record, and a cleared work area.
+// The public call of writing: the refusals in the papers' order, the record, and a cleared work area.
 use fitting::Verdict;
 use model::Written;
 ghost use mathlib.Core.Path.{_≡_};
+ghost use mathlib.Core.Bool.{true, not, _&&_};
+ghost use lib.Dec.{ltb};
+ghost use Rattle.model.specs.Map.{storesOutside};
+ghost use Rattle.model.specs.Traversal.{standardFace};
 ghost use Rattle.model.specs.Calls.{Wrote};
-ghost use Rattle.writing.specs.Early.{earlyRefusal, Ready, Recorded, Made};
+ghost use Rattle.outside.specs.Numbered.{Mapped};
+ghost use Rattle.writing.specs.Early.{earlyRefusal, Made};
+ghost use Rattle.writing.specs.Laid.{Ready, Packed, ToLay, Recorded};
 
-// The refusals that need no work area: 2, 3, 4, 6, 7, 8.
-fn early(order: &[u16], root: u16, kind: u16, room: usize, space: usize) -> u16
-    ensures { λ r. ⌜ r ≡ earlyRefusal kind (record { rotation = now (order .entry); root = root }) room space ⌝ }
+// The kind stores the outside, and this is none of n darts.
+fn outside_refused(kind: u16, outside: u16, n: usize) -> bool
+    ensures { λ r. ⌜ r ≡ (storesOutside kind && not (ltb outside n)) ⌝ }
+{
+    if heads::stores_outside(kind) {
+        return outside as usize >= n;
+    }
+    false
+}
+
+// The refusals that need no work area: 2, 3, 4, 17, 6, 7, 8.
+fn early(order: &[u16], root: u16, outside: u16, kind: u16, room: usize, space: usize) -> u16
+    ensures { λ r. ⌜ r ≡ earlyRefusal kind (record { rotation = now (order .entry); root = root; outside = outside }) room space ⌝ }
 {
     if !heads::is_kind(kind) {
         return 2;
@@ -18,6 +34,9 @@ fn early(order: &[u16], root: u16, kind: u16, room: usize, space: usize) -> u16
     }
     if root as usize >= n {
         return 4;
+    }
+    if outside_refused(kind, outside, n) {
+        return 17;
     }
     if !permutation::is_permutation(order) {
         return 6;
@@ -32,41 +51,75 @@ fn early(order: &[u16], root: u16, kind: u16, room: usize, space: usize) -> u16
     0
 }
 
-// The record of a plan that fits, whose word is in the work area.
-fn laid_out(w: &mut [u16], n: usize, kind: u16, out: &mut [u8]) -> u16
-    requires { ⌜ Ready n kind (now w) (now out) ⌝ }
-    ensures { λ r. ⌜ Recorded n kind (now (w .entry)) (now (out .entry)) r (now (w .exit)) (now (out .exit)) ⌝ }
+// The payload of a plan of n darts whose word is in the work area, from place at on.
+fn put_payload(w: &mut [u16], n: usize, family: u16, out: &mut [u8], at: usize)
+    requires { ⌜ Ready n family at (now w) (now out) ⌝ }
+    ensures { λ _. ⌜ Packed n family at (now (w .entry)) (now (out .entry)) (now (w .exit)) (now (out .exit)) ⌝ }
 {
-    if kind == 4 {
-        return letter_packer::pack(w, n / 2, out);
+    if family == 4 {
+        letter_packer::put_payload(w, n / 2, out, at);
+        return;
     }
     encoder::encode(w, n);
-    packer::pack(w, kind, n / 2, out)
+    packer::put_payload(w, family, n / 2, out, at);
+}
+
+// The number of the outside in the record; 0 in a kind without it.
+fn stored(order: &[u16], root: u16, outside: u16, kind: u16, w: &[u16]) -> u16
+    requires { ⌜ (storesOutside kind ≡ true → Mapped (record { rotation = now order; root = root; outside = outside }) (now w)) ⌝ }
+    ensures { λ r. ⌜ (storesOutside kind ≡ true → r ≡ standardFace (record { rotation = now (order .entry); root = root; outside = outside }) outside) ⌝ }
+{
+    if heads::stores_outside(kind) {
+        return outside::number(order, root as usize, outside as usize, w);
+    }
+    0
+}
+
+// The record of a plan that fits, whose word and faces are in the work area.
+fn laid_out(order: &[u16], root: u16, outside: u16, kind: u16, w: &mut [u16], out: &mut [u8]) -> u16
+    requires { ⌜ ToLay kind (record { rotation = now order; root = root; outside = outside }) (now w) (now out) ⌝ }
+    ensures { λ r. ⌜ Recorded kind (record { rotation = now (order .entry); root = root; outside = outside })
+        (now (w .entry)) (now (out .entry)) r (now (w .exit)) (now (out .exit)) ⌝ }
+{
+    let n = order.len();
+    let m = (n / 2) as u16;
+    let x = stored(order, root, outside, kind, w);
+    let length = heads::record_length(kind, m) as u16;
+    let at = packer::put_head(out, length, kind, m, x);
+    put_payload(w, n, heads::family(kind), out, at);
+    length
 }
 
 // The answer and the output, before the work area is cleared.
-fn made(order: &[u16], root: u16, kind: u16, w: &mut [u16], out: &mut [u8]) -> Written
-    ensures { λ r. ⌜ Made kind (record { rotation = now (order .entry); root = root })
+fn made(order: &[u16], root: u16, outside: u16, kind: u16, w: &mut [u16], out: &mut [u8]) -> Written
+    ensures { λ r. ⌜ Made kind (record { rotation = now (order .entry); root = root; outside = outside })
         (now (w .entry)) (now (out .entry)) r (now (w .exit)) (now (out .exit)) ⌝ }
 {
-    let r = early(order, root, kind, w.len(), out.len());
+    let r = early(order, root, outside, kind, w.len(), out.len());
     if r != 0 {
         return Written::Refused(r);
     }
-    let v = fitting::judge(order, root as usize, kind, w);
+    let v = fitting::judge(order, root as usize, heads::family(kind), w);
     match v {
         Verdict::Refused(x) => Written::Refused(x),
         Verdict::NotPlanar(x) => Written::NotPlanar(x),
-        Verdict::Fits(_) => Written::Length(laid_out(w, order.len(), kind, out)),
+        Verdict::Fits(_) => Written::Length(laid_out(order, root, outside, kind, w, out)),
     }
 }
 
 // A plan is written as a record of this kind. Any content and any length of what is lent.
-pub fn write(order: &[u16], root: u16, kind: u16, work: &mut [u16], out: &mut [u8]) -> Written
-    ensures { λ r. ⌜ Wrote kind (record { rotation = now (order .entry); root = root })
+pub fn write(
+    order: &[u16],
+    root: u16,
+    outside: u16,
+    kind: u16,
+    work: &mut [u16],
+    out: &mut [u8],
+) -> Written
+    ensures { λ r. ⌜ Wrote kind (record { rotation = now (order .entry); root = root; outside = outside })
         (now (work .entry)) (now (out .entry)) r (now (work .exit)) (now (out .exit)) ⌝ }
 {
-    let r = made(order, root, kind, work, out);
+    let r = made(order, root, outside, kind, work, out);
     work::clear(work);
     r
 }

@@ -25,13 +25,13 @@ copy-front-requires c κs =
     let core = m .before .before .before .before in
     let at = core .before .before in
     let out = at .before .before .before .before .before .args .out .now in
-    edges-room _ _ out (clear at) _ _ _ (m .m .given .1) (core .read-core .ensures) (core .read-core .kept .1 .0)
+    edges-room _ _ out (clear at) _ _ _ _ (m .m .given .1) (core .read-core .ensures) (core .read-core .kept .1 .0)
 
 returns-2 : tie.Need-returns-2
 returns-2 c =
     let m = c .before .before .before .before .before .before in
     let core = m .before .before .before .before in
-    out-read _ _ _ (clear (core .before .before)) _ _ _ _ (m .m .given .1) (core .read-core .ensures) (c .before .before .copy-front .ensures)
+    out-read _ _ _ (clear (core .before .before)) _ _ _ _ _ (m .m .given .1) (core .read-core .ensures) (c .before .before .copy-front .ensures)
 
 returns-3 : tie.Need-returns-3
 returns-3 c =

@@ -1,39 +1,50 @@
-use Rattle.writing.proofs.Laying.{letters-asked, letters-laid, word-asked, bytes-asked, laid}
+use native.Mathlib.Omega.{arith}
+use Rattle.model.specs.Map.{edges}
+use Rattle.writing.proofs.Laying.{small, mapped, head-room, payload-asked, recorded}
 use borrow.Author.Needs.{needs}
 use Rattle.writing.proofs.laid_out.Statement.{statement}
 use Rattle.writing.proofs.laid_out.Tie as tie
 
-pack-requires : tie.Need-pack-requires
-pack-requires c κs = letters-asked _ _ _ _ (c .before .before .before .before .before .pre) (c .before .before .if1 .taken)
+cast-m : tie.Need-cast-m
+cast-m c = let s = small _ _ _ _ (c .before .before .before .pre) in omega arith
+
+stored-requires : tie.Need-stored-requires
+stored-requires c κs = mapped _ _ _ _ (c .before .before .before .before .pre)
+
+cast-length : tie.Need-cast-length
+unfolding edges
+cast-length c = let s = small _ _ _ _ (c .before .before .before .before .before .before .pre) in omega (arith, c .record-length .ensures)
+
+put-head-requires : tie.Need-put-head-requires
+put-head-requires c κs = head-room _ _ _ _ (c .before .before .before .before .before .before .before .pre)
+
+put-payload-requires : tie.Need-put-payload-requires
+put-payload-requires c κs =
+    let h = c .before .before .before .before .before in
+    let st = h .before .before .before .before .before .before .before .before in
+    payload-asked _ _ _ _ (st .pre) _ _ _ (c .before .family .ensures) (h .put-head .ensures .begins) (h .put-head .kept .0)
 
 returns : tie.Need-returns
+unfolding edges
 returns c =
-    letters-laid _ _ _ _ (c .before .before .before .before .before .before .before .before .pre) (c .before .before .before .before .before .if1 .taken) _ _
-    (c .before .before .pack .ensures)
-
-encode-requires : tie.Need-encode-requires
-encode-requires c κs = word-asked _ _ _ _ (c .before .before .before .before .pre) (c .before .if1 .left)
-
-pack-requires-2 : tie.Need-pack-requires-2
-pack-requires-2 c κs =
-    let e = c .before .before .before .before in
-    bytes-asked _ _ _ _ (e .before .before .before .before .before .pre) (e .before .before .if1 .left) _ (e .encode .ensures)
-
-returns-2 : tie.Need-returns-2
-returns-2 c =
-    let e = c .before .before .before .before .before .before .before in
-    laid _ _ _ _ (e .before .before .before .before .before .pre) (e .before .before .if1 .left) _ (e .encode .ensures) _ _ (c .before .before .pack2 .ensures)
+    let q = c .before .before .before .before in
+    let h = q .before .before .before .before .before .before in
+    let x = h .before .before .before in
+    let st = x .before .before .before .before .before in
+    recorded _ _ _ _ (st .pre) _ (x .stored .ensures) _ _ _ _ _ _ (h .before .before .record-length .ensures) (q .before .before .family .ensures)
+    (h .put-head .ensures) (q .put-payload .ensures)
 
 pub laid-out-spec : {M : Type 1} → statement M
 laid-out-spec =
     tie.close
     (tie.spec
-    pack-requires
+    cast-m
+    stored-requires
+    (λ c κs. search needs)
+    cast-length
+    put-head-requires
+    (λ c κs. search needs)
+    put-payload-requires
     (λ c. search needs)
     (λ c. search needs)
-    returns
-    encode-requires
-    pack-requires-2
-    (λ c. search needs)
-    (λ c. search needs)
-    returns-2)
+    returns)

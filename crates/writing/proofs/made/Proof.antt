@@ -3,23 +3,25 @@ use mir.Facts.{toZ-ofZ}
 use mir.Syntax.{w32}
 use mir.Val.{SFits}
 use Rattle.writing.proofs.Refusing.{early-parts}
-use Rattle.writing.proofs.Making.{turned-away, Told, judged-refused, judged-curved, to-lay, made}
+use Rattle.writing.proofs.Making.{turned-away, Told, tell, judged-refused, judged-curved, to-lay, made}
 use borrow.Author.Needs.{needs}
 use Rattle.writing.proofs.made.Statement.{statement}
 use Rattle.writing.proofs.made.Tie as tie
 
 -- the plan is judged
-told : (c : tie.After-judge) → let a = c .before .before .before .before .before .before .before in
-    Told (a .args .kind) (record { rotation = a .args .order .now; root = a .args .root }) (a .args .w .now) (a .args .out .now) (c .judge .result)
-    (c .judge .last .1 .1 .1 .0)
-told c = record { passed = sym (c .before .before .before .early .ensures) ∙ c .before .before .if1 .left; judged = c .judge .ensures }
+told : (c : tie.After-judge) → let a = c .before .before .before .before .before .before .before .before in
+    Told (a .args .kind) (record { rotation = a .args .order .now; root = a .args .root; outside = a .args .outside }) (a .args .w .now) (a .args .out .now)
+    (c .judge .result) (c .judge .last .1 .1 .1 .0)
+told c =
+    tell _ (sym (c .before .before .before .before .early .ensures) ∙ c .before .before .before .if1 .left)
+    (c .before .before .family .ensures) (c .judge .ensures)
 
 returns : tie.Need-returns
 returns c = turned-away (c .before .early .ensures) (c .if1 .taken)
 
 judge-requires : tie.Need-judge-requires
 judge-requires c κs =
-    let q = early-parts _ _ _ _ (sym (c .before .before .early .ensures) ∙ c .before .if1 .left) in
+    let q = early-parts _ _ _ _ (sym (c .before .before .before .early .ensures) ∙ c .before .before .if1 .left) in
     (q .count, q .entries, q .root, q .room)
 
 laid-out-requires : tie.Need-laid-out-requires
@@ -44,6 +46,7 @@ made-spec =
     (tie.spec
     (λ c κs. search needs)
     returns
+    (λ c κs. search needs)
     judge-requires
     (λ c. search needs)
     (λ c. search needs)

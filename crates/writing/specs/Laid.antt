@@ -1,0 +1,45 @@
+-- The record of a plan that fits, from what is in the work area.
+--
+--   Ready                a valid word in the work area, and room for its payload
+--   Packed               that payload in the output
+--   ToLay                a fit plan, its word and the names of its faces in the work area, and room for its record
+--   Recorded             that record in the output
+use Prim.Native.Nat.{ℕ, _+_, _*_, _/_, _≤_}
+use mathlib.Core.Path.{_≡_}
+use mathlib.Core.Bool.{true}
+use mathlib.Core.List.{List, map}
+use lib.ListN.{length}
+use Rattle.model.specs.Map.{Plan, darts, edges, isFamily, fit}
+use Rattle.model.specs.Traversal.{code, word}
+use Rattle.model.specs.Record.{payloadLength, recordLength, recordOf}
+use Rattle.model.specs.Calls.{front}
+use Rattle.words.specs.Word.{valid}
+use Rattle.coding.specs.Payloads.{encodePayload}
+use Rattle.work.specs.Map.{LETTERS}
+use Rattle.work.specs.Area.{region, placed}
+use Rattle.work.specs.Letters.{lettersIn, Coded}
+use Rattle.cycles.specs.Cycles.{FacesNamed}
+
+pub record Ready (n f at : ℕ) (w out : List ℕ) : Type 0 where
+  pub is-family : isFamily f ≡ true
+  pub coded : Coded n w
+  pub proper : valid f (lettersIn n w) ≡ true
+  pub room : 16 * n ≤ length w
+  pub begins : at ≤ 8
+  pub space : at + payloadLength f (n / 2) ≤ length out
+
+pub record Packed (n f at : ℕ) (w out w′ out′ : List ℕ) : Type 0 where
+  pub filled : out′ ≡ placed at (encodePayload f (lettersIn n w)) out
+  pub kept : length w′ ≡ length w
+
+pub record ToLay (k : ℕ) (p : Plan) (w out : List ℕ) : Type 0 where
+  pub fits : fit k p ≡ true
+  pub letters : region (LETTERS * darts p) (darts p) w ≡ map code (word p)
+  pub names : FacesNamed (p .rotation) w
+  pub room : 16 * darts p ≤ length w
+  pub space : recordLength k (edges (p .rotation)) ≤ length out
+
+pub record Recorded (k : ℕ) (p : Plan) (w out : List ℕ) (answer : ℕ) (w′ out′ : List ℕ) : Type 0 where
+  pub answered : answer ≡ recordLength k (edges (p .rotation))
+  pub filled : out′ ≡ front (recordOf k p) out
+  pub kept : length w′ ≡ length w
