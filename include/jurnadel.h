@@ -16,7 +16,9 @@
  * Words. A trail is an edge, a trail end a dart, a junction a vertex, an area a face.
  * A plan has m trails and 2m darts; darts 2e and 2e+1 are the two ends of trail e. The
  * turning order is a list of 2m numbers: entry d is the next dart counterclockwise
- * around d's junction. The start is one dart.
+ * around d's junction. The start is one dart. The walk along an area goes from dart d to the
+ * entry at d's opposite end, with the area on the right; each dart is on one such walk. The
+ * outside is a dart too, any on the walk of the area that is the outside of the sheet.
  *
  * Lent buffers. A list or a run of bytes is handed over as a pointer and a number of
  * entries. A caller must see to this, since nothing checks it:
@@ -53,9 +55,9 @@ extern "C" {
 /* ---- Version ---------------------------------------------------------------------- */
 
 #define JURNADEL_VERSION_MAJOR 0
-#define JURNADEL_VERSION_MINOR 5
+#define JURNADEL_VERSION_MINOR 6
 #define JURNADEL_VERSION_PATCH 0
-#define JURNADEL_VERSION "0.5.0"
+#define JURNADEL_VERSION "0.6.0"
 
 /* ---- Sizes ------------------------------------------------------------------------ */
 
@@ -75,26 +77,26 @@ extern "C" {
 #define JURNADEL_AREAS_LEN(m) ((size_t)(m) + 1)
 
 /*
- * A record of this kind (1, 2 or 4) and m trails (1 to 4,096), in bytes. Kind 4 is the longest, but for 1, 2 and 6 trails,
- * where kind 2 has a byte more.
+ * A record of this kind (1, 2, 4, 0x101, 0x102 or 0x104) and m trails (1 to 4,096), in bytes. Kind 0x104 is the longest, but for
+ * 1, 2 and 6 trails, where kind 0x102 has a byte more.
  */
 #define JURNADEL_RECORD_LEN(kind, m) \
-    ((size_t)6 + ((kind) == 1   ? (3 * (size_t)(m) + 7) / 8 \
-                  : (kind) == 2 ? (2 * (size_t)(m) + 7) / 8 + ((size_t)(m) + 4) / 5 \
-                                : ((size_t)(m) + 1) / 2))
+    ((size_t)((kind) & 0x100 ? 8 : 6) + (((kind) & 0xFF) == 1   ? (3 * (size_t)(m) + 7) / 8 \
+                                         : ((kind) & 0xFF) == 2 ? (2 * (size_t)(m) + 7) / 8 + ((size_t)(m) + 4) / 5 \
+                                                                : ((size_t)(m) + 1) / 2))
 
 /* Lengths that serve every plan and every record. */
-#define JURNADEL_MAX_WORK_LEN JURNADEL_WORK_LEN(JURNADEL_MAX_TRAILS)        /* 131,072 numbers, 262,144 bytes */
-#define JURNADEL_MAX_ORDER_LEN JURNADEL_ORDER_LEN(JURNADEL_MAX_TRAILS)      /* 8,192 numbers, 16,384 bytes */
-#define JURNADEL_MAX_AREAS_LEN JURNADEL_AREAS_LEN(JURNADEL_MAX_TRAILS)      /* 4,097 numbers, 8,194 bytes */
-#define JURNADEL_MAX_RECORD_LEN JURNADEL_RECORD_LEN(4, JURNADEL_MAX_TRAILS) /* 2,054 bytes */
+#define JURNADEL_MAX_WORK_LEN JURNADEL_WORK_LEN(JURNADEL_MAX_TRAILS)            /* 131,072 numbers, 262,144 bytes */
+#define JURNADEL_MAX_ORDER_LEN JURNADEL_ORDER_LEN(JURNADEL_MAX_TRAILS)          /* 8,192 numbers, 16,384 bytes */
+#define JURNADEL_MAX_AREAS_LEN JURNADEL_AREAS_LEN(JURNADEL_MAX_TRAILS)          /* 4,097 numbers, 8,194 bytes */
+#define JURNADEL_MAX_RECORD_LEN JURNADEL_RECORD_LEN(0x104, JURNADEL_MAX_TRAILS) /* 2,056 bytes */
 
 /* The same as functions, for callers that know kind and m only when they run. */
 
 /* The work area, in 16-bit numbers: 32 * trails. */
 size_t jurnadel_work_length(uint16_t trails);
 
-/* The record, in bytes; 0 where there is none: the kind is not 1, 2 or 4, or trails is 0 or above 4,096. */
+/* The record, in bytes; 0 where there is none: the kind is not one of the six, or trails is 0 or above 4,096. */
 uint16_t jurnadel_record_length(uint16_t kind, uint16_t trails);
 
 /* ---- Refusals --------------------------------------------------------------------- */
@@ -102,7 +104,7 @@ uint16_t jurnadel_record_length(uint16_t kind, uint16_t trails);
 enum {
     JURNADEL_DONE = 0,            /* not refused */
     JURNADEL_RECORD_CUT = 1,      /* The record has fewer than 6 bytes, or its length field isn't the number of bytes lent. */
-    JURNADEL_BAD_KIND = 2,        /* The kind is not 1, 2 or 4. */
+    JURNADEL_BAD_KIND = 2,        /* The kind is not 1, 2, 4, 101h, 102h or 104h. */
     JURNADEL_BAD_COUNT = 3,       /* The dart count is 0, odd or above 8,192; in a record, m is 0 or above 4,096. */
     JURNADEL_BAD_START = 4,       /* The start is not below the dart count. */
     JURNADEL_BAD_LENGTH = 5,      /* The length is not the one for this kind and m. */
@@ -111,12 +113,13 @@ enum {
     JURNADEL_SHORT_OUTPUT = 8,    /* The output is shorter than the record, than 2m entries, or than the list of areas. */
     JURNADEL_NOT_CONNECTED = 9,   /* The plan is not connected. */
     JURNADEL_NOT_PLANAR = 10,     /* It is not planar; this answer also gives the characteristic, as a signed number. */
-    JURNADEL_HAS_LOOP = 11,       /* Kind 1 or 2, and it has a loop. */
-    JURNADEL_HAS_DEGREE_ONE = 12, /* Kind 1, and a junction other than the start's has degree one. */
+    JURNADEL_HAS_LOOP = 11,       /* Kind 1, 2, 101h or 102h, and it has a loop. */
+    JURNADEL_HAS_DEGREE_ONE = 12, /* Kind 1 or 101h, and a junction other than the start's has degree one. */
     JURNADEL_NO_FIT_PLAN = 13,    /* No fit plan of this kind has this record. */
     JURNADEL_SHELF_BROKEN = 14,   /* The used length exceeds the shelf, or the used bytes are not records end to end that each pass 1, 2, 3 and 5. */
     JURNADEL_NO_SUCH_RECORD = 15, /* The shelf holds no record with this number, counting from 0. */
-    JURNADEL_SHELF_FULL = 16      /* The record isn't on the shelf and exceeds the bytes past the used length. */
+    JURNADEL_SHELF_FULL = 16,     /* The record isn't on the shelf and exceeds the bytes past the used length. */
+    JURNADEL_BAD_OUTSIDE = 17     /* Kind 101h, 102h or 104h, and the outside dart is not below the dart count. */
 };
 
 /* ---- Plans and records ------------------------------------------------------------ */
@@ -126,18 +129,21 @@ enum {
  *
  *   order, darts         the turning order, darts = 2m entries
  *   start                the start dart
+ *   outside              the outside dart, any of its area; kinds 1, 2 and 4 ignore it
  *   kind                 1: no loop, no junction of degree one but the start's; 2: no loop;
- *                        4: any connected planar plan
+ *                        4: any connected planar plan; 0x101, 0x102, 0x104 (101h, 102h, 104h):
+ *                        the same with the outside area, in two bytes more
  *   work, work_len       JURNADEL_WORK_LEN(m) numbers or more, any content; zeros on return
  *   output, output_len   JURNADEL_RECORD_LEN(kind, m) bytes or more; the first *length are filled
  *   length               the record's length; 0 if refused
  *   characteristic       of refusal 10: junctions minus trails plus areas; else 0
  *
- * Refusals: 2, 3, 4, 6, 7, 8, 9, 10, then 11 in kinds 1 and 2 and 12 in kind 1. Two plans that are
- * not refused get equal bytes in one kind exactly when one is the other with its darts renumbered:
- * start to start, opposite ends to opposite ends, turning order to turning order.
+ * Refusals: 2, 3, 4, 17 in kinds 101h, 102h and 104h, 6, 7, 8, 9, 10, then 11 in kinds 1, 2, 101h
+ * and 102h and 12 in kinds 1 and 101h. Two plans that are not refused get equal bytes in one kind
+ * exactly when one is the other with its darts renumbered: start to start, opposite ends to opposite
+ * ends, turning order to turning order; in kinds 101h, 102h and 104h outside area to outside area too.
  */
-uint16_t jurnadel_write(const uint16_t *order, size_t darts, uint16_t start, uint16_t kind,
+uint16_t jurnadel_write(const uint16_t *order, size_t darts, uint16_t start, uint16_t outside, uint16_t kind,
                         uint16_t *work, size_t work_len, uint8_t *output, size_t output_len,
                         uint16_t *length, int32_t *characteristic);
 
@@ -148,12 +154,15 @@ uint16_t jurnadel_write(const uint16_t *order, size_t darts, uint16_t start, uin
  *   work, work_len       JURNADEL_WORK_LEN(m) numbers or more, any content; zeros on return
  *   order, order_len     JURNADEL_ORDER_LEN(m) numbers or more; the first 2m are filled with the turning order
  *   trails               m; 0 if refused
+ *   outside              the lowest dart of the outside area, which in kinds 1, 2 and 4 is the
+ *                        start's: 0; 0 if refused
  *
- * Refusals: 1, 2, 3, 5, 7, 8, 13. Writing the plan in the record's kind gives the record.
+ * Refusals: 1, 2, 3, 5, 7, 8, 13. Writing the plan with this outside in the record's kind gives the
+ * record; a stored outside that isn't the lowest dart of an area is 13.
  */
 uint16_t jurnadel_read(const uint8_t *record, size_t record_len,
                        uint16_t *work, size_t work_len, uint16_t *order, size_t order_len,
-                       uint16_t *trails);
+                       uint16_t *trails, uint16_t *outside);
 
 /*
  * Tells how long each area of a plan is: its number of darts. That is the length of a walk

@@ -8,7 +8,7 @@
 static uint16_t work[JURNADEL_WORK_LEN(MAX_TRAILS)];
 static uint16_t order[JURNADEL_ORDER_LEN(MAX_TRAILS)];
 static uint16_t areas[JURNADEL_AREAS_LEN(MAX_TRAILS)];
-static uint8_t record[JURNADEL_RECORD_LEN(4, MAX_TRAILS)];
+static uint8_t record[JURNADEL_RECORD_LEN(0x104, MAX_TRAILS)];
 static uint8_t shelf[64];
 
 static void show(const uint8_t *bytes, size_t length) {
@@ -24,22 +24,23 @@ static void list(const uint16_t *numbers, size_t count) {
 }
 
 int main(void) {
-    static const struct { const char *name; uint16_t kind; size_t darts; uint16_t order[6]; } plans[] = {
-        {"triangle", 1, 6, {5, 2, 1, 4, 3, 0}},
-        {"three parallel trails", 1, 6, {5, 2, 4, 0, 1, 3}},
-        {"dead end inside a pair", 2, 6, {4, 2, 1, 0, 3, 5}},
-        {"triangle, numbered otherwise", 1, 6, {3, 4, 5, 0, 1, 2}},
-        {"one trail in from the start", 1, 6, {0, 2, 5, 4, 3, 1}},
-        {"a loop around a dead end", 4, 6, {2, 1, 4, 0, 3, 5}},
-        {"trails that cross", 4, 6, {3, 2, 4, 5, 1, 0}},
+    static const struct { const char *name; uint16_t kind, outside; size_t darts; uint16_t order[6]; } plans[] = {
+        {"triangle", 1, 0, 6, {5, 2, 1, 4, 3, 0}},
+        {"triangle, the other area outside", 0x101, 5, 6, {5, 2, 1, 4, 3, 0}},
+        {"three parallel trails", 1, 0, 6, {5, 2, 4, 0, 1, 3}},
+        {"dead end inside a pair", 2, 0, 6, {4, 2, 1, 0, 3, 5}},
+        {"triangle, numbered otherwise", 1, 0, 6, {3, 4, 5, 0, 1, 2}},
+        {"one trail in from the start", 1, 0, 6, {0, 2, 5, 4, 3, 1}},
+        {"a loop around a dead end", 4, 0, 6, {2, 1, 4, 0, 3, 5}},
+        {"trails that cross", 4, 0, 6, {3, 2, 4, 5, 1, 0}},
     };
     size_t used = 0, number, at, length;
-    uint16_t record_length, trails, count;
+    uint16_t record_length, trails, outside, count;
     int32_t characteristic;
 
     for (size_t i = 0; i < sizeof plans / sizeof plans[0]; i++) {
-        uint16_t refusal = jurnadel_write(plans[i].order, plans[i].darts, 0, plans[i].kind, work, sizeof work / sizeof work[0],
-                                          record, sizeof record, &record_length, &characteristic);
+        uint16_t refusal = jurnadel_write(plans[i].order, plans[i].darts, 0, plans[i].outside, plans[i].kind,
+                                          work, sizeof work / sizeof work[0], record, sizeof record, &record_length, &characteristic);
         if (refusal != 0) {
             printf("%s: refusal %d, characteristic %d\n", plans[i].name, (int)refusal, (int)characteristic);
             continue;
@@ -58,9 +59,10 @@ int main(void) {
         return 1;
     printf("fetched 1:");
     show(shelf + at, length);
-    if (jurnadel_read(shelf + at, length, work, sizeof work / sizeof work[0], order, sizeof order / sizeof order[0], &trails) != 0)
+    if (jurnadel_read(shelf + at, length, work, sizeof work / sizeof work[0], order, sizeof order / sizeof order[0],
+                      &trails, &outside) != 0)
         return 1;
-    printf("read 1: %d trails, order", (int)trails);
+    printf("read 1: %d trails, outside %d, order", (int)trails, (int)outside);
     list(order, JURNADEL_ORDER_LEN(trails));
     if (jurnadel_area_lengths(order, JURNADEL_ORDER_LEN(trails), work, sizeof work / sizeof work[0],
                               areas, sizeof areas / sizeof areas[0], &count, &characteristic) != 0)

@@ -15,7 +15,7 @@ static int failed, passed;
 /* Dirty, as a maker's memory is; sized by the macros. */
 static uint16_t work[JURNADEL_MAX_WORK_LEN], order[JURNADEL_MAX_ORDER_LEN], list[JURNADEL_MAX_AREAS_LEN];
 static uint8_t output[JURNADEL_MAX_RECORD_LEN];
-static uint16_t length, trails, count;
+static uint16_t length, trails, outside, count;
 static int32_t characteristic;
 
 static void dirty(void) {
@@ -23,7 +23,7 @@ static void dirty(void) {
     memset(order, 0x5a, sizeof order);
     memset(list, 0x5a, sizeof list);
     memset(output, 0xa5, sizeof output);
-    length = trails = count = 0x5a5a;
+    length = trails = outside = count = 0x5a5a;
     characteristic = 0x5a5a;
 }
 
@@ -42,10 +42,10 @@ static int untouched_from(size_t n) {
     return 1;
 }
 
-static uint16_t refusal_of(const uint16_t *rotation, size_t darts, uint16_t start, uint16_t kind, size_t work_len, size_t output_len) {
+static uint16_t refusal_with(uint16_t side, const uint16_t *rotation, size_t darts, uint16_t start, uint16_t kind, size_t work_len, size_t output_len) {
     uint16_t refusal;
     dirty();
-    refusal = jurnadel_write(rotation, darts, start, kind, work, work_len, output, output_len, &length, &characteristic);
+    refusal = jurnadel_write(rotation, darts, start, side, kind, work, work_len, output, output_len, &length, &characteristic);
     CHECK(cleared(work_len));
     CHECK(untouched_from(length));
     CHECK(refusal == 0 || length == 0);
@@ -53,35 +53,49 @@ static uint16_t refusal_of(const uint16_t *rotation, size_t darts, uint16_t star
     return refusal;
 }
 
+/* Where the kind does not ask for the outside dart, there need not be one. */
+static uint16_t refusal_of(const uint16_t *rotation, size_t darts, uint16_t start, uint16_t kind, size_t work_len, size_t output_len) {
+    return refusal_with(kind & 0x100 ? 0 : 0xffff, rotation, darts, start, kind, work_len, output_len);
+}
+
 /* The starred table of document 01, and the lines of document 02. */
 static void records(void) {
-    static const struct { uint16_t kind, m, order[6], length; uint8_t record[8]; } table[] = {
-        {1, 2, {3, 2, 1, 0}, 7, {0x07, 0, 1, 0, 2, 0, 0xC8}},
-        {1, 3, {5, 2, 1, 4, 3, 0}, 8, {0x08, 0, 1, 0, 3, 0, 0xE2, 0x00}},
-        {1, 3, {5, 2, 4, 0, 1, 3}, 8, {0x08, 0, 1, 0, 3, 0, 0xD2, 0x80}},
-        {2, 1, {0, 1}, 8, {0x08, 0, 2, 0, 1, 0, 0x80, 0xA2}},
-        {2, 2, {0, 2, 1, 3}, 8, {0x08, 0, 2, 0, 2, 0, 0xC0, 0x36}},
-        {2, 2, {2, 1, 0, 3}, 8, {0x08, 0, 2, 0, 2, 0, 0xA0, 0xD8}},
-        {2, 2, {3, 2, 1, 0}, 8, {0x08, 0, 2, 0, 2, 0, 0xC0, 0x51}},
-        {2, 3, {4, 2, 1, 0, 3, 5}, 8, {0x08, 0, 2, 0, 3, 0, 0xCC, 0x12}},
-        {1, 3, {0, 2, 5, 4, 3, 1}, 8, {0x08, 0, 1, 0, 3, 0, 0xE1, 0x00}},
-        {4, 1, {1, 0}, 7, {0x07, 0, 4, 0, 1, 0, 0xB0}},
-        {4, 1, {0, 1}, 7, {0x07, 0, 4, 0, 1, 0, 0x10}},
-        {4, 3, {5, 2, 1, 4, 3, 0}, 8, {0x08, 0, 4, 0, 3, 0, 0x09, 0x70}},
-        {4, 3, {5, 2, 4, 0, 1, 3}, 8, {0x08, 0, 4, 0, 3, 0, 0x29, 0xF0}},
-        {4, 3, {0, 2, 5, 4, 3, 1}, 8, {0x08, 0, 4, 0, 3, 0, 0x09, 0xD0}},
+    static const struct { uint16_t kind, outside, m, order[6], length; uint8_t record[10]; } table[] = {
+        {1, 99, 2, {3, 2, 1, 0}, 7, {0x07, 0, 1, 0, 2, 0, 0xC8}},
+        {1, 99, 3, {5, 2, 1, 4, 3, 0}, 8, {0x08, 0, 1, 0, 3, 0, 0xE2, 0x00}},
+        {1, 99, 3, {5, 2, 4, 0, 1, 3}, 8, {0x08, 0, 1, 0, 3, 0, 0xD2, 0x80}},
+        {2, 99, 1, {0, 1}, 8, {0x08, 0, 2, 0, 1, 0, 0x80, 0xA2}},
+        {2, 99, 2, {0, 2, 1, 3}, 8, {0x08, 0, 2, 0, 2, 0, 0xC0, 0x36}},
+        {2, 99, 2, {2, 1, 0, 3}, 8, {0x08, 0, 2, 0, 2, 0, 0xA0, 0xD8}},
+        {2, 99, 2, {3, 2, 1, 0}, 8, {0x08, 0, 2, 0, 2, 0, 0xC0, 0x51}},
+        {2, 99, 3, {4, 2, 1, 0, 3, 5}, 8, {0x08, 0, 2, 0, 3, 0, 0xCC, 0x12}},
+        {1, 99, 3, {0, 2, 5, 4, 3, 1}, 8, {0x08, 0, 1, 0, 3, 0, 0xE1, 0x00}},
+        {4, 99, 1, {1, 0}, 7, {0x07, 0, 4, 0, 1, 0, 0xB0}},
+        {4, 99, 1, {0, 1}, 7, {0x07, 0, 4, 0, 1, 0, 0x10}},
+        {4, 99, 3, {5, 2, 1, 4, 3, 0}, 8, {0x08, 0, 4, 0, 3, 0, 0x09, 0x70}},
+        {4, 99, 3, {5, 2, 4, 0, 1, 3}, 8, {0x08, 0, 4, 0, 3, 0, 0x29, 0xF0}},
+        {4, 99, 3, {0, 2, 5, 4, 3, 1}, 8, {0x08, 0, 4, 0, 3, 0, 0x09, 0xD0}},
+        {0x101, 0, 3, {5, 2, 1, 4, 3, 0}, 10, {0x0A, 0, 1, 1, 3, 0, 0, 0, 0xE2, 0x00}},
+        {0x101, 1, 3, {5, 2, 1, 4, 3, 0}, 10, {0x0A, 0, 1, 1, 3, 0, 1, 0, 0xE2, 0x00}},
+        {0x101, 2, 3, {0, 2, 5, 4, 3, 1}, 10, {0x0A, 0, 1, 1, 3, 0, 0, 0, 0xE1, 0x00}},
+        {0x101, 3, 3, {0, 2, 5, 4, 3, 1}, 10, {0x0A, 0, 1, 1, 3, 0, 3, 0, 0xE1, 0x00}},
+        {0x102, 1, 3, {4, 2, 1, 0, 3, 5}, 10, {0x0A, 0, 2, 1, 3, 0, 1, 0, 0xCC, 0x12}},
+        {0x102, 1, 1, {0, 1}, 10, {0x0A, 0, 2, 1, 1, 0, 0, 0, 0x80, 0xA2}},
+        {0x104, 0, 1, {1, 0}, 9, {0x09, 0, 4, 1, 1, 0, 0, 0, 0xB0}},
+        {0x104, 1, 1, {1, 0}, 9, {0x09, 0, 4, 1, 1, 0, 1, 0, 0xB0}},
     };
-    static uint8_t again[8];
+    static uint8_t again[10];
     size_t i;
     for (i = 0; i < sizeof table / sizeof table[0]; i++) {
         size_t m = table[i].m;
         CHECK(JURNADEL_RECORD_LEN(table[i].kind, m) == table[i].length);
-        CHECK(refusal_of(table[i].order, 2 * m, 0, table[i].kind, JURNADEL_WORK_LEN(m), table[i].length) == JURNADEL_DONE);
+        CHECK(refusal_with(table[i].outside, table[i].order, 2 * m, 0, table[i].kind, JURNADEL_WORK_LEN(m), table[i].length) == JURNADEL_DONE);
         CHECK(length == table[i].length && memcmp(output, table[i].record, length) == 0);
         dirty();
-        CHECK(jurnadel_read(table[i].record, table[i].length, work, JURNADEL_WORK_LEN(m), order, JURNADEL_ORDER_LEN(m), &trails) == JURNADEL_DONE);
+        CHECK(jurnadel_read(table[i].record, table[i].length, work, JURNADEL_WORK_LEN(m), order, JURNADEL_ORDER_LEN(m), &trails, &outside) == JURNADEL_DONE);
         CHECK(trails == m && cleared(JURNADEL_WORK_LEN(m)) && order[2 * m] == 0x5a5a);
-        CHECK(jurnadel_write(order, 2 * m, 0, table[i].kind, work, JURNADEL_WORK_LEN(m), again, sizeof again, &length, &characteristic) == 0);
+        CHECK(outside == (table[i].kind & 0x100 ? table[i].record[6] : 0));
+        CHECK(jurnadel_write(order, 2 * m, 0, outside, table[i].kind, work, JURNADEL_WORK_LEN(m), again, sizeof again, &length, &characteristic) == 0);
         CHECK(length == table[i].length && memcmp(again, table[i].record, length) == 0);
     }
 }
@@ -110,6 +124,48 @@ static void writing(void) {
     CHECK(refusal_of(crossing, 6, 0, 4, 96, 8) == JURNADEL_NOT_PLANAR && characteristic == 0);
 }
 
+/* Kinds 101h, 102h and 104h: each refusal before those that come after it, and the lowest standard dart. */
+static void outsides(void) {
+    static const uint16_t kinds[] = {0x101, 0x102, 0x104};
+    static const uint16_t twice[] = {3, 3, 1, 0}, apart[] = {0, 1, 2, 3}, crossing[] = {3, 2, 4, 5, 1, 0}, triangle[] = {5, 2, 1, 4, 3, 0},
+                          ring[] = {1, 0}, stick[] = {0, 1}, spur[] = {0, 2, 5, 4, 3, 1}, path[] = {2, 1, 0, 3};
+    static const uint16_t lowest[] = {0, 1, 0, 1, 0, 1};
+    uint16_t i, d;
+    for (i = 0; i < 3; i++) {
+        uint16_t kind = kinds[i], plain = (uint16_t)(kind - 0x100);
+        size_t plain_len = JURNADEL_RECORD_LEN(plain, 3), len = plain_len + 2;
+        CHECK(JURNADEL_RECORD_LEN(kind, 3) == len);
+        CHECK(refusal_with(3, twice, 3, 3, kind, 0, 0) == JURNADEL_BAD_COUNT);
+        CHECK(refusal_with(4, twice, 4, 4, kind, 0, 0) == JURNADEL_BAD_START);
+        CHECK(refusal_with(4, twice, 4, 3, kind, 0, 0) == JURNADEL_BAD_OUTSIDE);
+        CHECK(refusal_with(0xffff, twice, 4, 3, kind, 0, 0) == JURNADEL_BAD_OUTSIDE);
+        CHECK(refusal_with(3, twice, 4, 3, kind, 0, 0) == JURNADEL_BAD_ENTRY);
+        CHECK(refusal_with(4, twice, 4, 3, plain, 0, 0) == JURNADEL_BAD_ENTRY);
+        CHECK(refusal_with(3, apart, 4, 3, kind, 63, 0) == JURNADEL_SHORT_WORK);
+        CHECK(refusal_with(3, apart, 4, 3, kind, 64, JURNADEL_RECORD_LEN(kind, 2) - 1) == JURNADEL_SHORT_OUTPUT);
+        CHECK(refusal_with(3, apart, 4, 3, kind, 64, JURNADEL_RECORD_LEN(kind, 2)) == JURNADEL_NOT_CONNECTED);
+        CHECK(refusal_with(5, crossing, 6, 3, kind, 96, len) == JURNADEL_NOT_PLANAR && characteristic == 0);
+        CHECK(refusal_with(6, triangle, 6, 0, kind, 96, len) == JURNADEL_BAD_OUTSIDE);
+        CHECK(refusal_with(6, triangle, 6, 0, plain, 96, plain_len) == JURNADEL_DONE && length == plain_len);
+        for (d = 0; d < 6; d++) {
+            CHECK(refusal_with(d, triangle, 6, 0, kind, 96, len) == JURNADEL_DONE && length == len);
+            CHECK(output[6] == lowest[d] && output[7] == 0);
+        }
+    }
+    CHECK(refusal_with(0, ring, 2, 0, 0x101, 32, 10) == JURNADEL_HAS_LOOP);
+    CHECK(refusal_with(0, ring, 2, 0, 0x102, 32, 10) == JURNADEL_HAS_LOOP);
+    CHECK(refusal_with(0, stick, 2, 0, 0x101, 32, 10) == JURNADEL_HAS_DEGREE_ONE);
+    CHECK(refusal_with(0, spur, 6, 1, 0x101, 96, 10) == JURNADEL_HAS_DEGREE_ONE);
+    CHECK(refusal_with(0, stick, 2, 0, 0x100, 32, 10) == JURNADEL_BAD_KIND);
+    CHECK(refusal_with(0, stick, 2, 0, 0x103, 32, 10) == JURNADEL_BAD_KIND);
+    CHECK(refusal_with(0, stick, 2, 0, 0x201, 32, 10) == JURNADEL_BAD_KIND);
+    /* From start 1, dart 0 is standard dart 1, and dart 1 is standard dart 0: in one area, and in two. */
+    CHECK(refusal_with(0, path, 4, 1, 0x102, 64, 10) == JURNADEL_DONE && output[6] == 0);
+    CHECK(refusal_with(1, path, 4, 1, 0x104, 64, 9) == JURNADEL_DONE && output[6] == 0);
+    CHECK(refusal_with(0, triangle, 6, 1, 0x101, 96, 10) == JURNADEL_DONE && output[6] == 1);
+    CHECK(refusal_with(1, triangle, 6, 1, 0x101, 96, 10) == JURNADEL_DONE && output[6] == 0);
+}
+
 /* A round of 4,096 trails, the longest plan: dart 2e+1 and dart 2e+2 share a junction. */
 static void longest(void) {
     static uint16_t round[JURNADEL_MAX_DARTS];
@@ -121,21 +177,28 @@ static void longest(void) {
     CHECK(length == 1850);
     CHECK(refusal_of(round, JURNADEL_MAX_DARTS, 4095, 4, JURNADEL_MAX_WORK_LEN, sizeof output) == JURNADEL_DONE);
     CHECK(length == 2054);
-    CHECK(jurnadel_read(output, length, work, JURNADEL_MAX_WORK_LEN, order, JURNADEL_MAX_ORDER_LEN, &trails) == JURNADEL_DONE);
-    CHECK(trails == JURNADEL_MAX_TRAILS && cleared(JURNADEL_MAX_WORK_LEN));
+    CHECK(refusal_with(8191, round, JURNADEL_MAX_DARTS, 8190, 0x101, JURNADEL_MAX_WORK_LEN, sizeof output) == JURNADEL_DONE);
+    CHECK(length == 1544);
+    CHECK(refusal_with(8191, round, JURNADEL_MAX_DARTS, 8190, 0x102, JURNADEL_MAX_WORK_LEN, sizeof output) == JURNADEL_DONE);
+    CHECK(length == 1852);
+    CHECK(refusal_with(8191, round, JURNADEL_MAX_DARTS, 8190, 0x104, JURNADEL_MAX_WORK_LEN, sizeof output) == JURNADEL_DONE);
+    CHECK(length == 2056);
+    CHECK(jurnadel_read(output, length, work, JURNADEL_MAX_WORK_LEN, order, JURNADEL_MAX_ORDER_LEN, &trails, &outside) == JURNADEL_DONE);
+    CHECK(trails == JURNADEL_MAX_TRAILS && outside == 1 && cleared(JURNADEL_MAX_WORK_LEN));
 }
 
 static uint16_t reads(const uint8_t *record, size_t record_len, size_t work_len, size_t order_len) {
     uint16_t refusal;
     dirty();
-    refusal = jurnadel_read(record, record_len, work, work_len, order, order_len, &trails);
-    CHECK(cleared(work_len) && order[2 * trails] == 0x5a5a && (refusal == 0 || trails == 0));
+    refusal = jurnadel_read(record, record_len, work, work_len, order, order_len, &trails, &outside);
+    CHECK(cleared(work_len) && order[2 * trails] == 0x5a5a && (refusal == 0 || (trails == 0 && outside == 0)));
     return refusal;
 }
 
 static void reading(void) {
-    uint8_t record[] = {7, 0, 1, 0, 2, 0, 0xC8, 0};
-    CHECK(reads(record, 7, 64, 4) == JURNADEL_DONE && trails == 2);
+    uint8_t record[] = {7, 0, 1, 0, 2, 0, 0xC8, 0}, with_outside[] = {10, 0, 1, 1, 3, 0, 1, 0, 0xE2, 0};
+    uint16_t stored;
+    CHECK(reads(record, 7, 64, 4) == JURNADEL_DONE && trails == 2 && outside == 0);
     CHECK(reads(record, 6, 64, 4) == JURNADEL_RECORD_CUT);
     CHECK(reads(record, 0, 64, 4) == JURNADEL_RECORD_CUT);
     record[2] = 3;
@@ -157,6 +220,20 @@ static void reading(void) {
     CHECK(reads(record, 7, 32, 2) == JURNADEL_NO_FIT_PLAN);
     record[6] = 0xE0;
     CHECK(reads(record, 7, 32, 2) == JURNADEL_NO_FIT_PLAN);
+    /* The triangle's areas have lowest darts 0 and 1. */
+    for (stored = 0; stored < 0x200; stored++) {
+        with_outside[6] = (uint8_t)stored, with_outside[7] = (uint8_t)(stored >> 8);
+        CHECK(reads(with_outside, 10, 96, 6) == (stored < 2 ? JURNADEL_DONE : JURNADEL_NO_FIT_PLAN));
+        CHECK(stored > 1 || (trails == 3 && outside == stored));
+    }
+    with_outside[6] = 2, with_outside[7] = 0;
+    CHECK(reads(with_outside, 9, 96, 6) == JURNADEL_RECORD_CUT);
+    CHECK(reads(with_outside, 10, 95, 6) == JURNADEL_SHORT_WORK);
+    CHECK(reads(with_outside, 10, 96, 5) == JURNADEL_SHORT_OUTPUT);
+    with_outside[2] = 3;
+    CHECK(reads(with_outside, 10, 96, 6) == JURNADEL_BAD_KIND);
+    with_outside[2] = 1, with_outside[3] = 0;
+    CHECK(reads(with_outside, 10, 96, 6) == JURNADEL_BAD_LENGTH);
 }
 
 /* Whether the list is these areas, and untouched past them. */
@@ -220,6 +297,7 @@ static void areas(void) {
 }
 
 static void shelves(void) {
+    static const uint8_t outer[] = {9, 0, 4, 1, 1, 0, 9, 9, 0xB0};
     static const uint8_t pair[] = {7, 0, 1, 0, 2, 0, 0xC8}, stick[] = {8, 0, 2, 0, 1, 0, 0x80, 0xA2}, odd[] = {7, 0, 1, 0, 2, 0, 0xC9};
     uint8_t shelf[16];
     size_t number = 99, used = 0, at = 99, part = 99;
@@ -243,25 +321,31 @@ static void shelves(void) {
     CHECK(jurnadel_walk_step(shelf, sizeof shelf, used, 3) == 0);
     CHECK(jurnadel_walk_step(shelf, sizeof shelf, used, (size_t)-1) == 0);
     CHECK(jurnadel_walk_begin(shelf, sizeof shelf, used, 2, &at) == JURNADEL_NO_SUCH_RECORD && at == 15);
+    /* A shelf takes a stored outside as it is. */
+    CHECK(jurnadel_shelve(outer, sizeof outer, shelf, sizeof shelf, 7, &number, &used) == 0 && number == 1 && used == 16);
+    CHECK(jurnadel_walk_step(shelf, sizeof shelf, used, 7) == 9 && memcmp(shelf + 7, outer, 9) == 0);
+    CHECK(jurnadel_shelve(outer, 8, shelf, sizeof shelf, used, &number, &used) == JURNADEL_RECORD_CUT && used == 16);
 }
 
 static void sizes(void) {
-    uint16_t kind, m;
-    for (kind = 1; kind <= 4; kind += kind)
-        for (m = 1; m <= JURNADEL_MAX_TRAILS; m++)
+    static const uint16_t kinds[] = {1, 2, 4, 0x101, 0x102, 0x104};
+    uint16_t i, kind, m;
+    for (i = 0; i < 6; i++)
+        for (m = 1, kind = kinds[i]; m <= JURNADEL_MAX_TRAILS; m++)
             if (jurnadel_record_length(kind, m) != JURNADEL_RECORD_LEN(kind, m) || jurnadel_work_length(m) != JURNADEL_WORK_LEN(m)) {
                 CHECK(!"the macros are the functions");
                 return;
             }
     CHECK(jurnadel_record_length(1, 0) == 0 && jurnadel_record_length(2, 4097) == 0 && jurnadel_record_length(0, 1) == 0);
     CHECK(jurnadel_record_length(3, 1) == 0 && jurnadel_record_length(5, 1) == 0 && jurnadel_record_length(4, 4097) == 0);
-    CHECK(jurnadel_record_length(65535, 65535) == 0);
+    CHECK(jurnadel_record_length(0x100, 1) == 0 && jurnadel_record_length(0x103, 3) == 0 && jurnadel_record_length(0x204, 1) == 0);
+    CHECK(jurnadel_record_length(0x101, 0) == 0 && jurnadel_record_length(0x104, 4097) == 0 && jurnadel_record_length(65535, 65535) == 0);
     /* As numbers, and as bytes. */
     CHECK(JURNADEL_MAX_TRAILS == 4096 && JURNADEL_MAX_DARTS == 8192);
     CHECK(JURNADEL_MAX_WORK_LEN == 131072 && sizeof work == 262144);
     CHECK(JURNADEL_MAX_ORDER_LEN == 8192 && sizeof order == 16384);
     CHECK(JURNADEL_MAX_AREAS_LEN == 4097 && sizeof list == 8194);
-    CHECK(JURNADEL_MAX_RECORD_LEN == 2054 && sizeof output == 2054);
+    CHECK(JURNADEL_MAX_RECORD_LEN == 2056 && sizeof output == 2056);
     CHECK(JURNADEL_WORK_LEN(3) == 96 && JURNADEL_ORDER_LEN(3) == 6 && JURNADEL_AREAS_LEN(3) == 4);
 }
 
@@ -274,6 +358,7 @@ static void version(void) {
 int main(void) {
     records();
     writing();
+    outsides();
     longest();
     reading();
     areas();

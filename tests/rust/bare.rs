@@ -32,20 +32,20 @@ fn prints(refusal: Refusal, text: &str) -> bool {
 }
 
 fn steps() -> Result<bool, Refusal> {
-    let (mut work, mut record, mut order, mut shelf, mut list) = ([7; 96], [0; 8], [0; 6], [0; 16], [0; 2]);
-    let length = write(&[5, 2, 1, 4, 3, 0], 0, 1, &mut work, &mut record)?;
-    let trails = read(&record[..length], &mut work, &mut order)?;
+    let (mut work, mut record, mut order, mut shelf, mut list) = ([7; 96], [0; 10], [0; 6], [0; 16], [0; 2]);
+    let length = write(&[5, 2, 1, 4, 3, 0], 0, 5, 0x101, &mut work, &mut record)?;
+    let back = read(&record[..length], &mut work, &mut order)?;
     let areas = area_lengths(&order, &mut work, &mut list)?;
     let shelved = shelve(&record, &mut shelf, 0)?;
     let fetched = fetch(&shelf, shelved.used, shelved.number)?;
     let walked = walk(&shelf, shelved.used, 0)?.count();
-    let told = trails == 3 && order == [5, 2, 1, 4, 3, 0] && areas == 2 && list == [3, 3];
+    let told = back.trails == 3 && back.outside == 1 && order == [5, 2, 1, 4, 3, 0] && areas == 2 && list == [3, 3];
     Ok(told && fetched == record && walked == 1)
 }
 
 #[no_mangle]
 pub extern "C" fn main() -> i32 {
-    let crossing = write(&[3, 2, 4, 5, 1, 0], 0, 2, &mut [0; 96], &mut [0; 8]);
+    let crossing = write(&[3, 2, 4, 5, 1, 0], 0, 0, 2, &mut [0; 96], &mut [0; 8]);
     let refused = crossing.is_err_and(|refusal| prints(refusal, "refusal 10: It is not planar. Its characteristic is 0."));
     match (steps(), refused) {
         (Ok(true), true) => 0,

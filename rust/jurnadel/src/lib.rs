@@ -2,8 +2,12 @@
 //!
 //! A plan of m trails (edges) has 2m darts (trail ends); darts 2e and 2e+1 are the two ends of trail e. Its *turning
 //! order* is a list of 2m numbers: entry d is the next dart counterclockwise around d's junction (vertex). Its *start* is
-//! one dart. A record is the plan in about 3 bits a trail (kind 1: no loop, and no dead end but the start), 3.6 (kind 2: no
-//! loop) or 4 (kind 4: any connected planar plan); a shelf is records end to end, of any kinds.
+//! one dart. Its *outside* is one dart too, any of those on the walk of the area that is the outside of the sheet; the walk
+//! goes from dart d to the entry at d's opposite end, with the area on its right.
+//!
+//! A record is the plan in about 3 bits a trail (kind 1: no loop, and no dead end but the start), 3.6 (kind 2: no loop) or 4
+//! (kind 4: any connected planar plan). Kinds 0x101, 0x102 and 0x104 are the same with the outside area, in two bytes more.
+//! A shelf is records end to end, of any kinds.
 //!
 //! [`write()`], [`read()`], [`area_lengths()`], [`shelve()`], [`fetch()`] and [`walk()`] are the library's calls on lent
 //! buffers, one for one: no allocation, no state. `record_of`, `plan_of` and `areas_of` allocate what they need.
@@ -12,14 +16,22 @@
 //! let (mut work, mut record, mut order) = ([0; 96], [0; 8], [0; 6]);
 //!
 //! // Three parallel trails.
-//! jurnadel::write(&[5, 2, 4, 0, 1, 3], 0, 1, &mut work, &mut record)?;
+//! jurnadel::write(&[5, 2, 4, 0, 1, 3], 0, 0, 1, &mut work, &mut record)?;
 //! assert_eq!(record, [0x08, 0, 0x01, 0, 0x03, 0, 0xD2, 0x80]);
 //!
 //! // The same plan, numbered in the order of the contour walk from start 0.
 //! jurnadel::read(&record, &mut work, &mut order)?;
 //! let mut again = [0; 8];
-//! jurnadel::write(&order, 0, 1, &mut work, &mut again)?;
+//! jurnadel::write(&order, 0, 0, 1, &mut work, &mut again)?;
 //! assert_eq!(again, record);
+//!
+//! // A triangle, and which of its two areas is outside.
+//! let mut record = [0; 10];
+//! for (dart, area) in [(0, 0), (4, 0), (1, 1), (5, 1)] {
+//!     jurnadel::write(&[5, 2, 1, 4, 3, 0], 0, dart, 0x101, &mut work, &mut record)?;
+//!     assert_eq!(record, [0x0A, 0, 0x01, 0x01, 0x03, 0, area, 0, 0xE2, 0]);
+//!     assert_eq!(jurnadel::read(&record, &mut work, &mut order)?.outside, u16::from(area));
+//! }
 //! # Ok::<(), jurnadel::Refusal>(())
 //! ```
 //!
@@ -43,7 +55,7 @@ mod refusal;
 pub mod sys;
 
 #[cfg(feature = "alloc")]
-pub use owned::{areas_of, plan_of, record_of};
+pub use owned::{areas_of, plan_of, record_of, Plan};
 pub use refusal::Refusal;
 
 /// The most trails that a plan has.
@@ -59,7 +71,7 @@ pub const MAX_ORDER_LENGTH: usize = 8192;
 pub const MAX_AREAS_LENGTH: usize = 4097;
 
 /// The most bytes that a record has.
-pub const MAX_RECORD_LENGTH: usize = 2054;
+pub const MAX_RECORD_LENGTH: usize = 2056;
 
 /// Done, or the refusal with this number.
 fn settle<T>(refusal: u16, characteristic: i32, value: T) -> Result<T, Refusal> {
@@ -80,13 +92,14 @@ pub fn work_length(trails: u16) -> usize {
     unsafe { sys::jurnadel_work_length(trails) }
 }
 
-/// The length of a record of this kind with this many trails. Nothing where there is none: another kind than 1, 2 or 4, no
-/// trail, or more than [`MAX_TRAILS`].
+/// The length of a record of this kind with this many trails. Nothing where there is none: another kind than 1, 2, 4, 0x101,
+/// 0x102 or 0x104, no trail, or more than [`MAX_TRAILS`].
 ///
 /// ```
 /// assert_eq!(jurnadel::record_length(1, 4096), Some(1542));
 /// assert_eq!(jurnadel::record_length(2, 4096), Some(1850));
 /// assert_eq!(jurnadel::record_length(4, 4096), Some(2054));
+/// assert_eq!(jurnadel::record_length(0x104, 4096), Some(2056));
 /// assert_eq!(jurnadel::record_length(3, 1), None);
 /// ```
 #[must_use]
@@ -98,25 +111,29 @@ pub fn record_length(kind: u16, trails: u16) -> Option<usize> {
     }
 }
 
-/// Writes the record of a plan into the first bytes of `output`, and returns its length.
+/// Writes the record of a plan into the first bytes of `output`, and returns its length. Kinds 1, 2 and 4 ignore `outside`.
 ///
 /// `work` has [`work_length`] numbers or more, of any content; it is zeros on return.
 ///
 /// # Errors
 ///
-/// Refusals 2, 3, 4, 6 to 10, then 11 in kinds 1 and 2 and 12 in kind 1. A refused call leaves `output` untouched.
+/// Refusals 2, 3, 4, 17 in kinds 101h, 102h and 104h, 6 to 10, then 11 in kinds 1, 2, 101h and 102h and 12 in kinds 1 and
+/// 101h. A refused call leaves `output` untouched.
 ///
 /// ```
 /// let mut work = [0; 64];
 /// let mut output = [0; 7];
-/// assert_eq!(jurnadel::write(&[3, 2, 1, 0], 0, 1, &mut work, &mut output), Ok(7));
+/// assert_eq!(jurnadel::write(&[3, 2, 1, 0], 0, 0, 1, &mut work, &mut output), Ok(7));
 /// assert_eq!(output, [0x07, 0, 0x01, 0, 0x02, 0, 0xC8]);
 ///
-/// // A single loop, which kind 4 alone takes.
-/// assert_eq!(jurnadel::write(&[1, 0], 0, 4, &mut work, &mut output), Ok(7));
+/// // A single loop, which kind 4 alone takes; then with its other area outside.
+/// assert_eq!(jurnadel::write(&[1, 0], 0, 0, 4, &mut work, &mut output), Ok(7));
 /// assert_eq!(output, [0x07, 0, 0x04, 0, 0x01, 0, 0xB0]);
+/// let mut output = [0; 9];
+/// assert_eq!(jurnadel::write(&[1, 0], 0, 1, 0x104, &mut work, &mut output), Ok(9));
+/// assert_eq!(output, [0x09, 0, 0x04, 0x01, 0x01, 0, 0x01, 0, 0xB0]);
 /// ```
-pub fn write(order: &[u16], start: u16, kind: u16, work: &mut [u16], output: &mut [u8]) -> Result<usize, Refusal> {
+pub fn write(order: &[u16], start: u16, outside: u16, kind: u16, work: &mut [u16], output: &mut [u8]) -> Result<usize, Refusal> {
     let (mut length, mut characteristic) = (0, 0);
     // SAFETY: pointers and lengths are those of slices; what is written is borrowed by this call alone.
     let refusal = unsafe {
@@ -124,6 +141,7 @@ pub fn write(order: &[u16], start: u16, kind: u16, work: &mut [u16], output: &mu
             order.as_ptr(),
             order.len(),
             start,
+            outside,
             kind,
             work.as_mut_ptr(),
             work.len(),
@@ -136,7 +154,17 @@ pub fn write(order: &[u16], start: u16, kind: u16, work: &mut [u16], output: &mu
     settle(refusal, characteristic, usize::from(length))
 }
 
-/// Reads a record's plan into the first 2m entries of `order`, in standard numbering with start 0, and returns m.
+/// The answer of [`read()`].
+#[derive(Debug, Clone, Copy, PartialEq, Eq, Hash)]
+pub struct ReadBack {
+    /// The number of trails, m.
+    pub trails: usize,
+    /// The lowest dart of the outside area; in kinds 1, 2 and 4 that is the start's area, and this is 0.
+    pub outside: u16,
+}
+
+/// Reads a record's plan into the first 2m entries of `order`, in standard numbering with start 0, and returns m and the
+/// outside.
 ///
 /// `work` has [`work_length`] numbers or more, of any content; it is zeros on return.
 ///
@@ -147,11 +175,13 @@ pub fn write(order: &[u16], start: u16, kind: u16, work: &mut [u16], output: &mu
 /// ```
 /// let mut work = [0; 64];
 /// let mut order = [0; 4];
-/// assert_eq!(jurnadel::read(&[0x07, 0, 0x01, 0, 0x02, 0, 0xC8], &mut work, &mut order), Ok(2));
+/// let read = jurnadel::read(&[0x07, 0, 0x01, 0, 0x02, 0, 0xC8], &mut work, &mut order)?;
+/// assert_eq!(read, jurnadel::ReadBack { trails: 2, outside: 0 });
 /// assert_eq!(order, [3, 2, 1, 0]);
+/// # Ok::<(), jurnadel::Refusal>(())
 /// ```
-pub fn read(record: &[u8], work: &mut [u16], order: &mut [u16]) -> Result<usize, Refusal> {
-    let mut trails = 0;
+pub fn read(record: &[u8], work: &mut [u16], order: &mut [u16]) -> Result<ReadBack, Refusal> {
+    let (mut trails, mut outside) = (0, 0);
     // SAFETY: as in `write`.
     let refusal = unsafe {
         sys::jurnadel_read(
@@ -162,9 +192,11 @@ pub fn read(record: &[u8], work: &mut [u16], order: &mut [u16]) -> Result<usize,
             order.as_mut_ptr(),
             order.len(),
             &mut trails,
+            &mut outside,
         )
     };
-    settle(refusal, 0, usize::from(trails))
+    let trails = usize::from(trails);
+    settle(refusal, 0, ReadBack { trails, outside })
 }
 
 /// Fills the first entries of `list` with the length of each area of a plan, and returns how many areas there are.

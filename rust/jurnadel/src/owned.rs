@@ -1,6 +1,6 @@
 //! The calls with buffers of their own.
 
-use crate::{area_lengths, read, record_length, work_length, write, Refusal, MAX_TRAILS};
+use crate::{area_lengths, read, record_length, work_length, write, ReadBack, Refusal, MAX_TRAILS};
 use alloc::{vec, vec::Vec};
 
 /// The number of trails of a plan with this turning order, as far as the library asks: at most one more than the most.
@@ -12,47 +12,66 @@ fn trails_of(order: &[u16]) -> u16 {
 ///
 /// # Errors
 ///
-/// Refusals 2, 3, 4, 6, 9, 10, then 11 in kinds 1 and 2 and 12 in kind 1.
+/// Refusals 2, 3, 4, 17 in kinds 101h, 102h and 104h, 6, 9, 10, then 11 in kinds 1, 2, 101h and 102h and 12 in kinds 1 and
+/// 101h.
 ///
 /// ```
-/// assert_eq!(jurnadel::record_of(&[0, 1], 0, 2)?, [0x08, 0, 0x02, 0, 0x01, 0, 0x80, 0xA2]);
-/// assert_eq!(jurnadel::record_of(&[0, 1], 0, 1).unwrap_err().number(), 12);
-/// assert_eq!(jurnadel::record_of(&[1, 0], 0, 2).unwrap_err().number(), 11);
-/// assert_eq!(jurnadel::record_of(&[1, 0], 0, 4)?, [0x07, 0, 0x04, 0, 0x01, 0, 0xB0]);
+/// assert_eq!(jurnadel::record_of(&[0, 1], 0, 0, 2)?, [0x08, 0, 0x02, 0, 0x01, 0, 0x80, 0xA2]);
+/// assert_eq!(jurnadel::record_of(&[0, 1], 0, 0, 1).unwrap_err().number(), 12);
+/// assert_eq!(jurnadel::record_of(&[1, 0], 0, 0, 2).unwrap_err().number(), 11);
+/// assert_eq!(jurnadel::record_of(&[1, 0], 0, 0, 4)?, [0x07, 0, 0x04, 0, 0x01, 0, 0xB0]);
+///
+/// // The outside dart is asked for in the kinds that have it.
+/// assert_eq!(jurnadel::record_of(&[0, 1], 0, 1, 0x102)?, [0x0A, 0, 0x02, 0x01, 0x01, 0, 0, 0, 0x80, 0xA2]);
+/// assert_eq!(jurnadel::record_of(&[0, 1], 0, 2, 0x102).unwrap_err().number(), 17);
+/// assert!(jurnadel::record_of(&[0, 1], 0, 2, 2).is_ok());
 /// # Ok::<(), jurnadel::Refusal>(())
 /// ```
-pub fn record_of(order: &[u16], start: u16, kind: u16) -> Result<Vec<u8>, Refusal> {
+pub fn record_of(order: &[u16], start: u16, outside: u16, kind: u16) -> Result<Vec<u8>, Refusal> {
     let trails = trails_of(order);
     let mut work = vec![0; work_length(trails)];
     let mut output = vec![0; record_length(kind, trails).unwrap_or(0)];
-    let length = write(order, start, kind, &mut work, &mut output)?;
+    let length = write(order, start, outside, kind, &mut work, &mut output)?;
     output.truncate(length);
     Ok(output)
 }
 
-/// The turning order of a record's plan, in standard numbering with start 0, by [`read()`] with buffers of its own.
+/// A plan as it is read: in standard numbering, with start 0.
+#[derive(Debug, Clone, PartialEq, Eq, Hash)]
+pub struct Plan {
+    /// The turning order, 2m entries.
+    pub order: Vec<u16>,
+    /// The lowest dart of the outside area; 0, of the start's area, where the kind has no outside.
+    pub outside: u16,
+}
+
+/// The plan of a record, by [`read()`] with buffers of its own.
 ///
 /// # Errors
 ///
 /// Refusals 1, 2, 3, 5, 13.
 ///
 /// ```
-/// let order = jurnadel::plan_of(&[0x08, 0, 0x01, 0, 0x03, 0, 0xE2, 0x00])?;
-/// assert_eq!(order, [5, 2, 1, 4, 3, 0]);
-/// assert_eq!(jurnadel::plan_of(&[0x08, 0, 0x04, 0, 0x03, 0, 0x09, 0x70])?, order);
+/// let plan = jurnadel::plan_of(&[0x08, 0, 0x01, 0, 0x03, 0, 0xE2, 0x00])?;
+/// assert_eq!(plan, jurnadel::Plan { order: vec![5, 2, 1, 4, 3, 0], outside: 0 });
+/// assert_eq!(jurnadel::plan_of(&[0x08, 0, 0x04, 0, 0x03, 0, 0x09, 0x70])?, plan);
 /// assert_eq!(jurnadel::plan_of(&[0x07, 0, 0x01, 0, 0x02, 0, 0xCC]).unwrap_err().number(), 13);
+///
+/// // The same with its other area outside.
+/// let other = jurnadel::plan_of(&[0x0A, 0, 0x01, 0x01, 0x03, 0, 0x01, 0, 0xE2, 0x00])?;
+/// assert_eq!(other, jurnadel::Plan { outside: 1, ..plan });
 /// # Ok::<(), jurnadel::Refusal>(())
 /// ```
-pub fn plan_of(record: &[u8]) -> Result<Vec<u16>, Refusal> {
+pub fn plan_of(record: &[u8]) -> Result<Plan, Refusal> {
     let trails = match record.get(4..6) {
         Some(field) => u16::from_le_bytes([field[0], field[1]]).min(MAX_TRAILS),
         None => 0,
     };
     let mut work = vec![0; work_length(trails)];
     let mut order = vec![0; 2 * usize::from(trails)];
-    let trails = read(record, &mut work, &mut order)?;
+    let ReadBack { trails, outside } = read(record, &mut work, &mut order)?;
     order.truncate(2 * trails);
-    Ok(order)
+    Ok(Plan { order, outside })
 }
 
 /// The length of each area of a plan, by [`area_lengths()`] with buffers of its own.

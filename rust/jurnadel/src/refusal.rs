@@ -10,7 +10,7 @@ macro_rules! refusals {
             $(#[doc = $meaning] pub const $name: u16 = $number;)*
         }
 
-        /// What each refusal means, in document 01's words.
+        /// What each refusal means, in the words of documents 01 and 02.
         fn meaning_of(number: u16) -> &'static str {
             match number {
                 $($number => $meaning,)*
@@ -25,7 +25,7 @@ macro_rules! refusals {
 
 refusals! {
     RECORD_CUT = 1: "The record has fewer than 6 bytes, or its length field isn't the number of bytes lent.",
-    BAD_KIND = 2: "The kind is not 1, 2 or 4.",
+    BAD_KIND = 2: "The kind is not 1, 2, 4, 101h, 102h or 104h.",
     BAD_COUNT = 3: "The dart count is 0, odd or above 8,192; in a record, m is 0 or above 4,096.",
     BAD_START = 4: "The start is not below the dart count.",
     BAD_LENGTH = 5: "The length is not the one for this kind and m.",
@@ -34,19 +34,20 @@ refusals! {
     SHORT_OUTPUT = 8: "The output is shorter than the record, than 2m entries, or than the list of areas.",
     NOT_CONNECTED = 9: "The plan is not connected.",
     NOT_PLANAR = 10: "It is not planar.",
-    HAS_LOOP = 11: "Kind 1 or 2, and it has a loop.",
-    HAS_DEGREE_ONE = 12: "Kind 1, and a junction other than the start's has degree one.",
+    HAS_LOOP = 11: "Kind 1, 2, 101h or 102h, and it has a loop.",
+    HAS_DEGREE_ONE = 12: "Kind 1 or 101h, and a junction other than the start's has degree one.",
     NO_FIT_PLAN = 13: "No fit plan of this kind has this record.",
     SHELF_BROKEN = 14: "The used length exceeds the shelf, or the used bytes are not records end to end that each pass 1, 2, 3 and 5.",
     NO_SUCH_RECORD = 15: "The shelf holds no record with this number, counting from 0.",
     SHELF_FULL = 16: "The record isn't on the shelf and exceeds the bytes past the used length.",
+    BAD_OUTSIDE = 17: "Kind 101h, 102h or 104h, and the outside dart is not below the dart count.",
 }
 
-/// A refusal: its number in document 01 and, of refusal 10, the characteristic.
+/// A refusal: its number in documents 01 and 02 and, of refusal 10, the characteristic.
 ///
 /// ```
 /// let crossing = [3, 2, 4, 5, 1, 0];
-/// let refusal = jurnadel::write(&crossing, 0, 2, &mut [0; 96], &mut [0; 8]).unwrap_err();
+/// let refusal = jurnadel::write(&crossing, 0, 0, 2, &mut [0; 96], &mut [0; 8]).unwrap_err();
 /// assert_eq!(refusal.number(), jurnadel::Refusal::NOT_PLANAR);
 /// assert_eq!(refusal.meaning(), "It is not planar.");
 /// assert_eq!(refusal.characteristic(), Some(0));
@@ -64,13 +65,13 @@ impl Refusal {
         Refusal { number, characteristic }
     }
 
-    /// Its number, 1 to 16.
+    /// Its number, 1 to 17.
     #[must_use]
     pub fn number(self) -> u16 {
         self.number
     }
 
-    /// What it means, in document 01's words.
+    /// What it means, in the words of documents 01 and 02.
     #[must_use]
     pub fn meaning(self) -> &'static str {
         meaning_of(self.number)

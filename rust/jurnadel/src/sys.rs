@@ -9,6 +9,7 @@ extern "C" {
         order: *const u16,
         darts: usize,
         start: u16,
+        outside: u16,
         kind: u16,
         work: *mut u16,
         work_len: usize,
@@ -25,6 +26,7 @@ extern "C" {
         order: *mut u16,
         order_len: usize,
         trails: *mut u16,
+        outside: *mut u16,
     ) -> u16;
     pub fn jurnadel_area_lengths(
         order: *const u16,

@@ -2,9 +2,10 @@
 //! not refused is as long as it says.
 
 use jurnadel::Refusal;
+use std::collections::HashMap;
 
 /// The kinds of records.
-const KINDS: [u16; 3] = [1, 2, 4];
+const KINDS: [u16; 6] = [1, 2, 4, 0x101, 0x102, 0x104];
 
 /// A sequence of numbers that look random.
 struct Numbers(u64);
@@ -28,7 +29,7 @@ impl Numbers {
 
     /// Mostly a kind of record, sometimes any number.
     fn kind(&mut self) -> u16 {
-        let place = self.mostly(3);
+        let place = self.mostly(KINDS.len());
         KINDS.get(place).copied().unwrap_or(place as u16)
     }
 
@@ -51,13 +52,14 @@ impl Numbers {
 
     /// A plan's record, or bytes with the head of one; now and then a bit is turned, or it is cut.
     fn record(&mut self) -> Vec<u8> {
-        let (kind, trails) = (KINDS[self.below(3)], 1 + self.below(4) as u16);
+        let (kind, trails) = (KINDS[self.below(KINDS.len())], 1 + self.below(4) as u16);
         let length = jurnadel::record_length(kind, trails).unwrap_or(0);
         let mut record = self.bytes(length);
         for (place, field) in [length as u16, kind, trails].into_iter().enumerate() {
             record[2 * place..][..2].copy_from_slice(&field.to_le_bytes());
         }
-        record = jurnadel::record_of(&self.order(), 0, kind).unwrap_or(record);
+        let (order, outside) = (self.order(), self.mostly(4) as u16);
+        record = jurnadel::record_of(&order, 0, outside, kind).unwrap_or(record);
         if self.below(5) == 0 {
             let place = self.below(record.len());
             record[place] ^= 1 << self.below(8);
@@ -76,30 +78,36 @@ fn met<T>(answer: Result<T, Refusal>, list: &[u16]) -> Option<T> {
 #[test]
 fn plans_and_records() {
     let mut numbers = Numbers(2026);
-    let (mut written, mut read) = ([0; 5], [0; 5]);
-    for _ in 0..20_000 {
-        let (order, start, kind) = (numbers.order(), numbers.mostly(4) as u16, numbers.kind());
+    let (mut written, mut read) = (HashMap::new(), HashMap::new());
+    for _ in 0..40_000 {
+        let (order, start, outside) = (numbers.order(), numbers.mostly(4) as u16, numbers.mostly(4) as u16);
+        let kind = numbers.kind();
         let (mut work, mut output) = (vec![7; numbers.below(200)], vec![7; numbers.below(14)]);
-        let answer = jurnadel::write(&order, start, kind, &mut work, &mut output);
-        met(answer, &[2, 3, 4, 6, 7, 8, 9, 10, 11, 12]);
+        let answer = jurnadel::write(&order, start, outside, kind, &mut work, &mut output);
+        met(answer, &[2, 3, 4, 6, 7, 8, 9, 10, 11, 12, 17]);
+        assert!(kind > 0x100 || answer.map_err(Refusal::number) != Err(Refusal::BAD_OUTSIDE));
         assert!(work.iter().all(|&number| number == 0));
         assert!(output[answer.unwrap_or(0)..].iter().all(|&byte| byte == 7));
-        if let Some(record) = met(jurnadel::record_of(&order, start, kind), &[2, 3, 4, 6, 9, 10, 11, 12]) {
-            assert_eq!(jurnadel::plan_of(&record).map(|plan| plan.len()), Ok(order.len()));
-            written[usize::from(kind)] += 1;
+        let record = jurnadel::record_of(&order, start, outside, kind);
+        if let Some(record) = met(record, &[2, 3, 4, 6, 9, 10, 11, 12, 17]) {
+            let plan = jurnadel::plan_of(&record).expect("a record");
+            assert_eq!(plan.order.len(), order.len());
+            assert!(plan.outside == 0 || kind > 0x100);
+            *written.entry(kind).or_insert(0) += 1;
         }
         let (record, mut order) = (numbers.record(), vec![9; numbers.below(12)]);
         let answer = jurnadel::read(&record, &mut work, &mut order);
         met(answer, &[1, 2, 3, 5, 7, 8, 13]);
-        assert!(order[2 * answer.unwrap_or(0)..].iter().all(|&entry| entry == 9));
-        if let Some(order) = met(jurnadel::plan_of(&record), &[1, 2, 3, 5, 13]) {
-            let kind = u16::from(record[2]);
-            assert_eq!(jurnadel::record_of(&order, 0, kind), Ok(record));
-            read[usize::from(kind)] += 1;
+        assert!(order[answer.map_or(0, |read| 2 * read.trails)..].iter().all(|&entry| entry == 9));
+        if let Some(plan) = met(jurnadel::plan_of(&record), &[1, 2, 3, 5, 13]) {
+            let kind = u16::from_le_bytes([record[2], record[3]]);
+            assert_eq!(jurnadel::record_of(&plan.order, 0, plan.outside, kind), Ok(record));
+            *read.entry(kind).or_insert(0) += 1;
         }
     }
-    for kind in KINDS.map(usize::from) {
-        assert!(written[kind] > 100 && read[kind] > 100, "kind {kind}: {} written, {} read", written[kind], read[kind]);
+    for kind in KINDS {
+        let counts = [&written, &read].map(|count| count.get(&kind).copied().unwrap_or(0));
+        assert!(counts.iter().all(|&count| count > 100), "kind {kind:X}h: {counts:?} written and read");
     }
 }
 
