@@ -4,6 +4,7 @@
 //! Whoever looks finds the old content, if any, or the new, also after a crash. While it is written it is locked, so that a
 //! second run waits for its turn; what a run that was killed has left is removed by the next one.
 
+use crate::kinds;
 use crate::names::shown;
 use crate::options::Word;
 use crate::report::Problem;
@@ -41,11 +42,13 @@ pub fn source_of(path: &Word) -> Result<Source, Problem> {
     }
 }
 
-/// The text of a file's bytes, without a byte order mark, or nothing if they are none. What isn't UTF-8 becomes
-/// U+FFFD, so it can stand in comments.
+/// The text of a file's bytes, without a byte order mark, or nothing if they are none: no text has a NUL, nor two control
+/// characters where a record may have its kind. What isn't UTF-8 becomes U+FFFD, so it can stand in comments.
 pub fn text_of(bytes: &[u8]) -> Option<Cow<'_, str>> {
-    let bytes = bytes.strip_prefix("\u{FEFF}".as_bytes()).unwrap_or(bytes);
-    (!bytes.contains(&0)).then(|| String::from_utf8_lossy(bytes))
+    if bytes.contains(&0) || bytes.len() > 3 && kinds::has_outside(kinds::of(bytes)) {
+        return None;
+    }
+    Some(String::from_utf8_lossy(bytes.strip_prefix("\u{FEFF}".as_bytes()).unwrap_or(bytes)))
 }
 
 /// What `-o` asks for: the output to a file that isn't there or, with `force`, in place of one. A file that the command reads

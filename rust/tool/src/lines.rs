@@ -1,11 +1,12 @@
 //! A plan or a record in one line, and the one line that answers it.
 //!
-//! A plan is its start and its entries in decimal, a record is hexadecimal. What is refused is answered `refused NUMBER`, with
-//! the characteristic after number 10; a line that is neither is `malformed`.
+//! A plan is its start and its entries in decimal, with its outside after the start and a `/` if it names one; a record is
+//! hexadecimal. What is refused is answered `refused NUMBER`, with the characteristic after number 10; a line that is neither
+//! is `malformed`.
 
-use crate::plan_file::in_kind;
+use crate::kinds::{self, in_kind};
 use crate::record_file::{from_hex, push_hex};
-use jurnadel::{Refusal, MAX_ORDER_LENGTH, MAX_RECORD_LENGTH, MAX_WORK_LENGTH};
+use jurnadel::{ReadBack, Refusal, MAX_ORDER_LENGTH, MAX_RECORD_LENGTH, MAX_WORK_LENGTH};
 use std::io::Write as _;
 
 /// The most bytes of a line, its end not counted. The longest plan takes 49 kB; a longer line is malformed, so that memory
@@ -65,11 +66,14 @@ impl Coder {
     }
 
     fn write(&mut self, line: &[u8], kind: Option<u16>, answers: &mut Vec<u8>) -> Result<(), Untaken> {
-        // The start, and one entry more than a plan has: a longer one is refused for its count alone.
+        let (before, line) = before_slash(line).map_or((None, line), |(start, line)| (Some(start), line));
+        // The start or the outside, and one entry more than a plan has: a longer one is refused for its count alone.
         take_numbers(line, 1 + MAX_ORDER_LENGTH + 1, &mut self.numbers).ok_or(Untaken::Malformed)?;
-        let (&start, order) = self.numbers.split_first().ok_or(Untaken::Malformed)?;
+        let (&first, order) = self.numbers.split_first().ok_or(Untaken::Malformed)?;
+        let (start, outside) = (before.unwrap_or(first), first);
         let work = for_trails(&mut self.work, order.len() / 2);
-        let length = in_kind(kind, |kind| jurnadel::write(order, start, kind, work, &mut self.record))?;
+        let write = |kind| jurnadel::write(order, start, outside, kind, work, &mut self.record);
+        let length = in_kind(kind, before.is_some(), write)?;
         push_hex(&self.record[..length], answers);
         Ok(())
     }
@@ -79,8 +83,9 @@ impl Coder {
         from_hex(line, &mut self.record).filter(|()| !self.record.is_empty()).ok_or(Untaken::Malformed)?;
         let trails = self.record.get(4..6).map_or(0, |field| u16::from_le_bytes([field[0], field[1]]));
         let work = for_trails(&mut self.work, trails.into());
-        let trails = jurnadel::read(&self.record, work, &mut self.numbers)?;
-        push_plan(0, &self.numbers[..2 * trails], answers);
+        let ReadBack { trails, outside } = jurnadel::read(&self.record, work, &mut self.numbers)?;
+        let outside = kinds::has_outside(kinds::of(&self.record)).then_some(outside);
+        push_plan(0, outside, &self.numbers[..2 * trails], answers);
         Ok(())
     }
 }
@@ -96,6 +101,24 @@ fn without_end(line: &[u8]) -> &[u8] {
     line.strip_suffix(b"\r").unwrap_or(line)
 }
 
+/// The start that a line begins with, where a `/` and another number follow it at once, and the line from that number on.
+fn before_slash(line: &[u8]) -> Option<(u16, &[u8])> {
+    let line = &line[line.iter().position(|&byte| !is_blank(byte))?..];
+    let slash = line.iter().position(|byte| !byte.is_ascii_digit()).filter(|&at| at > 0 && line[at] == b'/')?;
+    let rest = &line[slash + 1..];
+    let start = line[..slash].iter().fold(0, |number, &digit| with_digit(number, digit));
+    rest.first().is_some_and(u8::is_ascii_digit).then_some((start as u16, rest))
+}
+
+fn is_blank(byte: u8) -> bool {
+    matches!(byte, b' ' | b'\t')
+}
+
+/// A number with one digit more, 65,535 at most.
+fn with_digit(number: u32, digit: u8) -> u32 {
+    (10 * number + u32::from(digit - b'0')).min(u16::MAX.into())
+}
+
 /// The decimal numbers of a line, with blanks between, as far as `most` of them; nothing if there is anything else. A number
 /// above 65,535 is taken as that one, as in a plan file.
 fn take_numbers(line: &[u8], most: usize, numbers: &mut Vec<u16>) -> Option<()> {
@@ -103,8 +126,8 @@ fn take_numbers(line: &[u8], most: usize, numbers: &mut Vec<u16>) -> Option<()> 
     let mut number = None;
     for &byte in line {
         match byte {
-            b'0'..=b'9' => number = Some((10 * number.unwrap_or(0) + u32::from(byte - b'0')).min(u16::MAX.into())),
-            b' ' | b'\t' => push_number(&mut number, most, numbers),
+            b'0'..=b'9' => number = Some(with_digit(number.unwrap_or(0), byte)),
+            _ if is_blank(byte) => push_number(&mut number, most, numbers),
             _ => return None,
         }
     }
@@ -118,8 +141,12 @@ fn push_number(number: &mut Option<u32>, most: usize, numbers: &mut Vec<u16>) {
     }
 }
 
-fn push_plan(start: u16, order: &[u16], line: &mut Vec<u8>) {
+fn push_plan(start: u16, outside: Option<u16>, order: &[u16], line: &mut Vec<u8>) {
     push_decimal(start, line);
+    if let Some(outside) = outside {
+        line.push(b'/');
+        push_decimal(outside, line);
+    }
     for &entry in order {
         line.push(b' ');
         push_decimal(entry, line);
@@ -174,6 +201,26 @@ mod tests {
     }
 
     #[test]
+    fn plans_with_an_outside() {
+        let triangle = "0/0 5 2 1 4 3 0\n0/1 5 2 1 4 3 0\n 000/04\t5 2 1 4 3 0\n";
+        assert_eq!(written(triangle), "0A00010103000000E200\n0A00010103000100E200\n0A00010103000000E200\n");
+        assert_eq!(written("0/1 4 2 1 0 3 5\n0/1 1 0\n"), "0A00020103000100CC12\n0900040101000100B0\n");
+        // The start is not where the numbering begins: dart 0 becomes 1.
+        assert_eq!(written("1/0 2 1 0 3\n"), written("0/1 0 2 1 3\n"));
+        assert_eq!(answers(Way::Write(Some(1)), b"0/1 5 2 1 4 3 0\n0/6 5 2 1 4 3 0\n"), "080001000300E200\n".repeat(2));
+        assert_eq!(answers(Way::Write(Some(0x101)), b"1 5 2 1 4 3 0\n"), answers(Way::Write(None), b"1/1 5 2 1 4 3 0\n"));
+        assert_eq!(
+            written("0/6 5 2 1 4 3 0\n6/6 5 2 1 4 3 0\n0/65536 3 3 1 0\n0/0\n"),
+            "refused 17\nrefused 4\nrefused 17\nrefused 3\n"
+        );
+        for line in
+            ["0/", "/0", "/0 1 0", "0 /0 1 0", "0/ 0 1 0", "0/0/0 1 0", "0//0 1 0", "0 1/0 1 0", "0/x", "0/0x", "0/-1 1 0"]
+        {
+            assert_eq!(written(&format!("{line}\n")), "malformed\n", "{line:?}");
+        }
+    }
+
+    #[test]
     fn refused_plans() {
         assert_eq!(written("0 0 1 2\n4 3 2 1 0\n0 3 3 1 0\n"), "refused 3\nrefused 4\nrefused 6\n");
         assert_eq!(written("0 0 1 2 3\n0 3 2 4 5 1 0\n"), "refused 9\nrefused 10 0\n");
@@ -203,6 +250,13 @@ mod tests {
         assert_eq!(read(b"07\n070003000200C8\n070001000000C8\n"), "refused 1\nrefused 2\nrefused 3\n");
         assert_eq!(read(b"070001000300C8\n070001000200CC\n"), "refused 5\nrefused 13\n");
         assert_eq!(read(b"070004000100B0\n070004000100B8\n"), "0 1 0\nrefused 13\n");
+        assert_eq!(read(b"0A00010103000100E200\n0900040101000000B0\n"), "0/1 5 2 1 4 3 0\n0/0 1 0\n");
+        // No lowest dart of an area; no dart; a kind with no outside in its head.
+        assert_eq!(
+            read(b"0A00010103000200E200\n0A00010103000600E200\n080001010300E200\n"),
+            "refused 13\nrefused 13\nrefused 5\n"
+        );
+        assert_eq!(read(b"0A00030103000000E200\n"), "refused 2\n");
         assert_eq!(read(b"\n \n0\n070\n0G\n0x07\nC8\xFF\n"), "malformed\n".repeat(7));
         // As long as a length field can say, and longer.
         assert_eq!(read(format!("FFFF0100FFFF{}\n", "00".repeat(65_529)).as_bytes()), "refused 3\n");
@@ -214,11 +268,12 @@ mod tests {
         let largest = |kind| {
             let order: String =
                 (0..4096).map(|trail| format!(" {} {}", (2 * trail + 8191) % 8192, (2 * trail + 2) % 8192)).collect();
-            let record = answers(Way::Write(Some(kind)), format!("0{order}\n").as_bytes());
+            let record = answers(Way::Write(Some(kind)), format!("0/8191{order}\n").as_bytes());
             let plan = answers(Way::Read, record.as_bytes());
             assert_eq!(answers(Way::Write(Some(kind)), plan.as_bytes()), record);
             record.len()
         };
         assert_eq!([1, 2, 4].map(largest), [1542, 1850, 2054].map(|length| 2 * length + 1));
+        assert_eq!([0x101, 0x102, 0x104].map(largest), [1544, 1852, 2056].map(|length| 2 * length + 1));
     }
 }

@@ -1,5 +1,6 @@
 //! The words after a command: options, then files and numbers.
 
+use crate::kinds;
 use crate::names::shown;
 use crate::report::Problem;
 use std::ffi::{OsStr, OsString};
@@ -124,6 +125,13 @@ impl Options {
     /// As [`Options::value`], a number.
     pub fn number<T: std::str::FromStr>(&self, name: &str) -> Result<Option<T>, Problem> {
         self.value(name).map(|word| number(word, name)).transpose()
+    }
+
+    /// The kind that `--kind` names.
+    pub fn kind(&self) -> Result<Option<u16>, Problem> {
+        let named = |word: &Word| word.text().and_then(kinds::named);
+        let kind = |word| named(word).ok_or_else(|| Problem::Usage(format!("--kind: not a kind of record: {word}")));
+        self.value("--kind").map(kind).transpose()
     }
 
     /// The first word and the others.

@@ -4,7 +4,7 @@
 use crate::files::{self, led_to, sync_folder_of};
 use crate::names::shown;
 use crate::options::Word;
-use crate::plan_file::{self, Plan, ANY};
+use crate::plan_file::{self, Plan};
 use crate::report::Problem;
 use std::fs::{self, Metadata};
 use std::io::{self, ErrorKind};
@@ -26,16 +26,16 @@ impl PlanFolder {
         }
     }
 
-    /// Puts the plan file of a plan with start 0 into the folder, and returns its path.
-    pub fn put(&self, name: &str, comment: &str, order: &[u16]) -> Result<PathBuf, Problem> {
+    /// Puts the plan file of a plan into the folder, and returns its path.
+    pub fn put(&self, name: &str, comment: &str, plan: &Plan) -> Result<PathBuf, Problem> {
         let path = self.path.join(name);
-        let done = self.put_at(&led_to(&path), comment, order);
+        let done = self.put_at(&led_to(&path), comment, plan);
         done.map_err(|error| Problem::file(shown(&path), error))?;
         Ok(path)
     }
 
-    fn put_at(&self, path: &Path, comment: &str, order: &[u16]) -> io::Result<()> {
-        let text = plan_file::commented(&[comment], &plan_file::text(order, 0));
+    fn put_at(&self, path: &Path, comment: &str, plan: &Plan) -> io::Result<()> {
+        let text = plan_file::commented(&[comment], &plan_file::text(plan));
         if fs::symlink_metadata(path).is_err() {
             match files::place(path, None, text.as_bytes()) {
                 // Another run was faster.
@@ -44,7 +44,7 @@ impl PlanFolder {
             }
         }
         let old = fs::metadata(path)?;
-        match other_content(path, &old, order) {
+        match other_content(path, &old, plan) {
             None => files::clear_beside(path),
             Some(_) if self.force && old.is_file() => files::place(path, Some(&old), text.as_bytes()),
             Some(what) => Err(io::Error::other(what)),
@@ -58,12 +58,12 @@ impl PlanFolder {
 }
 
 /// What a file holds, unless it is this plan.
-fn other_content(path: &Path, found: &Metadata, order: &[u16]) -> Option<String> {
+fn other_content(path: &Path, found: &Metadata, plan: &Plan) -> Option<String> {
     if !found.is_file() {
         return Some(String::from("not a regular file"));
     }
     let what = match Plan::load(&Word::from(path.as_os_str().to_owned())) {
-        Ok(plan) if plan.record(Some(ANY)) == jurnadel::record_of(order, 0, ANY) => return None,
+        Ok(other) if other.key() == plan.key() => return None,
         Ok(_) => "holds another plan",
         Err(_) if found.len() == 0 => "is empty",
         Err(_) => "is no plan file",

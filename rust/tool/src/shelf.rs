@@ -90,7 +90,7 @@ mod tests {
     /// Records of stars, each larger than the one before.
     fn star(trails: u16) -> Vec<u8> {
         let order: Vec<u16> = (0..2 * trails).map(|dart| if dart % 2 == 0 { (dart + 2) % (2 * trails) } else { dart }).collect();
-        jurnadel::record_of(&order, 0, 2).unwrap()
+        jurnadel::record_of(&order, 0, 0, 2).unwrap()
     }
 
     #[test]

@@ -25,8 +25,8 @@ pub fn of_shelf(path: &Word, wanted: usize) -> Result<(Plan, String), Problem> {
     Ok((plan, name))
 }
 
-/// The plan of a plan file or of a record, in hexadecimal or raw: no raw record is text, for the upper byte of its kind is 0,
-/// and no plan file is a record in hexadecimal, for it has a colon.
+/// The plan of a plan file or of a record, in hexadecimal or raw: no raw record is text, for its kind is none ([`text_of`]), and
+/// no plan file is a record in hexadecimal, for it has a colon.
 fn of_file(path: &Word) -> Result<Plan, Problem> {
     let bytes = bytes_of(path)?;
     let Some(text) = text_of(&bytes) else {

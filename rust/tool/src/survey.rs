@@ -142,7 +142,7 @@ mod tests {
     fn a_turned_bit() {
         let valley =
             [26, 24, 15, 4, 3, 25, 29, 0, 7, 10, 28, 27, 22, 14, 16, 20, 13, 18, 17, 19, 1, 21, 11, 23, 2, 6, 8, 12, 9, 5];
-        let valley = jurnadel::record_of(&valley, 7, 2).unwrap();
+        let valley = jurnadel::record_of(&valley, 7, 7, 2).unwrap();
         let shelf = [&PAIR[..], &TRIANGLE, &valley, &STICK].concat();
         let kept: Vec<u32> = jurnadel::walk_from(&shelf, shelf.len(), 0).map(sums::crc).collect();
         let mut unnoticed = 0;

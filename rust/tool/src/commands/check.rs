@@ -1,7 +1,8 @@
 //! `jurnadel check`.
 
-use super::{counts, field, Command, Done};
+use super::{counts, record_of, Command, Done};
 use crate::inputs::{self, FILES_FROM};
+use crate::kinds;
 use crate::options::{Options, Word};
 use crate::plan_file::Plan;
 use crate::report::{Problem, Report};
@@ -14,9 +15,10 @@ usage: jurnadel check [--kind KIND] [--files-from LIST] PLAN..
 
 Says of each plan file how many junctions, trails and areas it has, and the kind
 and length of its record: kind 1, or 2 for a plan with a dead end other than its
-start, or 4 for one with a loop.
+start, or 4 for one with a loop; of a plan that names an outside 101h, 102h or
+104h.
 
-  --kind KIND         the record in this kind
+  --kind KIND         the record in this kind: 1, 2, 4, 101h, 102h or 104h
   --files-from LIST   also the files that LIST names, a line each or
                       NUL-separated; - is standard input
 
@@ -27,7 +29,7 @@ Exit status 1 if some plan is refused.
 
 fn run(words: &[Word], report: &mut Report) -> Done {
     let options = Options::parse(words, &[], &["--kind", FILES_FROM])?;
-    let kind = options.number("--kind")?;
+    let kind = options.kind()?;
     for path in &inputs::files(&options, &options.words, "PLAN", "plan")? {
         match check_one(path, kind) {
             Ok(line) => report.line(line),
@@ -40,12 +42,20 @@ fn run(words: &[Word], report: &mut Report) -> Done {
 /// What there is to say of a plan.
 fn check_one(path: &Word, kind: Option<u16>) -> Result<String, Problem> {
     let plan = Plan::load(path)?;
-    let record = plan.record(kind).map_err(|refusal| plan.problem(path, refusal))?;
-    let taken = field(&record, 2);
-    let why = match (kind, taken) {
-        (None, 2) => " (it has a dead end)",
-        (None, 4) => " (it has a loop)",
+    let record = record_of(&plan, path, kind)?;
+    let taken = kinds::of(&record);
+    let why = if kind.is_none() { why(taken) } else { "" };
+    Ok(format!("{path}: {}; kind {}{why}, {} bytes", counts(&plan.order), kinds::name(taken), record.len()))
+}
+
+/// Why a plan gets this kind.
+fn why(kind: u16) -> &'static str {
+    match kind {
+        2 => " (it has a dead end)",
+        4 => " (it has a loop)",
+        0x101 => " (it names an outside)",
+        0x102 => " (it names an outside and has a dead end)",
+        0x104 => " (it names an outside and has a loop)",
         _ => "",
-    };
-    Ok(format!("{path}: {}; kind {taken}{why}, {} bytes", counts(&plan.order), record.len()))
+    }
 }

@@ -10,7 +10,7 @@ use crate::source;
 pub const COMMAND: Command = Command { name: "draw", summary: "draw a plan, as an SVG picture", help: HELP, run };
 
 const HELP: &str = "\
-usage: jurnadel draw [--outside DART] [-o FILE [--force]]
+usage: jurnadel draw [--outside AREA] [-o FILE [--force]]
                      PLAN | RECORD | SHELF NUMBER
 
 Draws a plan as an SVG picture, which any browser shows: no two trails cross,
@@ -18,22 +18,23 @@ and around each junction its trails come in their turning order. The start is
 marked. Trails have their names or, in a plan without names, their numbers:
 trail 3 has darts 6 and 7. Loops, parallel trails and dead ends are drawn too.
 
-  --outside DART   put the area of this dart outside, all around the picture;
-                   in a plan by junctions 'JUNCTION TRAIL' names a dart, as in
-                   its line of start: of a loop the end that is named first.
-                   Without it, the area of the start dart
+  --outside AREA   put this area outside, all around the picture. AREA is the
+                   number of a dart, for the area on its right as one leaves its
+                   junction; in a plan by junctions also what a line of outside
+                   may say: 'JUNCTION TRAIL' for the area on the left of this
+                   trail as one leaves the junction, or 'JUNCTION TRAIL right'.
+                   Without it, the outside that the plan names, or else the area
+                   of the start dart
   -o FILE          to this file, which must not be there; else to standard
                    output
   --force          replace the file if it is there
-
-The area of a dart is the one on its right, as one leaves its junction.
 ";
 
 fn run(words: &[Word], report: &mut Report) -> Done {
     let options = Options::parse(words, &["--force"], &["--outside", "-o"])?;
     let (plan, name) = source::load(&options.words)?;
     plan.sound().map_err(|refusal| plan.problem(name, refusal))?;
-    let outside = options.value("--outside").map_or(Ok(plan.start), |word| dart(&plan, word))?;
+    let outside = options.value("--outside").map_or(Ok(plan.outer_dart()), |word| area(&plan, word))?;
     let picture = Picture {
         order: &plan.order,
         start: plan.start,
@@ -44,8 +45,8 @@ fn run(words: &[Word], report: &mut Report) -> Done {
     put_out(&options, &options.words[..1], svg(&picture).as_bytes(), report)
 }
 
-/// The dart that a word names.
-fn dart(plan: &Plan, word: &Word) -> Result<u16, Problem> {
-    let found = plan.dart(word.text().unwrap_or_default());
+/// A dart of the area that a word names.
+fn area(plan: &Plan, word: &Word) -> Result<u16, Problem> {
+    let found = plan.area(word.text().unwrap_or_default());
     found.map_err(|what| Problem::Usage(format!("--outside: {what}")))
 }

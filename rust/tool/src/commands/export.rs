@@ -2,12 +2,13 @@
 
 use super::{counted, put_out, Command, Done};
 use crate::joining::turning_order;
+use crate::kinds::ANY;
 use crate::names::shown;
 use crate::options::{Options, Word};
-use crate::plan_file::ANY;
+use crate::plan_file::Plan;
 use crate::plan_folder::PlanFolder;
 use crate::planar_code::{self, Graph};
-use crate::report::{Problem, Report};
+use crate::report::{complain, Problem, Report};
 use crate::{shelf, shelf_file, sums};
 use std::path::Path;
 
@@ -22,7 +23,8 @@ is made if it isn't there, and prints the name of each. Each plan file appears
 whole or not at all; one that is there and holds the same plan is passed over.
 
   --planar-code   planar_code in place of plan files, a graph for each record:
-                  the start is the first entry of the first junction
+                  the start is the first entry of the first junction. An outside
+                  is left out, which a line tells
   -o FILE         planar_code to this file, which must not be there; else to
                   standard output
   --force         replace what is there and holds something else
@@ -30,7 +32,7 @@ whole or not at all; one that is there and holds the same plan is passed over.
 A record that cannot be read is reported by its number and left out, and so is
 one of which planar_code would leave open how parallel trails, or the loops of a
 junction, are joined; the status is then 1. What is exported can be imported as
-the same plan.
+the same plan, in planar_code without its outside.
 ";
 
 fn run(words: &[Word], report: &mut Report) -> Done {
@@ -51,10 +53,10 @@ fn export_plans(path: &Word, folder: &Word, force: bool, report: &mut Report) ->
     let shelf = shelf_file::load(path)?;
     let folder = PlanFolder::open(folder.as_ref(), force)?;
     let name = shown(AsRef::<Path>::as_ref(path).file_name().unwrap_or_default());
-    let done = each_record(path, &shelf, report, |number, order, report| {
-        let comment = format!("record {number} of {name}: {}", counted(order.len() / 2, "trail"));
-        let plan = folder.put(&format!("{number}.plan"), &comment, order)?;
-        report.line(shown(plan));
+    let done = each_record(path, &shelf, report, |number, plan, report| {
+        let comment = format!("record {number} of {name}: {}", counted(plan.order.len() / 2, "trail"));
+        let file = folder.put(&format!("{number}.plan"), &comment, plan)?;
+        report.line(shown(file));
         report.flush();
         Ok(())
     });
@@ -64,11 +66,15 @@ fn export_plans(path: &Word, folder: &Word, force: bool, report: &mut Report) ->
 fn export_code(options: &Options, report: &mut Report) -> Done {
     let path = options.only("SHELF")?;
     let shelf = shelf_file::load(path)?;
-    let mut graphs = Vec::new();
-    let done = each_record(path, &shelf, report, |number, order, _| {
-        graphs.push(coded(order).map_err(|what| Problem::Refused(format!("{path}: record {number}: {what}")))?);
+    let (mut graphs, mut outsides) = (Vec::new(), 0);
+    let done = each_record(path, &shelf, report, |number, plan, _| {
+        graphs.push(coded(&plan.order).map_err(|what| Problem::Refused(format!("{path}: record {number}: {what}")))?);
+        outsides += usize::from(plan.outside.is_some());
         Ok(())
     });
+    if outsides > 0 {
+        complain(format!("{path}: planar_code has no outside; that of {} is left out", counted(outsides, "record")));
+    }
     put_out(options, std::slice::from_ref(path), &planar_code::code(&graphs), report).and(done)
 }
 
@@ -76,26 +82,26 @@ fn export_code(options: &Options, report: &mut Report) -> Done {
 fn coded(order: &[u16]) -> Result<Graph, String> {
     let graph = planar_code::graph_of(order);
     let back = turning_order(&graph).map_err(|untaken| untaken.to_string())?;
-    match jurnadel::record_of(&back, 0, ANY) == jurnadel::record_of(order, 0, ANY) {
+    match jurnadel::record_of(&back, 0, 0, ANY) == jurnadel::record_of(order, 0, 0, ANY) {
         true => Ok(graph),
         false => Err(String::from("planar_code doesn't hold this plan")),
     }
 }
 
-/// Does something with the number and the turning order of each record that stands on a shelf. Reports what goes wrong, and
-/// goes on to the next.
+/// Does something with the number and the plan of each record that stands on a shelf. Reports what goes wrong, and goes on to
+/// the next.
 fn each_record(
     path: &Word,
     shelf: &[u8],
     report: &mut Report,
-    mut action: impl FnMut(usize, &[u16], &mut Report) -> Done,
+    mut action: impl FnMut(usize, &Plan, &mut Report) -> Done,
 ) -> Done {
     let kept = shelf_file::load_sums(path)?;
     for (number, record) in jurnadel::walk_from(shelf, shelf.len(), 0).enumerate() {
-        let order = shelf_file::unchanged(path, number, sums::crc(record), &kept).and_then(|()| {
-            jurnadel::plan_of(record).map_err(|refusal| Problem::refused(format!("{path}: record {number}"), refusal))
+        let plan = shelf_file::unchanged(path, number, sums::crc(record), &kept).and_then(|()| {
+            Plan::of_record(record).map_err(|refusal| Problem::refused(format!("{path}: record {number}"), refusal))
         });
-        if let Err(problem) = order.and_then(|order| action(number, &order, report)) {
+        if let Err(problem) = plan.and_then(|plan| action(number, &plan, report)) {
             report.problem(&problem);
         }
     }

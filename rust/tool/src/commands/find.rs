@@ -2,8 +2,9 @@
 
 use super::{Command, Done};
 use crate::inputs::{self, FILES_FROM};
+use crate::kinds;
 use crate::options::{Options, Word};
-use crate::plan_file::{Plan, KINDS};
+use crate::plan_file::Plan;
 use crate::report::{Problem, Report};
 use crate::shelf::Shelf;
 use crate::shelf_file;
@@ -14,7 +15,9 @@ const HELP: &str = "\
 usage: jurnadel find [--kind KIND] [--files-from LIST] SHELF PLAN..
 
 Says of each plan file under which number it is on the shelf, in whatever kind:
-'NUMBER there NAME', or '- not there NAME'. Nothing is shelved.
+'NUMBER there NAME', or '- not there NAME'. A plan that names an outside is
+looked for with this outside (kinds 101h, 102h, 104h), another one without (1,
+2, 4). Nothing is shelved.
 
   --kind KIND         look for records of this kind only
   --files-from LIST   also the files that LIST names, a line each or
@@ -26,12 +29,12 @@ plan is not there.
 
 fn run(words: &[Word], report: &mut Report) -> Done {
     let options = Options::parse(words, &[], &["--kind", FILES_FROM])?;
-    let kinds = options.number("--kind")?.map_or(KINDS.to_vec(), |kind| vec![kind]);
+    let kind = options.kind()?;
     let (path, plans) = options.first_and_rest("SHELF")?;
     let plans = inputs::files(&options, plans, "PLAN", "plan")?;
     let shelf = Shelf::new(shelf_file::load(path)?, None).map_err(|refusal| shelf_file::refused(path, refusal))?;
     for plan in &plans {
-        match numbers(&shelf, plan, &kinds) {
+        match numbers(&shelf, plan, kind) {
             Ok(found) if found.is_empty() => {
                 report.line(format!("- not there {plan}"));
                 report.found_wrong();
@@ -43,9 +46,11 @@ fn run(words: &[Word], report: &mut Report) -> Done {
     Ok(())
 }
 
-/// The numbers under which a plan is on a shelf. A plan that no kind takes is refused.
-fn numbers(shelf: &Shelf, path: &Word, kinds: &[u16]) -> Result<Vec<usize>, Problem> {
+/// The numbers under which a plan is on a shelf, in this kind or in all with an outside or without, as the plan has it. A plan
+/// that no kind takes is refused.
+fn numbers(shelf: &Shelf, path: &Word, kind: Option<u16>) -> Result<Vec<usize>, Problem> {
     let plan = Plan::load(path)?;
+    let kinds = kind.map_or(kinds::group(plan.outside.is_some()).to_vec(), |kind| vec![kind]);
     let records = kinds.iter().map(|&kind| plan.record(Some(kind)));
     let (records, refused): (Vec<_>, Vec<_>) = records.partition(Result::is_ok);
     match refused.into_iter().next_back() {

@@ -5,6 +5,7 @@ use crate::files::source_of;
 use crate::joining::{turning_order, Untaken};
 use crate::names::shown;
 use crate::options::{Options, Word};
+use crate::plan_file::Plan;
 use crate::plan_folder::PlanFolder;
 use crate::planar_code::{Graph, Graphs};
 use crate::report::{Problem, Report};
@@ -97,6 +98,6 @@ impl Source<'_> {
         })?;
         let (junctions, trails) = (counted(graph.len(), "junction"), counted(order.len() / 2, "trail"));
         let comment = format!("graph {number} of {}: {junctions}, {trails}", shown(&self.name));
-        folder.put(&format!("{}-{number}.plan", self.name), &comment, &order)
+        folder.put(&format!("{}-{number}.plan", self.name), &comment, &Plan::of_order(order))
     }
 }

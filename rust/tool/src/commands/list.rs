@@ -1,6 +1,7 @@
 //! `jurnadel list`.
 
 use super::{field, Command, Done};
+use crate::kinds;
 use crate::options::{Options, Word};
 use crate::report::Report;
 use crate::shelf_file;
@@ -29,7 +30,7 @@ fn run(words: &[Word], report: &mut Report) -> Done {
     let mut at = walk.place();
     let mut number = first;
     while let Some(record) = walk.next() {
-        let (kind, trails) = (field(record, 2), field(record, 4));
+        let (kind, trails) = (kinds::name(kinds::of(record)), field(record, 4));
         report.line(format!("{number} {at} {} {kind} {trails}", record.len()));
         at = walk.place();
         number += 1;

@@ -17,10 +17,11 @@ mod verify;
 mod write;
 
 use crate::files;
+use crate::kinds;
 use crate::lines::Way;
 use crate::options::{Options, Word};
 use crate::plan_file::{self, Plan};
-use crate::report::{Problem, Report};
+use crate::report::{complain, Problem, Report};
 use crate::{shape, stream};
 use jurnadel::Refusal;
 
@@ -59,10 +60,14 @@ pub const COMMANDS: [Command; 15] = [
     export::COMMAND,
 ];
 
-/// The record of a plan file.
-pub fn record_of(path: &Word, kind: Option<u16>) -> Result<Vec<u8>, Problem> {
-    let plan = Plan::load(path)?;
-    plan.record(kind).map_err(|refusal| plan.problem(path, refusal))
+/// The record of the plan of a file. Where the kind asked for has no outside and the plan does, a line tells.
+pub fn record_of(plan: &Plan, path: &Word, kind: Option<u16>) -> Result<Vec<u8>, Problem> {
+    let record = plan.record(kind).map_err(|refusal| plan.problem(path, refusal))?;
+    let taken = kinds::of(&record);
+    if plan.outside.is_some() && !kinds::has_outside(taken) {
+        complain(format!("{path}: kind {} has no outside; the plan's is left out", kinds::name(taken)));
+    }
+    Ok(record)
 }
 
 /// The plan file of a sound plan, by junctions or by numbers. Its comments tell its counts and the lengths of its areas, these
@@ -70,12 +75,19 @@ pub fn record_of(path: &Word, kind: Option<u16>) -> Result<Vec<u8>, Problem> {
 pub fn plan_text(plan: &Plan, by_junctions: bool) -> Result<String, Refusal> {
     let text = match by_junctions {
         true => plan_file::junctions_text(plan),
-        false => plan_file::text(&plan.order, plan.start),
+        false => plan_file::text(plan),
     };
     let printed = Plan::parse(&text).expect("a printed plan is read back");
-    let lengths: Vec<String> = jurnadel::areas_of(&printed.order)?.iter().map(u16::to_string).collect();
-    let comments = [counts(&plan.order), format!("lengths of the areas: {}", lengths.join(" "))];
+    let comments = [counts(&plan.order), format!("lengths of the areas: {}", lengths(&printed)?)];
     Ok(plan_file::commented(&[&comments[0], &comments[1]], &text))
+}
+
+/// The lengths of a sound plan's areas; an outside that it names is told.
+fn lengths(plan: &Plan) -> Result<String, Refusal> {
+    let outside = plan.outside.map(|dart| shape::areas(&plan.order).of[usize::from(dart)]);
+    let length = |(area, length)| format!("{length}{}", if Some(area) == outside { " (outside)" } else { "" });
+    let lengths: Vec<String> = (0..).zip(jurnadel::areas_of(&plan.order)?).map(length).collect();
+    Ok(lengths.join(" "))
 }
 
 /// How many junctions, trails and areas a sound plan has.

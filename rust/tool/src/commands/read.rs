@@ -14,7 +14,8 @@ usage: jurnadel read [--raw] [--junctions] [-o FILE [--force]] [RECORD]
        jurnadel read --lines [--jobs N] [FILE]
 
 Reads a record, from standard input if RECORD is left out or -, and prints its
-plan as a plan file, in standard numbering with start 0.
+plan as a plan file, in standard numbering with start 0, and with a line of
+outside if the record is of kind 101h, 102h or 104h.
 
   --raw         the record is bytes, not hexadecimal
   --junctions   the plan file by junctions, as jurnadel show prints it
@@ -23,10 +24,10 @@ plan as a plan file, in standard numbering with start 0.
 
   --lines    a record a line, in hexadecimal, from FILE or standard input. Each
              line is answered by one line, in the same order and at once: the
-             plan as 'write --lines' takes it, its start 0 and then its entries;
-             'refused NUMBER'; or 'malformed' for a line that is no hexadecimal
-             or has more than 1,048,576 bytes. Exit status 1 if any line was
-             refused or malformed
+             plan as 'write --lines' takes it, its start 0, for kinds 101h, 102h
+             and 104h 0/outside, and then its entries; 'refused NUMBER'; or
+             'malformed' for a line that is no hexadecimal or has more than
+             1,048,576 bytes. Exit status 1 if any line was refused or malformed
   --jobs N   with --lines: use N threads, 256 at most; without it, or with 0,
              one for each core
 ";

@@ -1,10 +1,11 @@
 //! `jurnadel shelve`.
 
-use super::{counted, field, Command, Done};
+use super::{counted, record_of, Command, Done};
 use crate::files::bytes_of;
 use crate::inputs::{self, FILES_FROM};
+use crate::kinds;
 use crate::options::{Options, Word};
-use crate::plan_file::{Plan, KINDS};
+use crate::plan_file::Plan;
 use crate::report::{complain, Problem, Report};
 use crate::shelf_file::ShelfFile;
 use std::io::IsTerminal as _;
@@ -22,8 +23,10 @@ name. A plan that is refused is reported, and the others are shelved. A SHELF
 that isn't there is made. PLAN is a plan file, or a folder: the .plan files in
 it.
 
-  --kind KIND         1, 2 or 4; else 1, or 2 for a plan with a dead end other
-                      than its start, or 4 for one with a loop
+  --kind KIND         1, 2, 4, 101h, 102h or 104h; else 1, or 2 for a plan with
+                      a dead end other than its start, or 4 for one with a loop;
+                      for a plan that names an outside 101h, 102h or 104h, which
+                      are the same with the outside; the others leave it out
   --size BYTES        the shelf's whole length; a record that exceeds it is
                       refused (16). Else the shelf grows
   --raw               the files are records, as bytes; of a folder, the .record
@@ -33,8 +36,10 @@ it.
   --progress          say how far the run is, also where standard error is no
                       terminal
 
-Without --kind a plan that is on the shelf in whatever kind is already there.
-With it, one that is there in other kinds alone is new, and reported.
+Without --kind a plan that is on the shelf in whatever kind is already there;
+one that names an outside if it is there with this outside, another one if it is
+there without. With --kind, one that is there in other kinds alone is new, and
+reported.
 
 What is printed is in the file: the shelf file is replaced, in one step, before
 its numbers are printed. Runs on one shelf wait for each other (SHELF.lock).
@@ -48,7 +53,7 @@ const BETWEEN_SAVES: Duration = Duration::from_secs(1);
 fn run(words: &[Word], report: &mut Report) -> Done {
     let options = Options::parse(words, &["--raw", "--progress"], &["--kind", "--size", FILES_FROM])?;
     options.not_both("--kind", "--raw")?;
-    let kind = options.number("--kind")?;
+    let kind = options.kind()?;
     let size = options.number("--size")?;
     let (path, files) = options.first_and_rest("SHELF")?;
     let files = inputs::files(&options, files, "PLAN", if options.has("--raw") { "record" } else { "plan" })?;
@@ -90,11 +95,12 @@ fn shelve_record(shelf: &mut ShelfFile, file: &Word) -> Shelved {
 
 fn shelve_plan(shelf: &mut ShelfFile, file: &Word, kind: Option<u16>) -> Shelved {
     let plan = Plan::load(file)?;
-    let record = plan.record(kind).map_err(|refusal| plan.problem(file, refusal))?;
+    let record = record_of(&plan, file, kind)?;
     if let Some(number) = shelf.shelf.find(&record) {
         return Ok((number, THERE));
     }
-    let others = KINDS.into_iter().filter(|&other| other != field(&record, 2));
+    let taken = kinds::of(&record);
+    let others = kinds::group(kinds::has_outside(taken)).into_iter().filter(|&other| other != taken);
     let found = |other| Some((other, shelf.shelf.find(&plan.record(Some(other)).ok()?)?));
     let elsewhere: Vec<(u16, usize)> = others.filter_map(found).collect();
     // The tool's own choice of a kind makes no plan new: an earlier version chose kind 2 for more plans.
@@ -103,7 +109,7 @@ fn shelve_plan(shelf: &mut ShelfFile, file: &Word, kind: Option<u16>) -> Shelved
     }
     let (number, _) = shelf.shelf.shelve(&record).map_err(|refusal| Problem::refused(file, refusal))?;
     for (other, there) in elsewhere {
-        complain(format!("{file}: on the shelf in kind {other} too, as record {there}"));
+        complain(format!("{file}: on the shelf in kind {} too, as record {there}", kinds::name(other)));
     }
     Ok((number, NEW))
 }

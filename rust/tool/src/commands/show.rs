@@ -16,9 +16,10 @@ Prints a plan as a plan file. Its comments tell how many junctions, trails and
 areas the plan has, and how long each area is: how many trails a walk along its
 border takes, one that has the area on both sides twice. Areas come in the order
 of their lowest trail ends; by junctions, trail ends are numbered as the lines
-name them, the two of a trail together. The plan may stand in a plan file of
-either form, in a record (in hexadecimal or as bytes) or on a shelf; - is
-standard input.
+name them, the two of a trail together. A plan that names an outside, or whose
+record is of kind 101h, 102h or 104h, is printed with a line of outside. The
+plan may stand in a plan file of either form, in a record (in hexadecimal or as
+bytes) or on a shelf; - is standard input.
 
   --junctions   by junctions (this is taken if nothing is said); without names
                 of its own the plan gets A, B, .. for its junctions and a, b, ..

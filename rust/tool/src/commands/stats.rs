@@ -1,6 +1,7 @@
 //! `jurnadel stats`.
 
 use super::{counted, field, Command, Done};
+use crate::kinds;
 use crate::options::{Options, Word};
 use crate::report::Report;
 use crate::shelf_file;
@@ -22,7 +23,7 @@ fn run(words: &[Word], report: &mut Report) -> Done {
     let mut rows: BTreeMap<(u16, u16), (usize, usize)> = BTreeMap::new();
     let (mut count, mut largest): (usize, Option<(u16, usize, usize)>) = (0, None);
     for (number, record) in shelf_file::records(path, &bytes)?.enumerate() {
-        let (kind, trails) = (field(record, 2), field(record, 4));
+        let (kind, trails) = (kinds::of(record), field(record, 4));
         let row = rows.entry((kind, trails)).or_default();
         *row = (row.0 + 1, row.1 + record.len());
         if largest.is_none_or(|(most, ..)| trails > most) {
@@ -36,7 +37,7 @@ fn run(words: &[Word], report: &mut Report) -> Done {
         report.line("kind trails records bytes");
     }
     for ((kind, trails), (records, bytes)) in rows {
-        report.line(format!("{kind} {trails} {records} {bytes}"));
+        report.line(format!("{} {trails} {records} {bytes}", kinds::name(kind)));
     }
     Ok(())
 }

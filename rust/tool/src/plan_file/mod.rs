@@ -1,7 +1,7 @@
 //! Plan files: a plan as text, by numbers (`numbers`) or by junctions (`junctions`, `names`).
 //!
-//! One line `start: ..`; beside it one line of entries or, by junctions, a line `NAME: TRAIL ..` for each. `#` begins a
-//! comment, blank lines are skipped. Comments may be in any encoding that has ASCII's bytes.
+//! One line `start: ..` and perhaps one `outside: ..`; beside them one line of entries or, by junctions, a line `NAME: TRAIL ..`
+//! for each. `#` begins a comment, blank lines are skipped. Comments may be in any encoding that has ASCII's bytes.
 
 mod junctions;
 mod names;
@@ -13,6 +13,7 @@ pub use junctions::text as junctions_text;
 pub use numbers::text;
 
 use crate::files::{bytes_of, text_of};
+use crate::kinds::{self, in_kind};
 use crate::names::beginning;
 use crate::options::Word;
 use crate::report::{in_words, Problem};
@@ -20,12 +21,6 @@ use jurnadel::Refusal;
 use names::Names;
 use std::collections::BTreeMap;
 use std::fmt::Display;
-
-/// The kinds of records, as [`in_kind`] tries them. The last takes every plan.
-pub const KINDS: [u16; 3] = [1, 2, ANY];
-
-/// The kind that takes every plan.
-pub const ANY: u16 = 4;
 
 /// A line, and what is wrong there.
 type Wrong = (usize, String);
@@ -35,6 +30,8 @@ type Wrong = (usize, String);
 pub struct Plan {
     pub order: Vec<u16>,
     pub start: u16,
+    /// A dart of the area that is outside, if the plan names one.
+    pub outside: Option<u16>,
     written: Written,
 }
 
@@ -44,10 +41,11 @@ enum Written {
     Numbers {
         order_line: usize,
         start_line: usize,
+        outside_line: Option<usize>,
     },
     Junctions(Names),
-    /// In a record, not in a plan file.
-    Record,
+    /// Not in a plan file.
+    Elsewhere,
 }
 
 impl Plan {
@@ -72,21 +70,42 @@ impl Plan {
         }
     }
 
-    /// The plan of a record, in standard numbering.
+    /// The plan of this turning order with start 0.
+    pub fn of_order(order: Vec<u16>) -> Plan {
+        Plan { order, start: 0, outside: None, written: Written::Elsewhere }
+    }
+
+    /// The plan of a record, in standard numbering. It names an outside where the record's kind does.
     pub fn of_record(record: &[u8]) -> Result<Plan, Refusal> {
-        Ok(Plan { order: jurnadel::plan_of(record)?, start: 0, written: Written::Record })
+        let jurnadel::Plan { order, outside } = jurnadel::plan_of(record)?;
+        let outside = kinds::has_outside(kinds::of(record)).then_some(outside);
+        Ok(Plan { outside, ..Plan::of_order(order) })
+    }
+
+    /// A dart of the area that is outside: the start's, where the plan names none.
+    pub fn outer_dart(&self) -> u16 {
+        self.outside.unwrap_or(self.start)
     }
 
     /// The record in this kind; with none given see [`in_kind`].
     pub fn record(&self, kind: Option<u16>) -> Result<Vec<u8>, Refusal> {
         // The library knows trail ends, so of a junction without one it is told by a plan that is in pieces as well.
-        let (order, start) = if self.has_lone_junction() { (&[0, 1, 2, 3][..], 0) } else { (&self.order[..], self.start) };
-        in_kind(kind, |kind| jurnadel::record_of(order, start, kind))
+        let (order, start, outside) = match self.has_lone_junction() {
+            true => (&[0, 1, 2, 3][..], 0, 0),
+            false => (&self.order[..], self.start, self.outer_dart()),
+        };
+        in_kind(kind, self.outside.is_some(), |kind| jurnadel::record_of(order, start, outside, kind))
+    }
+
+    /// The record that tells it from other plans, in the kind that takes every plan: with the outside, if it names one.
+    pub fn key(&self) -> Result<Vec<u8>, Refusal> {
+        let [.., any] = kinds::group(self.outside.is_some());
+        self.record(Some(any))
     }
 
     /// Whether it is a plan at all, connected and planar.
     pub fn sound(&self) -> Result<(), Refusal> {
-        self.record(Some(ANY)).map(drop)
+        self.key().map(drop)
     }
 
     /// A refusal of the plan in this file: with the line that it is about, and with names where the plan has them.
@@ -95,20 +114,23 @@ impl Plan {
             Written::Numbers { start_line, .. } if refusal.number() == Refusal::BAD_START => {
                 (Some(*start_line), in_words(refusal))
             }
+            Written::Numbers { outside_line, .. } if refusal.number() == Refusal::BAD_OUTSIDE => {
+                (*outside_line, in_words(refusal))
+            }
             Written::Numbers { order_line, .. } => (Some(*order_line), in_words(refusal)),
             Written::Junctions(names) => names.in_words(self, refusal),
-            Written::Record => (None, in_words(refusal)),
+            Written::Elsewhere => (None, in_words(refusal)),
         };
         let line = line.map_or(String::new(), |line| format!(":{line}"));
         Problem::Refused(format!("{file}{line}: {words}"))
     }
 
-    /// The dart that words name: a number or, in a plan by junctions, a junction and one of its trails.
-    pub fn dart(&self, words: &str) -> Result<u16, String> {
+    /// A dart of the area that words name: its number or, in a plan by junctions, what its line `outside:` may say.
+    pub fn area(&self, words: &str) -> Result<u16, String> {
         let number = words.parse().ok().filter(|&dart: &u16| usize::from(dart) < self.order.len());
         match (number, self.names()) {
             (Some(dart), _) => Ok(dart),
-            (None, Some(names)) => names.dart(words).map(junctions::number),
+            (None, Some(names)) => names.area(words).map(junctions::number),
             (None, None) => Err(format!("the plan has darts 0 to {}, not {}", self.order.len() - 1, beginning(words))),
         }
     }
@@ -141,19 +163,6 @@ impl Plan {
     }
 }
 
-/// Writes a plan in this kind; with none given in the first that takes it: in kind 1, in kind 2 where a dead end other than the
-/// start keeps it from kind 1, or in kind 4 where a loop keeps it from both.
-pub fn in_kind<T>(kind: Option<u16>, mut write: impl FnMut(u16) -> Result<T, Refusal>) -> Result<T, Refusal> {
-    match kind {
-        Some(kind) => write(kind),
-        None => write(1).or_else(|refusal| match refusal.number() {
-            Refusal::HAS_DEGREE_ONE => write(2),
-            Refusal::HAS_LOOP => write(ANY),
-            _ => Err(refusal),
-        }),
-    }
-}
-
 /// A plan file with comments on its first lines, a line each.
 pub fn commented(comments: &[&str], text: &str) -> String {
     let lines = comments.iter().map(|comment| format!("# {}\n", comment.replace(char::is_control, " ")));
@@ -162,22 +171,24 @@ pub fn commented(comments: &[&str], text: &str) -> String {
 
 /// The lines of a plan file that say something, without comments, each with its number.
 struct Lines<'a> {
-    /// What the line `start:` says.
+    /// What the lines `start:` and `outside:` say.
     start: Option<(usize, &'a str)>,
+    outside: Option<(usize, &'a str)>,
     others: Vec<(usize, &'a str)>,
     /// The number of the last line of all.
     last: usize,
 }
 
-impl Lines<'_> {
-    fn of(text: &str) -> Result<Lines<'_>, Wrong> {
-        let mut lines = Lines { start: None, others: Vec::new(), last: 1 };
+impl<'a> Lines<'a> {
+    fn of(text: &'a str) -> Result<Lines<'a>, Wrong> {
+        let mut lines = Lines { start: None, outside: None, others: Vec::new(), last: 1 };
         for (number, line) in (1..).zip(text.lines()) {
             lines.last = number;
             let line = line.split('#').next().unwrap_or("").trim();
-            match line.split_once(':').filter(|(word, _)| word.trim_end() == "start") {
-                Some(_) if lines.start.is_some() => return Err((number, String::from("a second line of start"))),
-                Some((_, words)) => lines.start = Some((number, words.trim())),
+            let (word, words) = line.split_once(':').unwrap_or_default();
+            match lines.named(word.trim_end()) {
+                Some(Some(_)) => return Err((number, format!("a second line of {}", word.trim_end()))),
+                Some(said) => *said = Some((number, words.trim())),
                 None if line.is_empty() => {}
                 None => lines.others.push((number, line)),
             }
@@ -185,11 +196,21 @@ impl Lines<'_> {
         Ok(lines)
     }
 
-    /// Whether the plan is by junctions: some line but the start's has a colon; or there is none, and the start is two words.
+    /// What the line of this name says.
+    fn named(&mut self, word: &str) -> Option<&mut Option<(usize, &'a str)>> {
+        match word {
+            "start" => Some(&mut self.start),
+            "outside" => Some(&mut self.outside),
+            _ => None,
+        }
+    }
+
+    /// Whether the plan is by junctions: some line but the start's and the outside's has a colon; or there is no other line, and
+    /// one of these has two words.
     fn by_junctions(&self) -> bool {
-        match self.start {
-            Some((_, words)) if self.others.is_empty() => words.split_whitespace().count() > 1,
-            _ => self.others.iter().any(|(_, line)| line.contains(':')),
+        match self.others.is_empty() {
+            true => [self.start, self.outside].iter().flatten().any(|(_, words)| words.split_whitespace().count() > 1),
+            false => self.others.iter().any(|(_, line)| line.contains(':')),
         }
     }
 }

@@ -92,7 +92,7 @@ impl Names {
         let by_dart = self.by_dart();
         let trail = by_dart.chunks(2).position(|ends| std::ptr::eq(ends[0], ends[1]))?;
         let (name, junction) = (&self.trails[trail], by_dart[2 * trail].name.shown());
-        let words = format!("trail {} leads back to junction {junction}, a loop, which only kind 4 takes", name.shown());
+        let words = format!("trail {} leads back to junction {junction}, a loop, which only kinds 4 and 104h take", name.shown());
         Some((name.line, words))
     }
 
@@ -100,7 +100,7 @@ impl Names {
     fn dead_end(&self, plan: &Plan) -> Option<Wrong> {
         let ends = |junction: &&Junction| junction.darts.len() == 1 && junction.darts[0] != usize::from(plan.start);
         let name = &self.junctions.iter().find(ends)?.name;
-        Some((name.line, format!("junction {} is a dead end, which kind 1 doesn't take; kinds 2 and 4 do", name.shown())))
+        Some((name.line, format!("junction {} is a dead end, which kinds 1 and 101h don't take", name.shown())))
     }
 }
 
@@ -126,14 +126,14 @@ mod tests {
         assert_eq!(refusal(None, "A: a b\nstart: A b\nB: b a\nD: c\nE: c\n"), pieces(4, "D"));
         assert_eq!(refusal(None, "C:\nA: a b\nstart: A b\nB: b a\n"), pieces(1, "C"));
         assert_eq!(refusal(None, "A: a b c\nB: a b c\nstart: A b\n").split_once(": ").unwrap().0, "x");
-        let back = "x:2: trail d leads back to junction B, a loop, which only kind 4 takes (refusal 11)";
+        let back = "x:2: trail d leads back to junction B, a loop, which only kinds 4 and 104h take (refusal 11)";
         assert_eq!([1, 2].map(|kind| refusal(Some(kind), "A: a b\nB: b d d a\nstart: A b\n")), [back; 2]);
-        let dead = "x:3: junction C is a dead end, which kind 1 doesn't take; kinds 2 and 4 do (refusal 12)";
+        let dead = "x:3: junction C is a dead end, which kinds 1 and 101h don't take (refusal 12)";
         assert_eq!(refusal(Some(1), "A: a b\nB: b a c\nC: c\nstart: A b\n"), dead);
         assert_eq!(refusal(Some(1), "A: a\nB: a b\nC: b\nstart: A a\n"), dead);
         assert_eq!(
             refusal(Some(3), "A: a\nB: a\nstart: A a\n"),
-            "x: there is no such kind of record; the kinds are 1, 2 and 4 (refusal 2)"
+            "x: there is no such kind of record; the kinds are 1, 2, 4, 101h, 102h and 104h (refusal 2)"
         );
     }
 

@@ -2,13 +2,21 @@
 
 use super::*;
 use crate::growing::{self, Random, Shape};
+use crate::kinds::{group, has_outside};
 use crate::shape::{areas, junctions};
 
 /// A random plan with this many trails, perhaps with loops.
 fn plan(random: &mut Random, trails: usize) -> Plan {
     let order = growing::random(trails, Shape { dead_ends: 3, corners: 6 }, random);
     let start = random.below(order.len()) as u16;
-    Plan { order, start, written: Written::Record }
+    Plan { start, ..Plan::of_order(order) }
+}
+
+/// As [`plan`]; every other one names an outside.
+fn plan_or_sheet(random: &mut Random, trails: usize) -> Plan {
+    let plan = plan(random, trails);
+    let outside = random.below(2 * plan.order.len());
+    Plan { outside: Some(outside as u16).filter(|&dart| usize::from(dart) < plan.order.len()), ..plan }
 }
 
 /// Damages some bytes.
@@ -27,7 +35,7 @@ fn damage(random: &mut Random, text: &str) -> Vec<u8> {
     bytes
 }
 
-/// The order with its darts numbered as they are met from the start by entries and opposites.
+/// The order with its darts numbered as they are met from the start by entries and opposites; then the lowest dart of the outside.
 fn renumbered(plan: &Plan) -> Vec<usize> {
     let mut number = vec![usize::MAX; plan.order.len()];
     let mut met = vec![usize::from(plan.start)];
@@ -40,7 +48,11 @@ fn renumbered(plan: &Plan) -> Vec<usize> {
             }
         }
     }
-    met.iter().flat_map(|&dart| [number[usize::from(plan.order[dart])], number[dart ^ 1]]).collect()
+    let order = met.iter().flat_map(|&dart| [number[usize::from(plan.order[dart])], number[dart ^ 1]]);
+    let area = areas(&plan.order).of;
+    let in_area =
+        |outside: u16| (0..area.len()).filter(|&dart| area[dart] == area[usize::from(outside)]).map(|dart| number[dart]).min();
+    order.chain(plan.outside.and_then(in_area)).collect()
 }
 
 #[test]
@@ -48,15 +60,17 @@ fn one_form_and_the_other() {
     let mut random = Random(1);
     for turn in 0..2000 {
         let trails = if turn == 0 { 4096 } else { 1 + random.below(40) };
-        let plan = plan(&mut random, trails);
+        let plan = plan_or_sheet(&mut random, trails);
         assert_eq!(plan.sound(), Ok(()));
         let named = Plan::parse(&junctions_text(&plan)).unwrap();
-        let again = Plan::parse(&text(&named.order, named.start)).unwrap();
+        let again = Plan::parse(&text(&named)).unwrap();
         let kept = Plan::parse(&junctions_text(&named)).unwrap();
-        for other in [&named, &again, &kept] {
+        let read = Plan::of_record(&plan.record(None).unwrap()).unwrap();
+        for other in [&named, &again, &kept, &read] {
             assert_eq!(renumbered(other), renumbered(&plan));
             assert_eq!(other.record(None), plan.record(None));
         }
+        assert_eq!(text(&again), text(&named));
         assert_eq!(junctions_text(&kept), junctions_text(&plan));
     }
 }
@@ -85,9 +99,9 @@ fn areas_of_the_library() {
 #[test]
 fn random_plans_are_of_all_kinds() {
     let mut random = Random(2);
-    let mut counts = KINDS.map(|kind| (kind, 0));
-    for _ in 0..400 {
-        let kind = plan(&mut random, 4).record(None).unwrap()[2].into();
+    let mut counts = [group(false), group(true)].concat().into_iter().map(|kind| (kind, 0)).collect::<Vec<_>>();
+    for _ in 0..800 {
+        let kind = kinds::of(&plan_or_sheet(&mut random, 4).record(None).unwrap());
         counts.iter_mut().filter(|(other, _)| *other == kind).for_each(|(_, count)| *count += 1);
     }
     assert!(counts.iter().all(|&(_, count)| count > 10), "{counts:?}");
@@ -99,6 +113,8 @@ fn damaged_plan_files() {
     let texts = [
         "start: 0\n4 2 1 0 3 5\n",
         "# T\u{FC}r\nstart: A a\nA: a b c\nB: b a d\nC: c d # here\n",
+        "start: 0\noutside: 3\n4 2 1 0 3 5\n",
+        "outside: Hut lake right\nstart: Hut ridge\nHut: ridge lake\nTop: lake ridge x\nFar: x\n",
         "start : Hut ridge\r\nHut: ridge lake \r\nTop: lake ridge x\r\nFar: x\r\n",
     ];
     let mut random = Random(3);
@@ -130,11 +146,16 @@ fn texts() {
     assert_eq!(plan(b"\xEF\xBB\xBFA: a b # S\xFCd\r\nstart: A a\r\nB: b a\r\n"), Ok((0, vec![2, 3, 0, 1])));
     assert_eq!(plan(b"start: A a\nA: a S\xFCd\nB: S\xFBd a\n").unwrap_err().0, 2);
     assert_eq!(text_of(b"\xFF\xFEs\0t\0"), None);
+    // Six hundred loops, one of them around the sheet: a raw record without a NUL.
+    let plan = Plan { outside: Some(257), ..Plan::of_order((1..1200).chain([0]).collect()) };
+    let record = plan.record(None).unwrap();
+    assert_eq!((record.contains(&0), text_of(&record)), (false, None));
+    assert_eq!(text_of(b"# \x01\x02\n").as_deref(), Some("# \x01\x02\n"));
 }
 
 #[test]
 fn kinds() {
-    let kind = |text: &str| Plan::parse(text).unwrap().record(None).map(|record| record[2]);
+    let kind = |text: &str| Plan::parse(text).unwrap().record(None).map(|record| kinds::of(&record));
     assert_eq!(kind("start: 0\n3 2 1 0\n"), Ok(1));
     assert_eq!(kind("start: 0\n0 1\n"), Ok(2));
     assert_eq!(kind("start: 0\n1 0\n"), Ok(4));
@@ -142,17 +163,41 @@ fn kinds() {
     assert_eq!(kind("start: A a\nA: a\nB: a\n"), Ok(2));
     assert_eq!(kind("start: A a\nA: a a\n"), Ok(4));
     assert_eq!(kind("start: A a\nA: a b b\nB: a\n"), Ok(4));
+    assert_eq!(kind("start: 0\n3 2 1 0\noutside: 1\n"), Ok(0x101));
+    assert_eq!(kind("start: 0\n0 1\noutside: 0\n"), Ok(0x102));
+    assert_eq!(kind("start: A a\nA: a a\noutside: A a\n"), Ok(0x104));
+    assert_eq!(kind("start: 0\n3 2 1 0\noutside: 4\n").unwrap_err().number(), 17);
     assert_eq!(kind("start: 0\n3 2 4 5 1 0\n").unwrap_err().number(), 10);
 }
 
-/// The kind that is taken is the first that takes the plan.
+/// The kind that is taken is the first that takes the plan, of those with the outside if it names one.
 #[test]
 fn kinds_in_their_order() {
     let mut random = Random(5);
     for _ in 0..1000 {
         let trails = 1 + random.below(6);
-        let plan = plan(&mut random, trails);
-        let mut records = KINDS.iter().filter_map(|&kind| plan.record(Some(kind)).ok());
+        let plan = plan_or_sheet(&mut random, trails);
+        let mut records = group(plan.outside.is_some()).into_iter().filter_map(|kind| plan.record(Some(kind)).ok());
         assert_eq!(records.next(), plan.record(None).ok());
     }
+}
+
+/// Kinds without the outside take no notice of it, and those with it have the start's where a plan names none.
+#[test]
+fn kinds_that_were_asked_for() {
+    let mut random = Random(6);
+    for _ in 0..1000 {
+        let trails = 1 + random.below(6);
+        let plan = plan_or_sheet(&mut random, trails);
+        for kind in [group(false), group(true)].concat() {
+            let other = Plan { outside: Some(plan.start).filter(|_| has_outside(kind) && plan.outside.is_none()), ..of(&plan) };
+            let wanted = if has_outside(kind) && plan.outside.is_some() { &plan } else { &other };
+            assert_eq!(plan.record(Some(kind)), wanted.record(Some(kind)));
+        }
+    }
+}
+
+/// The same turning order and start, without an outside.
+fn of(plan: &Plan) -> Plan {
+    Plan { start: plan.start, ..Plan::of_order(plan.order.clone()) }
 }
