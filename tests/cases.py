@@ -18,20 +18,21 @@ LARGE = {
 
 
 def request(case):
-    """A line of the protocol: write KIND START WORK OUTPUT ENTRIES, or areas WORK LIST ENTRIES where no kind is said."""
+    """A line of the protocol: write [outside=N] KIND START WORK OUTPUT ENTRIES, or areas WORK LIST ENTRIES where no kind is said."""
     name, *details = case.split(", ")
     order = LARGE.get(name)
     if order is None:
         entries = name.removeprefix("order")
         order = [] if "length 0" in entries else [int(entry) for entry in entries.split()]
-    given = {"start": 0, "work area": 32 * (len(order) // 2) or 32, "output": 2054, "list": 4097}
+    given = {"start": 0, "work area": 32 * (len(order) // 2) or 32, "output": 2056, "list": 4097}
     for detail in details:
         key, _, value = detail.rpartition(" ")
         given[key] = int(value) if value.isdigit() else value
     entries = " ".join(map(str, order))
     if "kind" not in given:
         return "areas {} {} {}".format(given["work area"], given["list"], entries)
-    return "write {} {} {} {} {}".format(given["kind"], given["start"], given["work area"], given["output"], entries)
+    outside = "outside={} ".format(given["outside"]) if "outside" in given else ""
+    return f"write {outside}{given['kind']} {given['start']} {given['work area']} {given['output']} {entries}"
 
 
 def line(answer):

@@ -108,6 +108,7 @@ def standing(used_bytes, place):
         return b""
     length, kind, m = struct.unpack("<3H", rest[:6])
     lengths = {1: 6 + (3 * m + 7) // 8, 2: 6 + (2 * m + 7) // 8 + (m + 4) // 5, 4: 6 + (m + 1) // 2}
+    lengths |= {0x100 + plain: length + 2 for plain, length in lengths.items()}
     passes = 6 <= length <= len(rest) and kind in lengths and 1 <= m <= 4096 and length == lengths[kind]
     return rest[:length] if passes else b""
 

@@ -1,20 +1,20 @@
 #!/usr/bin/env python3
 """Prints the rows of a file like crates/model/proofs/Vectors.antt with the answers of the second coder.
 
-Usage: tests/vectors.py FILE COMMAND.., the second coder's. A row's kind, root and rotation are the file's; what it says is
-the coder's: of an accepted plan the record and what is read from it.
+Usage: tests/vectors.py FILE COMMAND.., the second coder's. A row's kind, root, outside if it has one, and rotation are the
+file's; what it says is the coder's: of an accepted plan the record and what is read from it.
 """
 import re
 import subprocess
 import sys
 
-ROW = re.compile(r"record { kind = (\d+); root = (\d+); rotation = ([\d ∷]*)\[\];")
+ROW = re.compile(r"record { kind = (\d+); root = (\d+); (?:outside = (\d+); )?rotation = ([\d ∷]*)\[\];")
 
 
 def plans(file):
     with open(file, encoding="utf-8") as text:
         rows = ROW.findall(text.read())
-    return [(kind, root, re.findall(r"\d+", rotation)) for kind, root, rotation in rows]
+    return [(kind, root, outside, re.findall(r"\d+", rotation)) for kind, root, outside, rotation in rows]
 
 
 def ask(lines):
@@ -45,11 +45,13 @@ def says(answer, rotation):
 def main():
     rows = plans(sys.argv[1])
     answers = ask(
-        f"write {kind} {root} {16 * len(rotation)} 16 {' '.join(rotation)}" for kind, root, rotation in rows
+        f"write {outside and f'outside={outside} '}{kind} {root} {16 * len(rotation)} 16 {' '.join(rotation)}"
+        for kind, root, outside, rotation in rows
     )
     lines = [
-        f"record {{ kind = {kind}; root = {root}; rotation = {listed(rotation)}; says = {says(answer, rotation)} }}"
-        for (kind, root, rotation), answer in zip(rows, answers, strict=True)
+        f"record {{ kind = {kind}; root = {root}; {outside and f'outside = {outside}; '}rotation = {listed(rotation)}; "
+        f"says = {says(answer, rotation)} }}"
+        for (kind, root, outside, rotation), answer in zip(rows, answers, strict=True)
     ]
     print("    " + "\n    ∷ ".join(lines) + "\n    ∷ []")
 

@@ -54,12 +54,13 @@ fn answer_to(line: &str) -> Option<String> {
 }
 
 fn asked_write(words: &mut Words) -> Option<Answer> {
+    let outside = words.outside()?;
     let kind = words.number()?;
     let start = words.number()?;
     let work = words.length()?;
     let output = words.length()?;
     let order = words.numbers_to_end()?;
-    Some(write(kind, start, work, output, &order))
+    Some(write(kind, start, outside, work, output, &order))
 }
 
 fn asked_read(words: &mut Words) -> Option<Answer> {
@@ -104,7 +105,7 @@ fn hold(holds: bool, what: &'static str) -> Result<(), &'static str> {
     holds.then_some(()).ok_or(what)
 }
 
-fn write(kind: u16, start: u16, work: usize, output: usize, order: &[u16]) -> Answer {
+fn write(kind: u16, start: u16, outside: u16, work: usize, output: usize, order: &[u16]) -> Answer {
     let order = Lent::of(order, NUMBER);
     let mut work = Lent::filled(work, NUMBER);
     let mut output = Lent::filled(output, BYTE);
@@ -114,6 +115,7 @@ fn write(kind: u16, start: u16, work: usize, output: usize, order: &[u16]) -> An
             order.lend(),
             order.len(),
             start,
+            outside,
             kind,
             work.lend_mut(),
             work.len(),
@@ -153,7 +155,7 @@ fn read(work: usize, output: usize, record: &[u8]) -> Answer {
     let record = Lent::of(record, BYTE);
     let mut work = Lent::filled(work, NUMBER);
     let mut order = Lent::filled(output, NUMBER);
-    let mut trails = NUMBER;
+    let (mut trails, mut outside) = (NUMBER, NUMBER);
     let refusal = unsafe {
         sys::jurnadel_read(
             record.lend(),
@@ -163,6 +165,7 @@ fn read(work: usize, output: usize, record: &[u8]) -> Answer {
             order.lend_mut(),
             order.len(),
             &mut trails,
+            &mut outside,
         )
     };
     let filled = 2 * usize::from(trails);
@@ -171,9 +174,11 @@ fn read(work: usize, output: usize, record: &[u8]) -> Answer {
     hold(order.untouched_but(0, filled), "output")?;
     hold((refusal == 0) == (trails != 0), "trails")?;
     if refusal != 0 {
+        hold(outside == 0, "outside")?;
         return Ok(format!("refused {refusal}"));
     }
-    Ok(format!("ok {trails}{}", spaced(&order.now()[..filled])))
+    let entries = spaced(&order.now()[..filled]);
+    Ok(format!("ok {trails} {outside}{entries}"))
 }
 
 fn areas(work: usize, list: usize, order: &[u16]) -> Answer {

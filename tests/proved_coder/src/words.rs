@@ -1,17 +1,18 @@
 //! The words of a line.
 
 use std::fmt::Write;
+use std::iter::Peekable;
 use std::str::{FromStr, SplitAsciiWhitespace};
 
 /// No outcome depends on a lent length past this one; longer ones are cut.
 const LONGEST: usize = 1 << 24;
 
 /// The words of a line that are not taken yet.
-pub struct Words<'a>(SplitAsciiWhitespace<'a>);
+pub struct Words<'a>(Peekable<SplitAsciiWhitespace<'a>>);
 
 impl<'a> Words<'a> {
     pub fn of(line: &'a str) -> Words<'a> {
-        Words(line.split_ascii_whitespace())
+        Words(line.split_ascii_whitespace().peekable())
     }
 
     pub fn next(&mut self) -> Option<&'a str> {
@@ -32,6 +33,18 @@ impl<'a> Words<'a> {
         match self.next()? {
             "-" => Some(Vec::new()),
             word => from_hex(word.as_bytes()),
+        }
+    }
+
+    /// The outside dart in `outside=N`, if that is the next word; else 0.
+    pub fn outside(&mut self) -> Option<u16> {
+        let value = self.0.peek().and_then(|word| word.strip_prefix("outside="));
+        match value {
+            Some(value) => {
+                self.0.next();
+                number(value)
+            }
+            None => Some(0),
         }
     }
 
