@@ -65,15 +65,15 @@ const PEER_LANDED: c_uint = {
     bits
 };
 
-/// Writing: kind, start, order, work area, output.
-type Write = fn(u16, u16, &[u16], &mut [u16], &mut [u8]) -> usize;
+/// Writing: kind, start, outside, order, work area, output.
+type Write = fn(u16, u16, u16, &[u16], &mut [u16], &mut [u8]) -> usize;
 /// Reading: record, work area, order.
-type Read = fn(&[u8], &mut [u16], &mut [u16]) -> usize;
+type Read = fn(&[u8], &mut [u16], &mut [u16]) -> (usize, u16);
 /// Measuring areas: order, work area, list.
 type Areas = fn(&[u16], &mut [u16], &mut [u16]) -> usize;
 
-/// A coder: writing gives the record's length, reading m, measuring the number of areas; 0 if
-/// refused.
+/// A coder: writing gives the record's length, reading m and the outside, measuring the number of
+/// areas; 0 if refused.
 pub struct Coder {
     pub write: Write,
     pub read: Read,
@@ -83,16 +83,19 @@ pub struct Coder {
 /// The proved library, the second coder, the peer.
 pub const CODERS: [Coder; 3] = [
     Coder {
-        write: |kind, start, order, work, output| {
-            jurnadel::write(order, start, kind, work, output).unwrap_or(0)
+        write: |kind, start, outside, order, work, output| {
+            jurnadel::write(order, start, outside, kind, work, output).unwrap_or(0)
         },
-        read: |record, work, order| jurnadel::read(record, work, order).unwrap_or(0),
+        read: |record, work, order| {
+            jurnadel::read(record, work, order).map_or((0, 0), |read| (read.trails, read.outside))
+        },
         areas: |order, work, list| jurnadel::area_lengths(order, work, list).unwrap_or(0),
     },
     Coder {
         write: write_by_second,
         read: |record, work, order| {
-            second_coder::read(*LANDED, &TABLE, record, work, order).map_or(0, |read| read.m)
+            second_coder::read(*LANDED, &TABLE, record, work, order)
+                .map_or((0, 0), |read| (read.m, read.outside as u16))
         },
         areas: |order, work, list| area_lengths(order, work, list).unwrap_or(0),
     },
@@ -106,6 +109,7 @@ pub const CODERS: [Coder; 3] = [
 fn write_by_second(
     kind: u16,
     start: u16,
+    outside: u16,
     order: &[u16],
     work: &mut [u16],
     output: &mut [u8],
@@ -113,7 +117,7 @@ fn write_by_second(
     let plan = LentPlan {
         order,
         start,
-        outside: 0,
+        outside,
     };
     second_coder::write(*LANDED, &TABLE, kind, plan, work, output).unwrap_or(0)
 }
@@ -121,6 +125,7 @@ fn write_by_second(
 fn write_by_peer(
     kind: u16,
     start: u16,
+    outside: u16,
     order: &[u16],
     work: &mut [u16],
     output: &mut [u8],
@@ -132,7 +137,7 @@ fn write_by_peer(
             ptr::null(),
             kind,
             start,
-            0,
+            outside,
             order.as_ptr(),
             order.len(),
             work.as_mut_ptr(),
@@ -150,7 +155,7 @@ fn write_by_peer(
     }
 }
 
-fn read_by_peer(record: &[u8], work: &mut [u16], order: &mut [u16]) -> usize {
+fn read_by_peer(record: &[u8], work: &mut [u16], order: &mut [u16]) -> (usize, u16) {
     let (mut m, mut outside) = (0, 0);
     let refusal = unsafe {
         peer_read(
@@ -167,9 +172,9 @@ fn read_by_peer(record: &[u8], work: &mut [u16], order: &mut [u16]) -> usize {
         )
     };
     if refusal == 0 {
-        usize::from(m)
+        (usize::from(m), outside)
     } else {
-        0
+        (0, 0)
     }
 }
 

@@ -16,7 +16,9 @@ use std::hint::black_box;
 use std::time::Instant;
 
 const SIZES: [usize; 5] = [16, 64, 256, 1024, 4096];
+/// The kinds without the outside; with it a kind is `OUTSIDE` more.
 const KINDS: [u16; 3] = [1, 2, 4];
+const OUTSIDE: u16 = 0x100;
 const ROUNDS: usize = 60;
 /// A round takes about this long, or one call.
 const ROUND_NS: f64 = 200_000.0;
@@ -76,13 +78,14 @@ impl<'a> Lent<'a> {
         black_box((self.coder.write)(
             self.kind,
             self.plan.start,
+            self.plan.outside,
             black_box(&self.plan.order),
             &mut self.work,
             &mut self.record,
         ))
     }
 
-    fn read(&mut self) -> usize {
+    fn read(&mut self) -> (usize, u16) {
         black_box((self.coder.read)(
             black_box(&self.record),
             &mut self.work,
@@ -101,15 +104,17 @@ impl<'a> Lent<'a> {
 
 /// Fails if the coders do not write one record, read one plan from it and find the same areas.
 fn hold_alike(lent: &mut [Lent; 3]) {
+    let mut outsides = [0; 3];
     for (i, lent) in lent.iter_mut().enumerate() {
         let (kind, m) = (lent.kind, lent.plan.order.len() / 2);
-        let lengths = (lent.write(), lent.read());
+        let (length, (trails, outside)) = (lent.write(), lent.read());
         assert_eq!(
-            lengths,
+            (length, trails),
             (lent.record.len(), m),
             "coder {i}, kind {kind}, m {m}"
         );
         assert!(lent.areas() > 0, "coder {i}, areas, m {m}");
+        outsides[i] = outside;
     }
     let [proved, others @ ..] = lent;
     let (kind, m) = (proved.kind, proved.plan.order.len() / 2);
@@ -118,7 +123,7 @@ fn hold_alike(lent: &mut [Lent; 3]) {
         "the records differ, kind {kind}, m {m}"
     );
     assert!(
-        others.iter().all(|other| other.order == proved.order),
+        others.iter().all(|other| other.order == proved.order) && outsides == [outsides[0]; 3],
         "the plans differ, kind {kind}, m {m}"
     );
     assert!(
@@ -170,6 +175,14 @@ struct Row {
 /// Ratios of writing and of reading.
 type Ratios = [f64; 2];
 
+/// A kind as the papers write it.
+fn named(kind: u16) -> String {
+    match kind {
+        OUTSIDE.. => format!("{kind:X}h"),
+        _ => kind.to_string(),
+    }
+}
+
 impl Row {
     /// The proved library's time by the peer's.
     fn to_peer(&self) -> Ratios {
@@ -177,7 +190,7 @@ impl Row {
     }
 
     fn print(&self) {
-        print!("{:<16}{:>5}{:>6}", self.name, self.kind, self.m);
+        print!("{:<16}{:>5}{:>6}", self.name, named(self.kind), self.m);
         self.times.into_iter().for_each(print_times);
         println!();
     }
@@ -196,8 +209,6 @@ fn print_columns() {
 }
 
 fn print_heading() {
-    println!("ns per edge (proved, second coder, peer), and the proved library's time by that of the others");
-    println!();
     println!("{:<27}  {:-^38}  {:-^38}", "", " write ", " read ");
     print!("{:<16}{:>5}{:>6}", "shape", "kind", "m");
     print_columns();
@@ -218,6 +229,7 @@ fn print_growths(rows: &[Row]) {
         let of_same = |row: &&Row| (row.name, row.kind, row.m) == (*name, *kind, 256);
         if let Some(before) = rows.iter().find(of_same) {
             let [write, read] = [0, 1].map(|i| times[i][0] / before.times[i][0]);
+            let kind = named(*kind);
             println!("{name:<16}{kind:>5}  write {write:.2}  read {read:.2}");
         }
     }
@@ -231,24 +243,29 @@ fn worst<const N: usize>(ratios: &[[f64; N]]) -> [f64; N] {
     from_fn(|i| ratios.iter().map(|ratio| ratio[i]).fold(0.0, f64::max))
 }
 
-/// The proved library's times of one plan in kind 4 by those in kind 2; the kinds take turns.
-fn time_kinds(plan: &Plan) -> Ratios {
-    let [mut four, mut two] = [4, 2].map(|kind| {
+/// The proved library's times of one plan in one kind by those in another; the kinds take turns.
+fn time_kinds(plan: &Plan, kind: u16, other: u16) -> Ratios {
+    let [mut one, mut other] = [kind, other].map(|kind| {
         let [proved, ..] = CODERS;
         Lent::new(proved, plan, kind)
     });
-    let writing = least([&mut || _ = four.write(), &mut || _ = two.write()]);
-    let reading = least([&mut || _ = four.read(), &mut || _ = two.read()]);
-    [writing, reading].map(|[four, two]| four / two)
+    let writing = least([&mut || _ = one.write(), &mut || _ = other.write()]);
+    let reading = least([&mut || _ = one.read(), &mut || _ = other.read()]);
+    [writing, reading].map(|[one, other]| one / other)
 }
 
-/// Kind 4 beside kind 2: geometric means over all plans that both take, and the worst.
-fn print_kinds() {
+/// A kind beside another: geometric means over all plans that both take, and the worst.
+fn print_kinds(kind: u16, other: u16) {
     let mut names = Vec::new();
     let mut ratios = Vec::new();
-    for (name, m, plan) in all_plans().filter(|(_, _, plan)| plan.kinds.contains(&2)) {
+    let takes = |plan: &Plan| {
+        [kind, other]
+            .iter()
+            .all(|kind| plan.kinds.contains(&(kind % OUTSIDE)))
+    };
+    for (name, m, plan) in all_plans().filter(|(_, _, plan)| takes(plan)) {
         names.push(format!("{name}, m = {m}"));
-        ratios.push(time_kinds(&plan));
+        ratios.push(time_kinds(&plan, kind, other));
     }
     let (count, mean) = (ratios.len(), geometric_mean(&ratios));
     let [write, read] = [0, 1].map(|i| {
@@ -257,11 +274,16 @@ fn print_kinds() {
         let (mean, worst, name) = (mean[i], ratios[worst][i], &names[worst]);
         format!("{mean:.2} (worst {worst:.2}: {name})")
     });
-    println!("kind 4 by kind 2, geometric mean of {count} plans: write {write}, read {read}");
+    let (kind, other) = (named(kind), named(other));
+    println!(
+        "kind {kind} by kind {other}, geometric mean of {count} plans: write {write}, read {read}"
+    );
 }
 
-/// The ratios to the peer: their geometric means, for each kind, for all and for areas, then the worst.
+/// The ratios to the peer: their geometric means, for each kind, for all without the outside, for all with it and for areas,
+/// then the worst.
 fn print_ratios(rows: &[Row], areas: &[[f64; 1]]) {
+    let with_outside = KINDS.map(|kind| OUTSIDE + kind);
     let ratios = |kinds: &[u16]| -> Vec<Ratios> {
         let of_kinds = rows.iter().filter(|row| kinds.contains(&row.kind));
         of_kinds.map(Row::to_peer).collect()
@@ -273,12 +295,15 @@ fn print_ratios(rows: &[Row], areas: &[[f64; 1]]) {
             "geometric mean of {count} ratios to peer{name}: write {write:.2}, read {read:.2}"
         );
     };
-    for kind in KINDS {
-        print_mean(&[kind], &format!(", kind {kind}"));
+    for kind in KINDS.into_iter().chain(with_outside) {
+        print_mean(&[kind], &format!(", kind {}", named(kind)));
     }
+    print_mean(&with_outside, ", with the outside");
     print_mean(&KINDS, "");
     let (count, [mean]) = (areas.len(), geometric_mean(areas));
     println!("geometric mean of {count} ratios to peer, areas: {mean:.2}");
+    let [write, read] = worst(&ratios(&with_outside));
+    println!("worst ratio to peer, with the outside: write {write:.2}, read {read:.2}");
     let ([write, read], [areas]) = (worst(&ratios(&KINDS)), worst(areas));
     println!("worst ratio to peer: write {write:.2}, read {read:.2}, areas {areas:.2}");
 }
@@ -290,12 +315,12 @@ fn all_plans() -> impl Iterator<Item = (&'static str, usize, Plan)> {
     plans::SHAPES.into_iter().flat_map(of_shape)
 }
 
-/// Times of the coders for all plans.
-fn time_coders() -> Vec<Row> {
+/// Times of the coders for all plans, in kinds without the outside (`more` 0) or with it (`OUTSIDE`).
+fn time_coders(more: u16) -> Vec<Row> {
     print_heading();
     let mut rows = Vec::new();
     for (name, m, plan) in all_plans() {
-        for &kind in plan.kinds {
+        for kind in plan.kinds.iter().map(|kind| more + kind) {
             let times = time_plan(&plan, kind);
             let row = Row {
                 name,
@@ -332,7 +357,7 @@ fn time_all_areas() -> Vec<[f64; 1]> {
 /// The record of kind 2 of a random plan.
 fn random_record(edges: usize, rng: &mut Rng) -> Vec<u8> {
     let order = grow(Shape::Mixed, edges, rng).renumbered(rng);
-    jurnadel::record_of(&order, 0, 2).expect("a fit plan")
+    jurnadel::record_of(&order, 0, 0, 2).expect("a fit plan")
 }
 
 /// So many different records.
@@ -455,10 +480,19 @@ fn main() {
     println!("least of {ROUNDS} rounds. Buffers are made once for each plan and lent again: a work area of 32 m numbers, not cleared");
     println!("before a call (each call leaves it zeros, and that is timed), and outputs of just the length, not cleared either.");
     println!();
-    let rows = time_coders();
+    println!("ns per edge (proved, second coder, peer), and the proved library's time by that of the others");
+    println!();
+    let mut rows = time_coders(0);
+    println!();
+    println!("the same with the outside area in the record");
+    println!();
+    rows.extend(time_coders(OUTSIDE));
     let areas = time_all_areas();
     time_shelf();
     println!();
-    print_kinds();
+    print_kinds(4, 2);
+    for kind in KINDS {
+        print_kinds(OUTSIDE + kind, kind);
+    }
     print_ratios(&rows, &areas);
 }

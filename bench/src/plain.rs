@@ -14,6 +14,9 @@ fn passes(record: &[u8]) -> bool {
         1 => 6 + (3 * m).div_ceil(8),
         2 => 6 + (2 * m).div_ceil(8) + m.div_ceil(5),
         4 => 6 + m.div_ceil(2),
+        0x101 => 8 + (3 * m).div_ceil(8),
+        0x102 => 8 + (2 * m).div_ceil(8) + m.div_ceil(5),
+        0x104 => 8 + m.div_ceil(2),
         _ => return false,
     };
     (1..=4096).contains(&m) && record.len() == length

@@ -17,11 +17,12 @@ pub const SHAPES: [(&str, Maker); 8] = [
     ("loops", loops),
 ];
 
-/// A plan: its turning order, renumbered at random, and the kinds that it is timed in. With one dead end and no loop it starts
-/// there.
+/// A plan: its turning order, renumbered at random, an outside dart, and the kinds that it is timed in, with and without the
+/// outside. With one dead end and no loop it starts there.
 pub struct Plan {
     pub order: Vec<u16>,
     pub start: u16,
+    pub outside: u16,
     pub kinds: &'static [u16],
 }
 
@@ -48,6 +49,7 @@ pub fn plan(shape: Maker, m: usize, rng: &mut Rng) -> Plan {
     Plan {
         order,
         start,
+        outside: rng.below(2 * m) as u16,
         kinds,
     }
 }
