@@ -22,7 +22,7 @@ use Rattle.model.specs.Traversal.{Letter, down, up, first, second, code, letter
 use Rattle.model.proofs.Fitness.{opposite-bound, count-parts}
 use Rattle.orbits.proofs.Cycle.{least-le}
 use Rattle.orbits.proofs.Maps.{next-perm}
-use Rattle.orbits.proofs.Table.{tabulate-at}
+use Rattle.model.proofs.Tabulated.{tabulate-at}
 use Rattle.work.specs.Map.{MET, SEEN, LETTERS}
 use Rattle.work.specs.Area.{region}
 use Rattle.work.proofs.Regions.{getD-region, region-set, region-set-other, region-split}

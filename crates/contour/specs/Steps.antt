@@ -12,7 +12,7 @@ use mathlib.Core.List.{List, [], _∷_, _++_}
 use lib.ListN.{length, set}
 use Rattle.model.specs.Map.{vertexOf}
 use Rattle.model.specs.Traversal.{Letter, code, letterAt, onward, seenAfter}
-use Rattle.orbits.specs.Table.{tabulate}
+use Rattle.model.specs.Numbers.{tabulate}
 use Rattle.work.specs.Map.{MET, SEEN, LETTERS}
 use Rattle.work.specs.Area.{region}
 

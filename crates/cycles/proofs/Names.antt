@@ -10,10 +10,10 @@ use Prim.Native.Nat.{ℕ, _+_, _≤_, _<_}
 use native.Mathlib.Omega.{arith}
 use lib.ListN.{length}
 use Rattle.model.specs.Numbers.{least, isLeast, cycles, cycleSizes}
-use Rattle.orbits.specs.Table.{tabulate}
+use Rattle.model.specs.Numbers.{tabulate}
 use Rattle.work.specs.Area.{region, placed}
 use Rattle.orbits.proofs.Tally.{count-le}
-use Rattle.orbits.proofs.Table.{length-tabulate}
+use Rattle.model.proofs.Tabulated.{length-tabulate}
 use Rattle.orbits.proofs.Sizes.{length-sizes}
 use Rattle.work.proofs.Regions.{length-placed, region-placed, region-placed-other}
 use Rattle.cycles.specs.Cycles.{Named}

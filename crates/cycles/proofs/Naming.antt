@@ -22,8 +22,8 @@ use Rattle.orbits.specs.Permutation.{Perm}
 use Rattle.orbits.proofs.Order.{lt-or-le, le-split, lt-suc-split, eq-split}
 use Rattle.orbits.proofs.Cycle.{least-le, least-iter, least-idem, iter-out, iter-bound, on-iter, same-reach}
 use Rattle.orbits.proofs.Sizes.{size-le, size-is, size-above}
-use Rattle.orbits.specs.Table.{tabulate}
-use Rattle.orbits.proofs.Table.{length-tabulate, tabulate-at, is-tabulate, tabulate-ext}
+use Rattle.model.specs.Numbers.{tabulate}
+use Rattle.model.proofs.Tabulated.{length-tabulate, tabulate-at, is-tabulate, tabulate-ext}
 use Rattle.cycles.specs.Cycles.{unnamed, nameBelow, namesBelow}
 
 -- ---- names below d

@@ -16,7 +16,7 @@ use lib.Dec.{ltb}
 use lib.ListN.{length}
 use Rattle.model.specs.Numbers.{least, cycles, cycleSize, cycleSizes, isPermutation}
 use Rattle.model.specs.Map.{next, faceNext, faceOf, dartCountFits}
-use Rattle.orbits.specs.Table.{tabulate}
+use Rattle.model.specs.Numbers.{tabulate}
 use Rattle.work.specs.Map.{FACES}
 use Rattle.work.specs.Area.{region, placed}
 

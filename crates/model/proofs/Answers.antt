@@ -19,6 +19,7 @@ use native.Mathlib.Nat.{suc-ne-zero}
 use lib.Dec.{eqb}
 use lib.ListN.{length, take}
 use borrow.Author.Tests.{eqb-true, eq-eqb}
+use Rattle.model.specs.declared.Table.{Table}
 use Rattle.model.specs.declared.Written.the-variants as written
 use Rattle.model.specs.declared.ReadBack.{ReadBack}
 use Rattle.model.specs.declared.ReadBack.the-variants as readback
@@ -27,15 +28,15 @@ use Rattle.model.specs.declared.Shelved.the-variants as shelved
 use Rattle.model.specs.Map.{Plan, edges, faceLengths, characteristic}
 use Rattle.model.specs.Record.{recordLength}
 use Rattle.model.specs.Shelf.{kindOf, edgesOf, recordsIn, firstEqual}
-use Rattle.model.specs.Calls.{writeRefusal, writeAnswer, numberOfWritten, readRefusal, HasRecord, outsideRead, Reads, refused, read, unreadable, numberOfRead}
+use Rattle.model.specs.Calls.{writeRefusal, answerOf, writeAnswer, numberOfWritten, readRefusal, HasRecord, outsideRead, Reads, refused, read, unreadable, numberOfRead}
 use Rattle.model.specs.Calls.{measureRefusal, measureAnswer, numberOfMeasured}
 use Rattle.model.specs.Calls.{shelveRefusal, shelveAnswer, numberOfShelved}
 
 -- ---- writing
 
-pub number-of-written : (k : ℕ) (p : Plan) (w o : ℕ) → numberOfWritten (writeAnswer k p w o) ≡ writeRefusal k p w o
-unfolding writeAnswer
-number-of-written k p w o = go (writeRefusal k p w o) (eqb (writeRefusal k p w o) 0) (eqb (writeRefusal k p w o) 10) refl refl
+pub number-of-written : (t : Table) (k : ℕ) (p : Plan) (w o : ℕ) → numberOfWritten (writeAnswer t k p w o) ≡ writeRefusal t k p w o
+unfolding writeAnswer answerOf
+number-of-written t k p w o = go (writeRefusal t k p w o) (eqb (writeRefusal t k p w o) 0) (eqb (writeRefusal t k p w o) 10) refl refl
   where
     go : (r : ℕ) (b c : Bool) → eqb r 0 ≡ b → eqb r 10 ≡ c
         → numberOfWritten (cond b (written.Length (recordLength k (edges (p .rotation))))
@@ -44,10 +45,10 @@ number-of-written k p w o = go (writeRefusal k p w o) (eqb (writeRefusal k p w o
     go r false true e f = sym (eqb-true r 10 f)
     go r false false e f = refl
 
-pub written-zero : (k : ℕ) (p : Plan) (w o : ℕ) → numberOfWritten (writeAnswer k p w o) ≡ 0
-    → writeAnswer k p w o ≡ written.Length (recordLength k (edges (p .rotation)))
-unfolding writeAnswer
-written-zero k p w o z = let e = sym (number-of-written k p w o) ∙ z in simp (eq-eqb (writeRefusal k p w o) 0 e)
+pub written-zero : (t : Table) (k : ℕ) (p : Plan) (w o : ℕ) → numberOfWritten (writeAnswer t k p w o) ≡ 0
+    → writeAnswer t k p w o ≡ written.Length (recordLength k (edges (p .rotation)))
+unfolding writeAnswer answerOf
+written-zero t k p w o z = let e = sym (number-of-written t k p w o) ∙ z in simp (eq-eqb (writeRefusal t k p w o) 0 e)
 
 -- ---- measuring
 
@@ -67,44 +68,44 @@ measured-zero rot w l z = let e = sym (number-of-measured rot w l) ∙ z in simp
 
 -- ---- shelving
 
-module _ (r s : List ℕ) (u : ℕ) where
+module _ (t : Table) (r s : List ℕ) (u : ℕ) where
   abbrev found : ℕ
   found = firstEqual r (recordsIn (take u s))
 
   abbrev used-after : ℕ
   used-after = cond (eqb found (length (recordsIn (take u s)))) (u + length r) u
 
-  pub number-of-shelved : numberOfShelved (shelveAnswer r s u) ≡ shelveRefusal r s u
+  pub number-of-shelved : numberOfShelved (shelveAnswer t r s u) ≡ shelveRefusal t r s u
   unfolding shelveAnswer
-  number-of-shelved = go (shelveRefusal r s u) (eqb (shelveRefusal r s u) 0) refl
+  number-of-shelved = go (shelveRefusal t r s u) (eqb (shelveRefusal t r s u) 0) refl
     where
       go : (x : ℕ) (b : Bool) → eqb x 0 ≡ b → numberOfShelved (cond b (shelved.At found used-after) (shelved.Refused x)) ≡ x
       go x true e = sym (eqb-true x 0 e)
       go x false e = refl
 
-  pub shelved-zero : numberOfShelved (shelveAnswer r s u) ≡ 0 → shelveAnswer r s u ≡ shelved.At found used-after
+  pub shelved-zero : numberOfShelved (shelveAnswer t r s u) ≡ 0 → shelveAnswer t r s u ≡ shelved.At found used-after
   unfolding shelveAnswer
-  shelved-zero z = let e = sym number-of-shelved ∙ z in simp (eq-eqb (shelveRefusal r s u) 0 e)
+  shelved-zero z = let e = sym number-of-shelved ∙ z in simp (eq-eqb (shelveRefusal t r s u) 0 e)
 
 -- ---- reading
 
-module _ (r : List ℕ) (w : ℕ) (out : List ℕ) (a : ReadBack) (out′ : List ℕ) where
-  pub number-of-read : Reads r w out a out′ → readRefusal r w (length out) ≢ 0 → numberOfRead a ≡ readRefusal r w (length out)
+module _ (t : Table) (r : List ℕ) (w : ℕ) (out : List ℕ) (a : ReadBack) (out′ : List ℕ) where
+  pub number-of-read : Reads t r w out a out′ → readRefusal t r w (length out) ≢ 0 → numberOfRead a ≡ readRefusal t r w (length out)
   number-of-read (refused d e f) n = ap numberOfRead e
   number-of-read (read z p has e f) n = absurd (n z)
   number-of-read (unreadable z never e f) n = absurd (n z)
 
-  pub number-of-readable : Reads r w out a out′ → readRefusal r w (length out) ≡ 0 → (p : Plan) → HasRecord r p → numberOfRead a ≡ 0
+  pub number-of-readable : Reads t r w out a out′ → readRefusal t r w (length out) ≡ 0 → (p : Plan) → HasRecord t r p → numberOfRead a ≡ 0
   number-of-readable (refused d e f) n q h = absurd (d n)
   number-of-readable (read z p has e f) n q h = ap numberOfRead e
   number-of-readable (unreadable z never e f) n q h = absurd (never q h)
 
-  pub number-of-unreadable : Reads r w out a out′ → readRefusal r w (length out) ≡ 0 → ((p : Plan) → HasRecord r p → ⊥) → numberOfRead a ≡ 13
+  pub number-of-unreadable : Reads t r w out a out′ → readRefusal t r w (length out) ≡ 0 → ((p : Plan) → HasRecord t r p → ⊥) → numberOfRead a ≡ 13
   number-of-unreadable (refused d e f) n none = absurd (d n)
   number-of-unreadable (read z p has e f) n none = absurd (none p has)
   number-of-unreadable (unreadable z never e f) n none = ap numberOfRead e
 
-  pub read-zero : Reads r w out a out′ → numberOfRead a ≡ 0 → (p : Plan) × HasRecord r p × (a ≡ readback.Edges (edgesOf r) (outsideRead (kindOf r) p))
+  pub read-zero : Reads t r w out a out′ → numberOfRead a ≡ 0 → (p : Plan) × HasRecord t r p × (a ≡ readback.Edges (edgesOf r) (outsideRead (kindOf r) p))
   read-zero (refused d e f) n = absurd (d (sym (ap numberOfRead e) ∙ n))
   read-zero (read z p has e f) n = (p, has, e)
   read-zero (unreadable z never e f) n = absurd (suc-ne-zero 12 (sym (ap numberOfRead e) ∙ n))

@@ -1,6 +1,9 @@
 pub mod Booleans
 pub mod Permutations
 pub mod Below
+pub mod Tabulated
+pub mod Same
+pub mod Tables
 pub mod Opposite
 pub mod Fitness
 pub mod Outside
@@ -12,7 +15,7 @@ pub mod Answers
 pub mod Line
 mod Opened
 pub mod Unreadable
-pub mod Table
+pub mod Starred
 pub mod Requested
 pub mod Vectors
 pub mod Stores

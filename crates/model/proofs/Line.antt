@@ -5,28 +5,35 @@
 --   Line                 a line on writing, or a line on reading: bytes and the number of the refusal
 --   sameInteger x y      equal signed numbers
 --   lent                 an output
---   answer k p, output k p   writing's answer and the output after it, in a work area and an output that are large enough for five edges
---   writes k p r, refuses k p n   the record r is written; refusal n is answered, and the output is as it was
---   agrees k p s         the definitions say s of the plan p in kind k
---   holds l              the definitions yield the line l on writing
---   allHold ls           every such line
+--   writes a o r, refuses a o n   the answer a and the output o after it: the record r is written; refusal n is answered, and the output is as it was
+--   agrees a o p s       they say s of the plan p
+--   holds t l            the definitions yield the line l on writing under the table t, in a work area and an output that are large enough for five edges
+--   allHold t ls         every such line
+--   held t l             the same past the test of the table, so that it is not run for each line; allHeld, every line
+--   held-holds, all-held   where loading gives the table, such lines hold
 --   Refuses r n w out    reading r with a work area of length w and the output out may answer n and leave the output, and nothing else
---   Holds l              the definitions yield the line l; a line on reading for every work area and output with room
+--   Holds l              the definitions yield the line l under the standard table; a line on reading for every work area and output with room
 --   AllHold ls           every line
 use Prim.Native.Nat.{ℕ, _*_, _≤_}
-use mathlib.Core.Path.{_≡_}
-use mathlib.Core.Bool.{Bool, true, false, _&&_}
-use mathlib.Core.List.{List, [], _∷_}
+use mathlib.Core.Path.{_≡_, refl, sym, ap, ap₂, subst}
+use mathlib.Core.Bool.{Bool, true, false, _&&_, cond}
+use mathlib.Core.List.{List, [], _∷_, _++_}
 use lib.Dec.{T, eqb}
 use lib.IntN.{ℤ, pos, negsuc}
 use lib.ListN.{length, replicate}
+use Rattle.model.specs.declared.Table.{Table}
 use Rattle.model.specs.declared.ReadBack.{ReadBack}
 use Rattle.model.specs.declared.ReadBack.the-variants as readback
 use Rattle.model.specs.declared.Written.{Written}
-use Rattle.model.specs.Map.{Plan}
+use Rattle.model.specs.Numbers.{firstRefusal}
+use Rattle.model.specs.Map.{Plan, family}
 use Rattle.model.specs.Traversal.{standardPlan}
+use Rattle.model.specs.Groups.{standardTable}
+use Rattle.model.specs.Record.{recordOf}
 use Rattle.model.specs.Shelf.{edgesOf, same}
-use Rattle.model.specs.Calls.{front, writeAnswer, writtenOutput, Reads, numberOfWritten, lengthOfWritten, characteristicOfWritten}
+use Rattle.model.specs.Calls.{front, tableRefused, earlyRefusals, lateRefusals, writeRefusal, answerOf, writeAnswer, writtenOutput, Reads}
+use Rattle.model.specs.Calls.{numberOfWritten, lengthOfWritten, characteristicOfWritten}
+use Rattle.model.proofs.Refusals.{table-stands}
 
 pub data Says : Type 0 where
   record-is : List ℕ → Says
@@ -51,12 +58,6 @@ pub data Line : Type 0 where
 abbrev pub lent : List ℕ
 lent = replicate 12 7
 
-unfoldable pub answer : ℕ → Plan → Written
-answer k p = writeAnswer k p 160 12
-
-unfoldable pub output : ℕ → Plan → List ℕ
-output k p = writtenOutput k p 160 lent
-
 abbrev pub sameInteger : ℤ → ℤ → Bool
 sameInteger (pos x) (pos y) = eqb x y
 sameInteger (pos x) (negsuc y) = false
@@ -64,36 +65,66 @@ sameInteger (negsuc x) (pos y) = false
 sameInteger (negsuc x) (negsuc y) = eqb x y
 
 -- the record r is written, and the rest of the output is as it was
-unfoldable pub writes : ℕ → Plan → List ℕ → Bool
-writes k p r = eqb (numberOfWritten (answer k p)) 0 && (eqb (lengthOfWritten (answer k p)) (length r) && same (output k p) (front r lent))
+unfoldable pub writes : Written → List ℕ → List ℕ → Bool
+writes a o r = eqb (numberOfWritten a) 0 && (eqb (lengthOfWritten a) (length r) && same o (front r lent))
 
 -- refusal n, and the output is as it was
-unfoldable pub refuses : ℕ → Plan → ℕ → Bool
-refuses k p n = eqb (numberOfWritten (answer k p)) n && same (output k p) lent
+unfoldable pub refuses : Written → List ℕ → ℕ → Bool
+refuses a o n = eqb (numberOfWritten a) n && same o lent
 
-unfoldable pub agrees : ℕ → Plan → Says → Bool
-agrees k p (record-is r) = writes k p r
-agrees k p (standard-is r s) = writes k p r && same (standardPlan p .rotation) s
-agrees k p (refused n) = refuses k p n
-agrees k p (not-planar x) = refuses k p 10 && sameInteger (characteristicOfWritten (answer k p)) x
+unfoldable pub agrees : Written → List ℕ → Plan → Says → Bool
+agrees a o p (record-is r) = writes a o r
+agrees a o p (standard-is r s) = writes a o r && same (standardPlan p .rotation) s
+agrees a o p (refused n) = refuses a o n
+agrees a o p (not-planar x) = refuses a o 10 && sameInteger (characteristicOfWritten a) x
 
-unfoldable pub holds : Writes → Bool
-holds l = agrees (l .kind) (record { rotation = l .rotation; root = l .root; outside = l .outside }) (l .says)
+abbrev planOf : Writes → Plan
+planOf l = record { rotation = l .rotation; root = l .root; outside = l .outside }
 
-unfoldable pub allHold : List Writes → Bool
-allHold [] = true
-allHold (l ∷ ls) = holds l && allHold ls
+unfoldable pub holds : Table → Writes → Bool
+holds t l = agrees (writeAnswer t (l .kind) (planOf l) 160 (length lent)) (writtenOutput t (l .kind) (planOf l) 160 lent) (planOf l) (l .says)
+
+unfoldable pub allHold : Table → List Writes → Bool
+allHold t [] = true
+allHold t (l ∷ ls) = holds t l && allHold t ls
+
+-- r is the first refusal
+unfoldable pub heldBy : ℕ → Table → Writes → Bool
+heldBy r t l = agrees (answerOf r (l .kind) (planOf l)) (cond (eqb r 0) (front (recordOf t (l .kind) (planOf l)) lent) lent) (planOf l) (l .says)
+
+unfoldable pub held : Table → Writes → Bool
+held t l = heldBy (firstRefusal (earlyRefusals (l .kind) (planOf l) 160 12 ++ lateRefusals (family (l .kind)) (planOf l))) t l
+
+unfoldable pub allHeld : Table → List Writes → Bool
+allHeld t [] = true
+allHeld t (l ∷ ls) = held t l && allHeld t ls
+
+module _ (t : Table) (stands : tableRefused t ≡ false) where
+  held-is : (l : Writes) → held t l ≡ holds t l
+  unfolding held heldBy holds writeRefusal writeAnswer writtenOutput
+  held-is l = ap (λ (r : ℕ). heldBy r t l) (sym (table-stands t _ stands))
+
+  pub held-holds : (l : Writes) → T (held t l) → T (holds t l)
+  held-holds l h = subst T (held-is l) h
+
+  all-held-is : (ls : List Writes) → allHeld t ls ≡ allHold t ls
+  unfolding allHeld allHold
+  all-held-is [] = refl
+  all-held-is (l ∷ ls) = ap₂ (λ (a b : Bool). a && b) (held-is l) (all-held-is ls)
+
+  pub all-held : (ls : List Writes) → T (allHeld t ls) → T (allHold t ls)
+  all-held ls h = subst T (all-held-is ls) h
 
 -- ---- reading
 
 pub record Refuses (r : List ℕ) (n w : ℕ) (out : List ℕ) : Type 0 where
-  pub refused-so : Reads r w out (readback.Refused n) out
-  pub only-so : (answer : ReadBack) (out′ : List ℕ) → Reads r w out answer out′ → (answer ≡ readback.Refused n) × (out′ ≡ out)
+  pub refused-so : Reads standardTable r w out (readback.Refused n) out
+  pub only-so : (answer : ReadBack) (out′ : List ℕ) → Reads standardTable r w out answer out′ → (answer ≡ readback.Refused n) × (out′ ≡ out)
 
 -- ---- both
 
 abbrev pub Holds : Line → Type 0
-Holds (on-writing l) = T (holds l)
+Holds (on-writing l) = T (holds standardTable l)
 Holds (on-reading r n) = (w : ℕ) (out : List ℕ) → 32 * edgesOf r ≤ w → 2 * edgesOf r ≤ length out → Refuses r n w out
 
 abbrev pub AllHold : List Line → Type 0

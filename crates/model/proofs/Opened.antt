@@ -5,19 +5,20 @@
 --   walk-opened          the contour walk and the standard plan
 --   labels-opened        the labelled tree
 --   record-opened        whether a plan is fit, and its record
---   writing-opened       writing's answer and output, and what a line of a table says of them
+--   writing-opened       writing's answer and output past the test of the table, and what a line says of them
 --   measuring-opened     measuring's answer and the list after it
-use Rattle.model.specs.Numbers.{count, some, elem, distinct, allBelow, isPermutation, position, least, cycles, cycleSize, sizesBelow, cycleSizes}
+use Rattle.model.specs.Numbers.{count, some, elem, distinct, allBelow, isPermutation, position, least, cycles, cycleSize, sizesBelow, cycleSizes, tabulate}
 use Rattle.model.specs.Numbers.{firstRefusal}
 use Rattle.model.specs.Map.{opposite, next, vertexOf, faceNext, faceOf, edges, vertices, faces, faceLengths, degreeOne, spread, spreads, reached, connected}
 use Rattle.model.specs.Map.{characteristic, planar, hasLoop, hasDeadEnd, isFamily, storesOutside, isKind, family, dartCountFits, outsideRefused, loopRefused, degreeRefused, fit}
 use Rattle.model.specs.Traversal.{letterAt, onward, seenAfter, walk, visits, number, standardNumbers, renumbered, standardRotation, standardFace, standardPlan}
 use Rattle.model.specs.LabelledTree.{codesOf, codes, unlabelled, isUpper, gone, before, labelOne, removeCut, takeLeaf, takeOne, takeLeaves}
 use Rattle.model.specs.LabelledTree.{treeLabels, labelOf, bitsOf, along, labels, treeBits}
+use Rattle.model.specs.Groups.{byteFor, loaded, standardTable}
 use Rattle.model.specs.Record.{digitsFrom, pack, le16, headLength, payloadLength, recordLength, payload, contourBits, headed, payloadOf, outsideBytes, recordOf}
 use Rattle.model.specs.Shelf.{same}
-use Rattle.model.specs.Calls.{front, earlyRefusals, lateRefusals, writeRefusal, writeAnswer, writtenOutput, measureRefusal, measureAnswer, measuredList}
-use Rattle.model.proofs.Line.{answer, output, writes, refuses, agrees, holds}
+use Rattle.model.specs.Calls.{front, earlyRefusals, lateRefusals, answerOf, measureRefusal, measureAnswer, measuredList}
+use Rattle.model.proofs.Line.{writes, refuses, agrees, heldBy, held}
 
 unfoldable pub map-opened : Unit {0}
 unfolding opposite next vertexOf least faceNext faceOf edges vertices faces cycles count degreeOne spread spreads reached some connected characteristic planar
@@ -36,11 +37,12 @@ unfolding walk-opened codesOf codes position unlabelled isUpper gone before labe
 labels-opened = tt
 
 unfoldable pub record-opened : Unit {0}
-unfolding fit-opened labels-opened digitsFrom pack le16 headLength payloadLength recordLength payload contourBits headed payloadOf outsideBytes recordOf same
+unfolding fit-opened labels-opened digitsFrom pack le16 headLength payloadLength recordLength byteFor loaded standardTable tabulate payload contourBits headed payloadOf
+    outsideBytes recordOf same
 record-opened = tt
 
 unfoldable pub writing-opened : Unit {0}
-unfolding record-opened front firstRefusal earlyRefusals lateRefusals writeRefusal writeAnswer writtenOutput answer output writes refuses agrees holds
+unfolding record-opened front firstRefusal earlyRefusals lateRefusals answerOf writes refuses agrees heldBy held
 writing-opened = tt
 
 unfoldable pub measuring-opened : Unit {0}

@@ -7,11 +7,12 @@
 --   permutation-below, permutation-inj   the entries of a permutation are below its length, and all different
 --   permutation-of            a list with such entries is a permutation
 --   position-bound            where x stands in a list, position is such a place
+--   position-le, position-found, position-lacks   below the length it is such a place; it is the length where x is no entry
 --   position-entry            position is the inverse of a permutation
 use mathlib.Core.Path.{_≡_, refl, sym, ap, _∙_}
-use mathlib.Core.Bool.{Bool, true, false, not, cond, false≢true}
+use mathlib.Core.Bool.{Bool, true, false, not, cond, true≢false, false≢true}
 use mathlib.Core.List.{List, [], _∷_}
-use Prim.Native.Nat.{ℕ, zero, suc, _<_}
+use Prim.Native.Nat.{ℕ, zero, suc, _≤_, _<_}
 use native.Mathlib.Nat.{not-suc-le-zero, le-of-suc-le-suc, suc-inj, suc-ne-zero}
 use native.Mathlib.Omega.{arith}
 use lib.Dec.{eqb, ltb}
@@ -107,3 +108,31 @@ position-bound x (y ∷ ys) (suc k) h e = go (eqb x y) refl (position-bound x ys
 pub position-entry : (xs : List ℕ) → distinct xs ≡ true → (k : ℕ) → k < length xs → position (getD xs k 0) xs ≡ k
 position-entry xs e k h =
     let r = position-bound (getD xs k 0) xs k h refl in distinct-at xs e (position (getD xs k 0) xs) k (r .0) h (r .1)
+
+pub position-le : (x : ℕ) (xs : List ℕ) → position x xs ≤ length xs
+unfolding position
+position-le x [] = omega arith
+position-le x (y ∷ ys) = go (eqb x y) (position-le x ys)
+  where
+    go : (b : Bool) → position x ys ≤ length ys → cond b 0 (suc (position x ys)) ≤ length (y ∷ ys)
+    go true h = omega arith
+    go false h = omega arith
+
+pub position-found : (x : ℕ) (xs : List ℕ) → position x xs < length xs → getD xs (position x xs) 0 ≡ x
+unfolding position
+position-found x [] h = absurd (not-suc-le-zero h)
+position-found x (y ∷ ys) h = go (eqb x y) refl h (position-found x ys)
+  where
+    go : (b : Bool) → eqb x y ≡ b → cond b 0 (suc (position x ys)) < length (y ∷ ys) → (position x ys < length ys → getD ys (position x ys) 0 ≡ x)
+        → getD (y ∷ ys) (cond b 0 (suc (position x ys))) 0 ≡ x
+    go true t l more = sym (eqb-true x y t)
+    go false t l more = more (le-of-suc-le-suc l)
+
+pub position-lacks : (x : ℕ) (xs : List ℕ) → elem x xs ≡ false → position x xs ≡ length xs
+unfolding position elem
+position-lacks x [] e = refl
+position-lacks x (y ∷ ys) e = go (eqb x y) e (position-lacks x ys)
+  where
+    go : (b : Bool) → cond b true (elem x ys) ≡ false → (elem x ys ≡ false → position x ys ≡ length ys) → cond b 0 (suc (position x ys)) ≡ length (y ∷ ys)
+    go true z more = absurd (true≢false z)
+    go false z more = ap suc (more z)

@@ -5,16 +5,19 @@
 --   first-lacks          the first has no number that none of them has
 --   first-append         the first of two lists, one after the other
 --   append-none          if it is 0, it is 0 in both
---   not-refused          where no refusal of writing holds, the plan is fit
+--   table-stands, table-first, none-stands   a refusal of the table comes before all others, or is none
+--   not-refused          where no refusal of writing holds, the table is one that loading gives and the plan is fit
 use Prim.Native.Nat.{ℕ}
+use native.Mathlib.Nat.{suc-ne-zero}
 use mathlib.Core.Path.{_≡_, refl, sym, _∙_}
 use mathlib.Core.Bool.{Bool, true, false, not, _&&_, cond}
 use mathlib.Core.List.{List, [], _∷_, _++_}
 use lib.Dec.{eqb}
 use borrow.Author.Tests.{eqb-true, eqb-false, ltb-true, not-true, not-false}
-use Rattle.model.specs.Numbers.{Refusal, firstRefusal}
+use Rattle.model.specs.declared.Table.{Table}
+use Rattle.model.specs.Numbers.{Refusal, firstRefusal, refuse}
 use Rattle.model.specs.Map.{Plan, family, fit}
-use Rattle.model.specs.Calls.{earlyRefusals, lateRefusals, writeRefusal}
+use Rattle.model.specs.Calls.{tableRefused, earlyRefusals, lateRefusals, writeRefusal}
 use Rattle.model.proofs.Booleans.{and-left, and-right}
 use Rattle.model.proofs.Fitness.{parts-fit}
 
@@ -69,20 +72,41 @@ append-none rs ss l e = go (eqb (firstRefusal rs) 0) refl (sym (first-append rs 
     go true t z = (eqb-true _ 0 t, z)
     go false t z = absurd (eqb-false _ 0 t z)
 
+-- ---- the table comes first
+
+module _ (t : Table) (rs : List Refusal) where
+  pub table-stands : tableRefused t ≡ false → firstRefusal (refuse 19 (tableRefused t) ∷ rs) ≡ firstRefusal rs
+  unfolding firstRefusal
+  table-stands e = rw e
+
+  pub table-first : tableRefused t ≡ true → firstRefusal (refuse 19 (tableRefused t) ∷ rs) ≡ 19
+  unfolding firstRefusal
+  table-first e = rw e
+
+  pub none-stands : firstRefusal (refuse 19 (tableRefused t) ∷ rs) ≡ 0 → tableRefused t ≡ false
+  unfolding firstRefusal
+  none-stands e = go (tableRefused t) e
+    where
+      go : (b : Bool) → cond b 19 (firstRefusal rs) ≡ 0 → b ≡ false
+      go true z = absurd (suc-ne-zero 18 z)
+      go false z = refl
+
 -- ---- writing
 
-pub not-refused : (k : ℕ) (p : Plan) (w o : ℕ) → writeRefusal k p w o ≡ 0 → fit k p ≡ true
+pub not-refused : (t : Table) (k : ℕ) (p : Plan) (w o : ℕ) → writeRefusal t k p w o ≡ 0 → (tableRefused t ≡ false) × (fit k p ≡ true)
 unfolding writeRefusal earlyRefusals lateRefusals
-not-refused k p w o e =
-    let no = none-holds (earlyRefusals k p w o ++ lateRefusals (family k) p) refl e in
-    parts-fit k p (record {
-      kind = not-false _ (no 2);
-      count = not-false _ (no 3);
-      root = ltb-true _ _ (not-false _ (no 4));
-      outside = no 17;
-      entries = not-false _ (no 6);
-      joined = not-false _ (no 9);
-      flat = not-false _ (no 10);
-      loops = no 11;
-      degrees = no 12;
-    })
+not-refused t k p w o e =
+    let no = none-holds (refuse 19 (tableRefused t) ∷ (earlyRefusals k p w o ++ lateRefusals (family k) p)) refl e in (
+      no 19,
+      parts-fit k p (record {
+        kind = not-false _ (no 2);
+        count = not-false _ (no 3);
+        root = ltb-true _ _ (not-false _ (no 4));
+        outside = no 17;
+        entries = not-false _ (no 6);
+        joined = not-false _ (no 9);
+        flat = not-false _ (no 10);
+        loops = no 11;
+        degrees = no 12;
+      }),
+    )

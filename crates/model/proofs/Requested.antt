@@ -2,21 +2,29 @@
 --
 --   requested            the lines, request by request
 --   requested-hold       the definitions yield every line
+--   tables-hold          lines under two tables of a maker's own
+--   loading-hold         what loading refuses
+--   table-refusals-hold  tables that loading never gives
+--   nineteen-first-hold  19 is given before all other refusals
 --   compared-hold        how many records a search compares
 --   lengths-hold         how many darts the areas have, and the list after measuring
 --   measured-hold        what measuring refuses
 use mathlib.Core.Path.{_≡_, refl}
+use mathlib.Core.Bool.{true}
 use mathlib.Core.List.{List, [], _∷_}
-use Prim.Native.Nat.{ℕ}
+use Prim.Native.Nat.{ℕ, _+_, _%_}
 use lib.Dec.{T}
 use lib.IntN.{pos}
-use lib.ListN.{getD, take}
+use lib.ListN.{getD, set, take}
 use Rattle.model.specs.declared.Measured.the-variants.{Count, Refused, NotPlanar}
+use Rattle.model.specs.Numbers.{elem, distinct, allBelow, position, tabulate, firstRefusal}
+use Rattle.model.specs.Groups.{isTable, inverseOf, loaded, standardTable, noTable}
 use Rattle.model.specs.Shelf.{same, firstEqual, met, asLong, compared}
-use Rattle.model.specs.Map.{faceLengths}
-use Rattle.model.specs.Calls.{measureAnswer, measuredList}
-use Rattle.model.proofs.Line.{Writes, record-is, refused, not-planar, allHold}
+use Rattle.model.specs.Map.{Plan, faceLengths}
+use Rattle.model.specs.Calls.{tableRefused, loadRefusal, writeRefusal, readRefusal, shelveRefusal, measureAnswer, measuredList}
+use Rattle.model.proofs.Line.{Writes, record-is, refused, not-planar, allHold, allHeld, all-held}
 use Rattle.model.proofs.Opened.{writing-opened, measuring-opened}
+use Rattle.model.proofs.Tables.{standard-stands, loaded-stands, no-table-refused}
 
 -- (a) "Order 0 2 5 4 3 1, start 0, is then 08 00 01 00 03 00 E1 00": from any other start its dead end is not the start's. One trail has two dead ends.
 unfoldable pub requested : List Writes
@@ -63,9 +71,62 @@ requested =
     ∷ record { kind = 0x103; root = 0; outside = 0; rotation = 1 ∷ 0 ∷ []; says = refused 2 }
     ∷ []
 
-pub requested-hold : T (allHold requested)
-unfolding requested allHold writing-opened
-requested-hold = tt
+pub requested-hold : T (allHold standardTable requested)
+unfolding requested allHeld writing-opened
+requested-hold = all-held standardTable standard-stands requested tt
+
+-- (h) "A maker may lend 243 bytes of its own": two entries of the standard table exchanged, and the values moved on by 13
+unfoldable pub exchanged : List ℕ
+exchanged = set (set (tabulate (λ v. v) 0 243) 0x36 0x51) 0x51 0x36
+
+unfoldable pub moved-on : List ℕ
+moved-on = tabulate (λ v. (v + 13) % 256) 0 243
+
+exchanged-table : isTable exchanged ≡ true
+unfolding exchanged tabulate isTable allBelow distinct elem
+exchanged-table = refl
+
+moved-on-table : isTable moved-on ≡ true
+unfolding moved-on tabulate isTable allBelow distinct elem
+moved-on-table = refl
+
+-- the records of 0 2 1 3 and 3 2 1 0 change places; 80 AF for 0 1
+unfoldable pub under-exchanged : List Writes
+under-exchanged =
+    record { kind = 2; root = 0; outside = 0; rotation = 0 ∷ 2 ∷ 1 ∷ 3 ∷ []; says = record-is (0x08 ∷ 0x00 ∷ 0x02 ∷ 0x00 ∷ 0x02 ∷ 0x00 ∷ 0xC0 ∷ 0x51 ∷ []) }
+    ∷ record { kind = 2; root = 0; outside = 0; rotation = 3 ∷ 2 ∷ 1 ∷ 0 ∷ []; says = record-is (0x08 ∷ 0x00 ∷ 0x02 ∷ 0x00 ∷ 0x02 ∷ 0x00 ∷ 0xC0 ∷ 0x36 ∷ []) }
+    ∷ record { kind = 0x102; root = 1; outside = 0; rotation = 2 ∷ 1 ∷ 0 ∷ 3 ∷ []; says = record-is (0x0A ∷ 0x00 ∷ 0x02 ∷ 0x01 ∷ 0x02 ∷ 0x00 ∷ 0x00 ∷ 0x00 ∷ 0xC0 ∷ 0x51 ∷ []) }
+    ∷ record { kind = 1; root = 0; outside = 0; rotation = 3 ∷ 2 ∷ 1 ∷ 0 ∷ []; says = record-is (0x07 ∷ 0x00 ∷ 0x01 ∷ 0x00 ∷ 0x02 ∷ 0x00 ∷ 0xC8 ∷ []) }
+    ∷ []
+
+unfoldable pub under-moved-on : List Writes
+under-moved-on =
+    record { kind = 2; root = 0; outside = 0; rotation = 0 ∷ 1 ∷ []; says = record-is (0x08 ∷ 0x00 ∷ 0x02 ∷ 0x00 ∷ 0x01 ∷ 0x00 ∷ 0x80 ∷ 0xAF ∷ []) }
+    ∷ record { kind = 4; root = 0; outside = 0; rotation = 0 ∷ 1 ∷ []; says = record-is (0x07 ∷ 0x00 ∷ 0x04 ∷ 0x00 ∷ 0x01 ∷ 0x00 ∷ 0x10 ∷ []) }
+    ∷ []
+
+pub tables-hold : T (allHold (loaded exchanged) under-exchanged) × T (allHold (loaded moved-on) under-moved-on)
+unfolding exchanged moved-on under-exchanged under-moved-on allHeld writing-opened
+tables-hold = (
+  all-held (loaded exchanged) (loaded-stands exchanged exchanged-table) under-exchanged tt,
+  all-held (loaded moved-on) (loaded-stands moved-on moved-on-table) under-moved-on tt,
+)
+
+-- "Refused, before all others: 19, not 243 bytes or two of them equal, or a call is handed a table that loading never gives": where 2 holds too
+pub loading-hold : (loadRefusal exchanged ≡ 0) × (loadRefusal (tabulate (λ v. v) 0 242) ≡ 19) × (loadRefusal (tabulate (λ v. v) 0 244) ≡ 19)
+    × (loadRefusal (set exchanged 0 1) ≡ 19) × (loadRefusal [] ≡ 19)
+unfolding exchanged tabulate loadRefusal firstRefusal isTable allBelow distinct elem
+loading-hold = (refl, refl, refl, refl, refl)
+
+-- the table of zeros, and an inverse that is wrong at a byte that no group has
+pub table-refusals-hold : (tableRefused noTable ≡ true) × (tableRefused (record { bytes = exchanged; inverse = set (inverseOf exchanged) 255 242 }) ≡ true)
+unfolding exchanged tabulate tableRefused isTable inverseOf position same allBelow distinct elem
+table-refusals-hold = (no-table-refused, refl)
+
+-- where 2, 1 and 14 hold too
+pub nineteen-first-hold : (p : Plan) → (writeRefusal noTable 9 p 0 0 ≡ 19) × (readRefusal noTable [] 0 0 ≡ 19) × (shelveRefusal noTable [] [] 1 ≡ 19)
+unfolding writeRefusal readRefusal shelveRefusal firstRefusal
+nineteen-first-hold p = (rw no-table-refused, rw no-table-refused, rw no-table-refused)
 
 -- (g) "as many as those it meets of the new one's length, an equal one included"
 unfoldable pub shelved : List (List ℕ)

@@ -5,8 +5,10 @@
 use mathlib.Core.List.{List, [], _∷_}
 use lib.Dec.{T}
 use lib.IntN.{pos, negsuc}
-use Rattle.model.proofs.Line.{Writes, standard-is, refused, not-planar, allHold}
+use Rattle.model.specs.Groups.{standardTable}
+use Rattle.model.proofs.Line.{Writes, standard-is, refused, not-planar, allHold, allHeld, all-held}
 use Rattle.model.proofs.Opened.{writing-opened}
+use Rattle.model.proofs.Tables.{standard-stands}
 
 unfoldable pub vectors : List Writes
 vectors =
@@ -131,6 +133,6 @@ vectors =
     ∷ record { kind = 257; root = 7; outside = 3; rotation = 8 ∷ 5 ∷ 9 ∷ 6 ∷ 0 ∷ 2 ∷ 4 ∷ 7 ∷ 3 ∷ 1 ∷ []; says = standard-is (10 ∷ 0 ∷ 1 ∷ 1 ∷ 5 ∷ 0 ∷ 5 ∷ 0 ∷ 234 ∷ 22 ∷ []) (0 ∷ 2 ∷ 9 ∷ 4 ∷ 6 ∷ 1 ∷ 8 ∷ 5 ∷ 3 ∷ 7 ∷ []) }
     ∷ []
 
-pub vectors-hold : T (allHold vectors)
-unfolding vectors allHold writing-opened
-vectors-hold = tt
+pub vectors-hold : T (allHold standardTable vectors)
+unfolding vectors allHeld writing-opened
+vectors-hold = all-held standardTable standard-stands vectors tt

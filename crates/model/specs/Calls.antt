@@ -2,13 +2,17 @@
 --
 --   zeros w               the work area after a call
 --   front new old         the first entries are new, the others as they were
+--   tableRefused t        loading never gives the table t
+--   loadRefusal, loadedTable   loading: the refusal, 0 if none, and the table that is returned
+--   Loads                 all that loading promises
 --   earlyRefusals, lateRefusals   the refusals of writing: those that need no work area, and those of the plan itself
---   writeRefusal          the first of them; 0 if none
+--   writeRefusal          the first of all, 19 before them; 0 if none
+--   answerOf r k p        the answer of writing p where r is its first refusal
 --   writeAnswer           the answer of writing
 --   writtenOutput         the output after writing
 --   Wrote                 all that writing promises
 --   readRefusal           the first of reading's refusals but 13; 0 if none
---   HasRecord r p         p is fit for the kind that r names, and r is its record
+--   HasRecord t r p       p is fit for the kind that r names, and r is its record under the table t
 --   outsideRead k p       the dart of the outer face that reading returns
 --   Reads                 what reading answers and the output after it
 --   ReadCall              all that reading promises
@@ -27,12 +31,13 @@
 --   recordNumberOfShelved, usedOfShelved   the values of shelving's answer
 use Prim.Native.Nat.{ℕ, _+_, _-_, _*_}
 use mathlib.Core.Path.{_≡_}
-use mathlib.Core.Bool.{true, not, _&&_, cond}
+use mathlib.Core.Bool.{Bool, true, not, _&&_, _||_, cond}
 use mathlib.Core.List.{List, [], _∷_, _++_}
 use mathlib.Core.Logic.{_≢_}
 use lib.Dec.{eqb, ltb}
 use lib.IntN.{ℤ, pos}
 use lib.ListN.{length, getD, take, drop, replicate}
+use Rattle.model.specs.declared.Table.{Table}
 use Rattle.model.specs.declared.Written.{Written}
 use Rattle.model.specs.declared.Written.the-variants as written
 use Rattle.model.specs.declared.ReadBack.{ReadBack}
@@ -44,8 +49,9 @@ use Rattle.model.specs.declared.Shelved.the-variants as shelved
 use Rattle.model.specs.Numbers.{Refusal, firstRefusal, refuse, isPermutation}
 use Rattle.model.specs.Map.{Plan, darts, edges, faceLengths, isKind, storesOutside, family, dartCountFits, connected, planar, characteristic, outsideRefused, loopRefused, degreeRefused, fit}
 use Rattle.model.specs.Traversal.{standardFace, standardPlan}
+use Rattle.model.specs.Groups.{isTable, inverseOf, loaded, noTable}
 use Rattle.model.specs.Record.{recordLength, recordOf}
-use Rattle.model.specs.Shelf.{kindOf, edgesOf, headRefusals, recordsIn, firstEqual, shelfRefused}
+use Rattle.model.specs.Shelf.{kindOf, edgesOf, headRefusals, recordsIn, same, firstEqual, shelfRefused}
 
 -- "The work area, short or not, is zeros on every return."
 unfoldable pub zeros : List ℕ → List ℕ
@@ -54,6 +60,23 @@ zeros w = replicate (length w) 0
 -- "Other output is untouched."
 unfoldable pub front : List ℕ → List ℕ → List ℕ
 front new old = new ++ drop (length new) old
+
+-- ---- the group table: document 02 (h)
+
+-- 19, "a call is handed a table that loading never gives"
+unfoldable pub tableRefused : Table → Bool
+tableRefused t = not (isTable (t .bytes)) || not (same (t .inverse) (inverseOf (t .bytes)))
+
+-- 19, "not 243 bytes or two of them equal"
+unfoldable pub loadRefusal : List ℕ → ℕ
+loadRefusal bs = firstRefusal (refuse 19 (not (isTable bs)) ∷ [])
+
+unfoldable pub loadedTable : List ℕ → Table
+loadedTable bs = cond (eqb (loadRefusal bs) 0) (loaded bs) noTable
+
+pub record Loads (bs : List ℕ) (t : Table) (number : ℕ) : Type 0 where
+  pub table-is : t ≡ loadedTable bs
+  pub number-is : number ≡ loadRefusal bs
 
 -- ---- writing
 
@@ -77,54 +100,59 @@ lateRefusals f p =
     ∷ refuse 12 (degreeRefused f p)
     ∷ []
 
-unfoldable pub writeRefusal : ℕ → Plan → ℕ → ℕ → ℕ
-writeRefusal k p workLength outLength = firstRefusal (earlyRefusals k p workLength outLength ++ lateRefusals (family k) p)
+-- 19 is refused "before all others"
+unfoldable pub writeRefusal : Table → ℕ → Plan → ℕ → ℕ → ℕ
+writeRefusal t k p workLength outLength =
+    firstRefusal (refuse 19 (tableRefused t) ∷ (earlyRefusals k p workLength outLength ++ lateRefusals (family k) p))
 
 -- "Writing returns the record's length"; refusal 10 "also gives the characteristic"
-unfoldable pub writeAnswer : ℕ → Plan → ℕ → ℕ → Written
-writeAnswer k p workLength outLength =
-    let r = writeRefusal k p workLength outLength in
+unfoldable pub answerOf : ℕ → ℕ → Plan → Written
+answerOf r k p =
     cond (eqb r 0) (written.Length (recordLength k (edges (p .rotation))))
     (cond (eqb r 10) (written.NotPlanar (characteristic (p .rotation))) (written.Refused r))
 
--- "and fills that many output bytes"
-unfoldable pub writtenOutput : ℕ → Plan → ℕ → List ℕ → List ℕ
-writtenOutput k p workLength out = cond (eqb (writeRefusal k p workLength (length out)) 0) (front (recordOf k p) out) out
+unfoldable pub writeAnswer : Table → ℕ → Plan → ℕ → ℕ → Written
+writeAnswer t k p workLength outLength = answerOf (writeRefusal t k p workLength outLength) k p
 
-pub record Wrote (k : ℕ) (p : Plan) (work out : List ℕ) (answer : Written) (work′ out′ : List ℕ) : Type 0 where
-  pub answered : answer ≡ writeAnswer k p (length work) (length out)
-  pub filled : out′ ≡ writtenOutput k p (length work) out
+-- "and fills that many output bytes"
+unfoldable pub writtenOutput : Table → ℕ → Plan → ℕ → List ℕ → List ℕ
+writtenOutput t k p workLength out = cond (eqb (writeRefusal t k p workLength (length out)) 0) (front (recordOf t k p) out) out
+
+pub record Wrote (t : Table) (k : ℕ) (p : Plan) (work out : List ℕ) (answer : Written) (work′ out′ : List ℕ) : Type 0 where
+  pub answered : answer ≡ writeAnswer t k p (length work) (length out)
+  pub filled : out′ ≡ writtenOutput t k p (length work) out
   pub cleared : work′ ≡ zeros work
 
 -- ---- reading
 
--- "reading 1, 2, 3, 5, 7, 8, 13"
-unfoldable pub readRefusal : List ℕ → ℕ → ℕ → ℕ
-readRefusal r workLength outLength = firstRefusal
-    (headRefusals r
+-- "reading 1, 2, 3, 5, 7, 8, 13"; 19 is refused "before all others"
+unfoldable pub readRefusal : Table → List ℕ → ℕ → ℕ → ℕ
+readRefusal t r workLength outLength = firstRefusal
+    (refuse 19 (tableRefused t)
+    ∷ (headRefusals r
     ++ (refuse 7 (ltb workLength (32 * edgesOf r))
     ∷ refuse 8 (ltb outLength (2 * edgesOf r))
-    ∷ []))
+    ∷ [])))
 
--- the plan p is fit for the kind that the record r names, and r is its record
-abbrev pub HasRecord : List ℕ → Plan → Type 0
-HasRecord r p = (fit (kindOf r) p ≡ true) × (recordOf (kindOf r) p ≡ r)
+-- the plan p is fit for the kind that the record r names, and r is its record under the table t
+abbrev pub HasRecord : Table → List ℕ → Plan → Type 0
+HasRecord t r p = (fit (kindOf r) p ≡ true) × (recordOf t (kindOf r) p ≡ r)
 
 -- document 02 (e): "A kind without these bytes .., when read, has the start dart's area outside. Reading also returns the lowest dart of the outside area."
 unfoldable pub outsideRead : ℕ → Plan → ℕ
 outsideRead k p = standardFace p (cond (storesOutside k) (p .outside) (p .root))
 
--- 13. "No fit plan of this kind has this record." "Reading returns m, with the standard plan in the first 2m entries and start 0."
-pub data Reads (r : List ℕ) (workLength : ℕ) (out : List ℕ) (answer : ReadBack) (out′ : List ℕ) : Type 0 where
-  refused : (readRefusal r workLength (length out) ≢ 0) → answer ≡ readback.Refused (readRefusal r workLength (length out)) → out′ ≡ out
-      → Reads r workLength out answer out′
-  read : (readRefusal r workLength (length out) ≡ 0) → (p : Plan) → HasRecord r p
-      → answer ≡ readback.Edges (edgesOf r) (outsideRead (kindOf r) p) → out′ ≡ front (standardPlan p .rotation) out → Reads r workLength out answer out′
-  unreadable : (readRefusal r workLength (length out) ≡ 0) → ((p : Plan) → HasRecord r p → ⊥) → answer ≡ readback.Refused 13 → out′ ≡ out
-      → Reads r workLength out answer out′
+-- 13. "No fit plan of this kind has this record"; document 02 (h): "A byte outside it is refusal 13." "Reading returns m, with the standard plan in the first 2m entries and start 0."
+pub data Reads (t : Table) (r : List ℕ) (workLength : ℕ) (out : List ℕ) (answer : ReadBack) (out′ : List ℕ) : Type 0 where
+  refused : (readRefusal t r workLength (length out) ≢ 0) → answer ≡ readback.Refused (readRefusal t r workLength (length out)) → out′ ≡ out
+      → Reads t r workLength out answer out′
+  read : (readRefusal t r workLength (length out) ≡ 0) → (p : Plan) → HasRecord t r p
+      → answer ≡ readback.Edges (edgesOf r) (outsideRead (kindOf r) p) → out′ ≡ front (standardPlan p .rotation) out → Reads t r workLength out answer out′
+  unreadable : (readRefusal t r workLength (length out) ≡ 0) → ((p : Plan) → HasRecord t r p → ⊥) → answer ≡ readback.Refused 13 → out′ ≡ out
+      → Reads t r workLength out answer out′
 
-pub record ReadCall (r work out : List ℕ) (answer : ReadBack) (work′ out′ : List ℕ) : Type 0 where
-  pub outcome : Reads r (length work) out answer out′
+pub record ReadCall (t : Table) (r work out : List ℕ) (answer : ReadBack) (work′ out′ : List ℕ) : Type 0 where
+  pub outcome : Reads t r (length work) out answer out′
   pub cleared : work′ ≡ zeros work
 
 -- ---- measuring: document 02 (d)
@@ -157,32 +185,33 @@ pub record Measures (rot work list : List ℕ) (answer : Measured) (work′ list
 
 -- ---- the shelf
 
--- "shelving 1, 2, 3, 5, 14, 16". 16. "The record isn't on the shelf and exceeds the bytes past the used length."
-unfoldable pub shelveRefusal : List ℕ → List ℕ → ℕ → ℕ
-shelveRefusal r shelf used =
+-- "shelving 1, 2, 3, 5, 14, 16"; 19 is refused "before all others". 16. "The record isn't on the shelf and exceeds the bytes past the used length."
+unfoldable pub shelveRefusal : Table → List ℕ → List ℕ → ℕ → ℕ
+shelveRefusal t r shelf used =
     let rs = recordsIn (take used shelf) in
     firstRefusal
-    (headRefusals r
+    (refuse 19 (tableRefused t)
+    ∷ (headRefusals r
     ++ (refuse 14 (shelfRefused shelf used)
     ∷ refuse 16 (eqb (firstEqual r rs) (length rs) && ltb (length shelf - used) (length r))
-    ∷ []))
+    ∷ [])))
 
 -- "Shelving returns the record's number and the new used length: if equal bytes are already there, the first such number, with nothing stored; else
 -- they are put just past the used bytes."
-unfoldable pub shelveAnswer : List ℕ → List ℕ → ℕ → Shelved
-shelveAnswer r shelf used =
+unfoldable pub shelveAnswer : Table → List ℕ → List ℕ → ℕ → Shelved
+shelveAnswer t r shelf used =
     let rs = recordsIn (take used shelf) in
     let n = firstEqual r rs in
-    cond (eqb (shelveRefusal r shelf used) 0) (shelved.At n (cond (eqb n (length rs)) (used + length r) used)) (shelved.Refused (shelveRefusal r shelf used))
+    cond (eqb (shelveRefusal t r shelf used) 0) (shelved.At n (cond (eqb n (length rs)) (used + length r) used)) (shelved.Refused (shelveRefusal t r shelf used))
 
-unfoldable pub shelvedBytes : List ℕ → List ℕ → ℕ → List ℕ
-shelvedBytes r shelf used =
+unfoldable pub shelvedBytes : Table → List ℕ → List ℕ → ℕ → List ℕ
+shelvedBytes t r shelf used =
     let rs = recordsIn (take used shelf) in
-    cond (eqb (shelveRefusal r shelf used) 0 && eqb (firstEqual r rs) (length rs)) (take used shelf ++ front r (drop used shelf)) shelf
+    cond (eqb (shelveRefusal t r shelf used) 0 && eqb (firstEqual r rs) (length rs)) (take used shelf ++ front r (drop used shelf)) shelf
 
-pub record Stored (r shelf : List ℕ) (used : ℕ) (answer : Shelved) (shelf′ : List ℕ) : Type 0 where
-  pub answered : answer ≡ shelveAnswer r shelf used
-  pub bytes : shelf′ ≡ shelvedBytes r shelf used
+pub record Stored (t : Table) (r shelf : List ℕ) (used : ℕ) (answer : Shelved) (shelf′ : List ℕ) : Type 0 where
+  pub answered : answer ≡ shelveAnswer t r shelf used
+  pub bytes : shelf′ ≡ shelvedBytes t r shelf used
 
 -- "fetching 14, 15". 15. "The shelf holds no record with this number, counting from 0."
 unfoldable pub fetchRefusal : List ℕ → ℕ → ℕ → ℕ

@@ -12,6 +12,7 @@ use mathlib.Core.Bool.{_&&_, cond}
 use mathlib.Core.List.{List}
 use lib.IntN.{ℤ}
 use lib.ListN.{length, take, drop}
+use Rattle.model.specs.declared.Table.{Table}
 use Rattle.model.specs.declared.ReadBack.{ReadBack}
 use Rattle.model.specs.Map.{Plan, isKind, edgeCountFits}
 use Rattle.model.specs.Record.{recordLength}
@@ -23,19 +24,19 @@ use Rattle.model.specs.Parts.{fetchedPlace}
 
 -- ---- writing
 
-pub record WriteExport (k : ℕ) (p : Plan) (work out : List ℕ) (r l : ℕ) (x : ℤ) (work′ out′ : List ℕ) : Type 0 where
-  pub number-is : r ≡ numberOfWritten (writeAnswer k p (length work) (length out))
-  pub length-is : l ≡ lengthOfWritten (writeAnswer k p (length work) (length out))
-  pub characteristic-is : x ≡ characteristicOfWritten (writeAnswer k p (length work) (length out))
-  pub filled : out′ ≡ writtenOutput k p (length work) out
+pub record WriteExport (t : Table) (k : ℕ) (p : Plan) (work out : List ℕ) (r l : ℕ) (x : ℤ) (work′ out′ : List ℕ) : Type 0 where
+  pub number-is : r ≡ numberOfWritten (writeAnswer t k p (length work) (length out))
+  pub length-is : l ≡ lengthOfWritten (writeAnswer t k p (length work) (length out))
+  pub characteristic-is : x ≡ characteristicOfWritten (writeAnswer t k p (length work) (length out))
+  pub filled : out′ ≡ writtenOutput t k p (length work) out
   pub cleared : work′ ≡ zeros work
 
 -- ---- reading
 
 -- the numbers are those of the answer that reading gives
-pub record ReadExport (bytes work out : List ℕ) (r m outside : ℕ) (work′ out′ : List ℕ) : Type 0 where
+pub record ReadExport (t : Table) (bytes work out : List ℕ) (r m outside : ℕ) (work′ out′ : List ℕ) : Type 0 where
   pub answer : ReadBack
-  pub outcome : Reads bytes (length work) out answer out′
+  pub outcome : Reads t bytes (length work) out answer out′
   pub number-is : r ≡ numberOfRead answer
   pub edges-are : m ≡ edgesOfRead answer
   pub outside-is : outside ≡ outsideOfRead answer
@@ -52,11 +53,11 @@ pub record MeasureExport (rot work list : List ℕ) (r c : ℕ) (x : ℤ) (work�
 
 -- ---- the shelf
 
-pub record ShelveExport (bytes shelf : List ℕ) (used : ℕ) (r n used′ : ℕ) (shelf′ : List ℕ) : Type 0 where
-  pub refusal-is : r ≡ numberOfShelved (shelveAnswer bytes shelf used)
-  pub number-is : n ≡ recordNumberOfShelved (shelveAnswer bytes shelf used)
-  pub used-is : used′ ≡ usedOfShelved used (shelveAnswer bytes shelf used)
-  pub bytes-are : shelf′ ≡ shelvedBytes bytes shelf used
+pub record ShelveExport (t : Table) (bytes shelf : List ℕ) (used : ℕ) (r n used′ : ℕ) (shelf′ : List ℕ) : Type 0 where
+  pub refusal-is : r ≡ numberOfShelved (shelveAnswer t bytes shelf used)
+  pub number-is : n ≡ recordNumberOfShelved (shelveAnswer t bytes shelf used)
+  pub used-is : used′ ≡ usedOfShelved used (shelveAnswer t bytes shelf used)
+  pub bytes-are : shelf′ ≡ shelvedBytes t bytes shelf used
 
 -- the fetched record is the part of the shelf at this place and of this length
 pub record FetchExport (shelf : List ℕ) (used n : ℕ) (r at l : ℕ) : Type 0 where

@@ -7,6 +7,7 @@
 --   allBelow n xs       every entry of xs is below n
 --   isPermutation xs    the entries of xs are the numbers below its length, each once
 --   position x xs       the first place where x stands in xs; its length if it does not
+--   tabulate g i n      g i, g (i + 1), .., n of them
 --   iter p j x          p applied j times to x
 --   least p n x         the least of x, p x, .., pⁿ x: the name of x's cycle, for a permutation p below n
 --   isLeast p n x       x is the least of its cycle
@@ -53,6 +54,10 @@ isPermutation xs = allBelow (length xs) xs && distinct xs
 unfoldable pub position : ℕ → List ℕ → ℕ
 position x [] = 0
 position x (y ∷ ys) = let r = suc (position x ys) in cond (eqb x y) 0 r
+
+unfoldable pub tabulate : (ℕ → ℕ) → ℕ → ℕ → List ℕ
+tabulate g i zero = []
+tabulate g i (suc n) = g i ∷ tabulate g (suc i) n
 
 unfoldable pub iter : (ℕ → ℕ) → ℕ → ℕ → ℕ
 iter p zero x = x

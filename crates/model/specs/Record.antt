@@ -7,21 +7,23 @@
 --   headLength k          how many bytes stand before the payload of a record of kind k
 --   payloadLength f m     the length of the payload of a record of family f with m edges
 --   recordLength k m      the length of a record of kind k with m edges
---   payload f m bits labels   tree bits and labels in bytes
+--   payload t f m bits labels   tree bits and labels in bytes, groups under the table t
 --   labelBase f           labels of family f are below it
 --   contourBits l d       the two bits of a dart d with the letter l
 --   headed k m rest       the bytes rest behind length, kind and m
---   payloadOf f p         the payload of plan p in family f
+--   payloadOf t f p       the payload of plan p in family f
 --   outsideBytes k p      the outside's bytes; none in a kind without them
---   recordOf k p          the record of plan p in kind k
+--   recordOf t k p        the record of plan p in kind k under the table t
 use Prim.Native.Nat.{ℕ, zero, suc, _+_, _-_, _*_, _/_, _%_}
 use mathlib.Core.Bool.{cond}
-use mathlib.Core.List.{List, [], _∷_, _++_}
+use mathlib.Core.List.{List, [], _∷_, _++_, map}
 use lib.Dec.{eqb}
 use lib.ListN.{length, drop}
+use Rattle.model.specs.declared.Table.{Table}
 use Rattle.model.specs.Map.{Plan, edges, storesOutside, family}
 use Rattle.model.specs.Traversal.{Letter, down, up, first, second, visits, standardFace}
 use Rattle.model.specs.LabelledTree.{along, labels, treeBits}
+use Rattle.model.specs.Groups.{byteFor}
 
 -- `so-far` is the number that the digits before make
 unfoldable pub digitsFrom : ℕ → ℕ → ℕ → List ℕ → ℕ
@@ -55,10 +57,12 @@ unfoldable pub recordLength : ℕ → ℕ → ℕ
 recordLength k m = headLength k + payloadLength (family k) m
 
 -- "Kind 1: tree bits, then m label bits, unbroken; padded once." "Kind 2: tree bits padded to a byte, then labels in groups of five (0, 1, star = 2),
--- first label highest in base 3, one byte a group, the last group filled with 0." "Bits fill a byte from its highest bit; unused low bits are 0."
-unfoldable pub payload : ℕ → ℕ → List ℕ → List ℕ → List ℕ
-payload f m bits labels =
-    cond (eqb f 1) (pack 2 8 (bytesFor (3 * m) 8) (bits ++ labels)) (pack 2 8 (bytesFor (2 * m) 8) bits ++ pack 3 5 (bytesFor m 5) labels)
+-- first label highest in base 3, one byte a group, the last group filled with 0." "Bits fill a byte from its highest bit; unused low bits are 0." A group's byte
+-- is the table's for its value, document 02 (h).
+unfoldable pub payload : Table → ℕ → ℕ → List ℕ → List ℕ → List ℕ
+payload t f m bits labels =
+    cond (eqb f 1) (pack 2 8 (bytesFor (3 * m) 8) (bits ++ labels))
+    (pack 2 8 (bytesFor (2 * m) 8) bits ++ map (byteFor t) (pack 3 5 (bytesFor m 5) labels))
 
 -- "Kind 1: .. m label bits"; "Kind 2: .. labels .. (0, 1, star = 2)"
 unfoldable pub labelBase : ℕ → ℕ
@@ -75,14 +79,14 @@ contourBits second d = 1 ∷ 1 ∷ []
 unfoldable pub headed : ℕ → ℕ → List ℕ → List ℕ
 headed k m rest = le16 (6 + length rest) ++ (le16 k ++ (le16 m ++ rest))
 
-unfoldable pub payloadOf : ℕ → Plan → List ℕ
-payloadOf f p =
+unfoldable pub payloadOf : Table → ℕ → Plan → List ℕ
+payloadOf t f p =
     let m = edges (p .rotation) in
-    cond (eqb f 4) (pack 2 8 (bytesFor (4 * m) 8) (along contourBits (visits p))) (payload f m (treeBits p) (labels p))
+    cond (eqb f 4) (pack 2 8 (bytesFor (4 * m) 8) (along contourBits (visits p))) (payload t f m (treeBits p) (labels p))
 
 -- document 02 (e): "with two more bytes after m: the lowest standard dart of the outside area"; "A kind without these bytes ignores the outside in writing"
 unfoldable pub outsideBytes : ℕ → Plan → List ℕ
 outsideBytes k p = cond (storesOutside k) (le16 (standardFace p (p .outside))) []
 
-unfoldable pub recordOf : ℕ → Plan → List ℕ
-recordOf k p = headed k (edges (p .rotation)) (outsideBytes k p ++ payloadOf (family k) p)
+unfoldable pub recordOf : Table → ℕ → Plan → List ℕ
+recordOf t k p = headed k (edges (p .rotation)) (outsideBytes k p ++ payloadOf t (family k) p)

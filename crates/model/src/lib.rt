@@ -1,5 +1,5 @@
-// The definitions of document 01, in specs/, and the answers of the calls, which those definitions speak of. No code stands here: what the calls do is
-// in the crates above, and their contracts cite these definitions.
+// The definitions of document 01, in specs/, and the answers of the calls and the group table, which those definitions speak of. No code stands here:
+// what the calls do is in the crates above, and their contracts cite these definitions.
 
 // The answer of writing: the record's length; a refusal other than 10; refusal 10 with the characteristic.
 pub enum Written {
@@ -25,4 +25,11 @@ pub enum Measured {
 pub enum Shelved {
     At(usize, usize),
     Refused(u16),
+}
+
+// A group table: the byte for each group value, and the inverse: for each byte its group value, 243 if it has none.
+#[repr(C)]
+pub struct Table {
+    pub bytes: [u8; 243],
+    pub inverse: [u8; 256],
 }

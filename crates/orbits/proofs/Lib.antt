@@ -15,4 +15,3 @@ pub mod Euler
 pub mod Maps
 pub mod Faces
 pub mod Inverse
-pub mod Table

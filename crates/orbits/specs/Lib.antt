@@ -2,4 +2,3 @@ pub mod Permutation
 pub mod Chord
 pub mod Stack
 pub mod Tour
-pub mod Table

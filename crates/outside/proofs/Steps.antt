@@ -15,7 +15,7 @@ use lib.ListN.{length, getD}
 use borrow.Author.Tests.{eqb-true, eqb-false, eq-eqb, ne-eqb}
 use Rattle.model.specs.Map.{opposite, faceNext, faceOf}
 use Rattle.model.specs.Traversal.{down, up, first, second, code, opens, onward}
-use Rattle.orbits.proofs.Table.{tabulate-at}
+use Rattle.model.proofs.Tabulated.{tabulate-at}
 use Rattle.work.specs.Map.{FACES}
 use Rattle.work.specs.Letters.{toLetter}
 use Rattle.work.proofs.Regions.{getD-region}

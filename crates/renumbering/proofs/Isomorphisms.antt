@@ -23,7 +23,7 @@ use Rattle.model.proofs.Opposite.{opposite-bound}
 use Rattle.orbits.specs.Permutation.{Perm}
 use Rattle.orbits.proofs.Order.{eq-split}
 use Rattle.orbits.proofs.Cycle.{least-step, least-keeps}
-use Rattle.orbits.proofs.Table.{length-tabulate}
+use Rattle.model.proofs.Tabulated.{length-tabulate}
 use Rattle.orbits.proofs.Maps.{list-perm, perm-list, next-perm, face-perm}
 use Rattle.renumbering.specs.Isomorphism.{Isomorphism, inverseOf, composed}
 use Rattle.renumbering.proofs.Permutations.{of-list}

@@ -14,8 +14,8 @@ use lib.ListN.{length, getD}
 use Rattle.model.specs.Numbers.{isPermutation, position}
 use Rattle.model.proofs.Permutations.{position-bound}
 use Rattle.orbits.specs.Permutation.{Perm}
-use Rattle.orbits.specs.Table.{tabulate}
-use Rattle.orbits.proofs.Table.{length-tabulate, tabulate-at}
+use Rattle.model.specs.Numbers.{tabulate}
+use Rattle.model.proofs.Tabulated.{length-tabulate, tabulate-at}
 use Rattle.orbits.proofs.Inverse.{onto}
 use Rattle.orbits.proofs.Maps.{list-perm, perm-list}
 use Rattle.renumbering.specs.Isomorphism.{inverseOf, composed}

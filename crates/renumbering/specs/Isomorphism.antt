@@ -10,7 +10,7 @@ use mathlib.Core.List.{List}
 use lib.ListN.{length, getD}
 use Rattle.model.specs.Numbers.{isPermutation, position}
 use Rattle.model.specs.Map.{opposite, next}
-use Rattle.orbits.specs.Table.{tabulate}
+use Rattle.model.specs.Numbers.{tabulate}
 
 -- a renumbering but for the roots
 pub record Isomorphism (rot rot′ f : List ℕ) : Type 0 where

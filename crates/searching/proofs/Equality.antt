@@ -1,32 +1,19 @@
 -- The test for equal bytes.
 --
---   same-refl, same-eq            it is passed by equal lists alone
 --   same-unlike                   lists of two lengths fail
 --   same-turn, same-stops, same-ends    one turn of its loop
 --   kinds-unlike                  records of two kinds fail
-use mathlib.Core.Path.{_≡_, refl, sym, ap, _∙_, subst}
-use mathlib.Core.Bool.{true, false, false≢true}
-use mathlib.Core.List.{List, [], _∷_}
+use mathlib.Core.Path.{_≡_, sym, ap, _∙_, subst}
+use mathlib.Core.Bool.{true, false}
+use mathlib.Core.List.{List}
 use Prim.Native.Nat.{ℕ, suc, _≤_}
 use native.Mathlib.Omega.{arith}
-use lib.Dec.{eqb}
 use lib.ListN.{length, getD, drop}
 use lib.Seq.{drop-cons, drop-length}
-use borrow.Author.Tests.{eq-eqb, eqb-true}
+use borrow.Author.Tests.{eq-eqb}
 use Rattle.model.specs.Shelf.{word16, kindOf, same}
-use Rattle.model.proofs.Booleans.{and-left, and-right, not-intro}
-
-pub same-refl : (xs : List ℕ) → same xs xs ≡ true
-unfolding same
-same-refl [] = refl
-same-refl (x ∷ xs) = rw (eq-eqb x x refl, same-refl xs)
-
-pub same-eq : (xs ys : List ℕ) → same xs ys ≡ true → xs ≡ ys
-unfolding same
-same-eq [] [] e = refl
-same-eq [] (y ∷ ys) e = absurd (false≢true e)
-same-eq (x ∷ xs) [] e = absurd (false≢true e)
-same-eq (x ∷ xs) (y ∷ ys) e = rw (eqb-true x y (and-left _ (same xs ys) e), same-eq xs ys (and-right (eqb x y) _ e))
+use Rattle.model.proofs.Booleans.{not-intro}
+use Rattle.model.proofs.Same.{same-eq}
 
 pub same-unlike : (xs ys : List ℕ) → (length xs ≡ length ys → ⊥) → same xs ys ≡ false
 same-unlike xs ys d = not-intro _ (λ e. d (ap length (same-eq xs ys e)))

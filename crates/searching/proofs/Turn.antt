@@ -31,7 +31,8 @@ use Rattle.records.specs.declared.Counted.the-variants as counted
 use Rattle.records.proofs.Stands.{record-is, passes-here, part-is}
 use Rattle.records.proofs.Cut.{rest, cut-verdict, cut-records, end-nil}
 use Rattle.records.proofs.Turn.{rest-here, broken-here}
-use Rattle.searching.proofs.Equality.{same-eq, same-unlike}
+use Rattle.model.proofs.Same.{same-eq}
+use Rattle.searching.proofs.Equality.{same-unlike}
 
 abbrev pub further : ℕ → ℕ → Searched → Searched
 further n c (There k d) = There (n + k) (c + d)

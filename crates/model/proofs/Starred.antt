@@ -4,8 +4,10 @@
 --   starred-hold         the definitions yield every line of the table
 use mathlib.Core.List.{List, [], _∷_}
 use lib.IntN.{pos}
-use Rattle.model.proofs.Line.{Line, on-writing, on-reading, record-is, not-planar, AllHold}
+use Rattle.model.specs.Groups.{standardTable}
+use Rattle.model.proofs.Line.{Line, on-writing, on-reading, record-is, not-planar, held-holds, AllHold}
 use Rattle.model.proofs.Opened.{writing-opened}
+use Rattle.model.proofs.Tables.{standard-stands}
 use Rattle.model.proofs.Unreadable.{refuses-CC, refuses-C9}
 
 unfoldable pub starred : List Line
@@ -26,4 +28,6 @@ starred =
 
 pub starred-hold : AllHold starred
 unfolding starred writing-opened
-starred-hold = (tt, (tt, (tt, (tt, (tt, (tt, (tt, (tt, (tt, (tt, (refuses-CC, (refuses-C9, tt))))))))))))
+starred-hold =
+    let h = held-holds standardTable standard-stands in
+    (h _ tt, (h _ tt, (h _ tt, (h _ tt, (h _ tt, (h _ tt, (h _ tt, (h _ tt, (h _ tt, (h _ tt, (refuses-CC, (refuses-C9, tt))))))))))))

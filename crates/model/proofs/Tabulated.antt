@@ -10,7 +10,7 @@ use mathlib.Core.Path.{_≡_, refl, sym, ap, _∙_}
 use mathlib.Core.List.{List}
 use lib.ListN.{length, getD}
 use lib.Seq.{ext-getD}
-use Rattle.orbits.specs.Table.{tabulate}
+use Rattle.model.specs.Numbers.{tabulate}
 
 pub length-tabulate : (g : ℕ → ℕ) (s n : ℕ) → length (tabulate g s n) ≡ n
 unfolding tabulate
