@@ -3,17 +3,20 @@
 --   encode-sized, encode-bytes   a valid word's payload has the length for its family, and its entries are bytes
 --   encode-decodes        it is decoded to the word
 --   decode-encodes        a payload that is decoded is the valid word's
---   payload-of-word       a fit plan's payload is its word's
+--   encode-values         its groups are values
+--   payload-of-word       a fit plan's payload is its word's, relabelled
 --   coders                the coders
 use Prim.Native.Nat.{ℕ, _*_, _/_}
 use native.Mathlib.Omega.{arith}
-use mathlib.Core.Path.{_≡_, refl}
+use mathlib.Core.Path.{_≡_, refl, ap, _∙_}
 use mathlib.Core.Bool.{true}
 use mathlib.Core.List.{List}
 use lib.ListN.{length}
+use Rattle.model.specs.declared.Table.{Table}
 use Rattle.model.specs.Numbers.{allBelow}
-use Rattle.model.specs.Map.{Plan, isKind, family, fit}
+use Rattle.model.specs.Map.{Plan, edges, isKind, family, fit}
 use Rattle.model.specs.Traversal.{Letter, word}
+use Rattle.model.specs.LabelledTree.{treeBits, labels}
 use Rattle.model.specs.Record.{payloadLength, payloadOf}
 use Rattle.model.proofs.Fitness.{fit-parts, count-parts, parts-count}
 use Rattle.model.proofs.Heads.{kind-family}
@@ -22,14 +25,16 @@ use Rattle.words.specs.Word.{found, valid, rotationOf, planOf}
 use Rattle.words.proofs.Positions.{word-length}
 use Rattle.words.proofs.Validity.{valid-family, valid-fits}
 use Rattle.building.proofs.Built.{built-word, built-fit}
-use Rattle.packing.specs.Payload.{Sized}
+use Rattle.packing.specs.Payload.{hasLabels, Sized}
+use Rattle.packing.specs.Groups.{onGroups, relabelled, Values}
+use Rattle.packing.proofs.Groups.{payload-relabelled}
 use Rattle.packing.proofs.Labelled.{labelled-strict, labelled-or-four}
 use Rattle.packing.proofs.Letters.{letters-bytes}
 use Rattle.renumbering.proofs.Walk.{carries-word}
 use Rattle.lists.specs.Coder.{Coder}
 use Rattle.coding.specs.Payloads.{encodePayload, decodePayload}
 use Rattle.coding.proofs.FitPlans.{fit-toured, fit-standard-rotation, fit-valid, fit-standard, same-word-renumbering}
-use Rattle.coding.proofs.Labelled.{labelled-sized, labelled-bytes, labelled-decodes, decodes-labelled, payload-labelled}
+use Rattle.coding.proofs.Labelled.{labelled-sized, labelled-values, labelled-bytes, labelled-decodes, decodes-labelled, payload-labelled}
 use Rattle.coding.proofs.Letters.{letters-sized, letters-decode, decodes-letters, payload-letters}
 
 -- ---- from words to payloads
@@ -52,6 +57,10 @@ module _ (f : ℕ) (w : List Letter) (v : valid f w ≡ true) where
       (λ has. rw (labelled-strict f has) (labelled-bytes f has w v))
       (λ e. rw e (letters-bytes w))
 
+  pub encode-values : Values f (length w / 2) (encodePayload f w)
+  unfolding encodePayload hasLabels
+  encode-values two = rw two (labelled-values 2 refl w (rw two at v) refl)
+
   pub encode-decodes : decodePayload f (length w / 2) (encodePayload f w) ≡ found w
   unfolding encodePayload decodePayload
   encode-decodes = labelled-or-four f (valid-family f w v)
@@ -73,10 +82,13 @@ decode-encodes f m ps w s bytes e =
 
 -- ---- the coders
 
-pub payload-of-word : (k : ℕ) (p : Plan) → fit k p ≡ true → payloadOf (family k) p ≡ encodePayload (family k) (word p)
-unfolding payloadOf encodePayload
-payload-of-word k p e = labelled-or-four (family k) (kind-family k (fit-parts k p e .kind))
-    (λ has. rw (labelled-strict (family k) has) (payload-labelled k has p e))
+pub payload-of-word : (k : ℕ) (t : Table) (p : Plan) → fit k p ≡ true
+    → payloadOf t (family k) p ≡ relabelled (t .bytes) (family k) (edges (p .rotation)) (encodePayload (family k) (word p))
+unfolding payloadOf encodePayload relabelled onGroups
+payload-of-word k t p e = labelled-or-four (family k) (kind-family k (fit-parts k p e .kind))
+    (λ has. rw (labelled-strict (family k) has)
+    (payload-relabelled t (family k) (edges (p .rotation)) (treeBits p) (labels p) has
+    ∙ ap (relabelled (t .bytes) (family k) (edges (p .rotation))) (payload-labelled k has p e)))
     (λ four. rw four (payload-letters k p e))
 
 unfoldable pub coders : (k : ℕ) → isKind k ≡ true → Coder k
@@ -97,6 +109,7 @@ coders k kind = record {
   decode = decodePayload (family k);
   written = payload-of-word k;
   sized = encode-sized (family k);
+  values = encode-values (family k);
   bytes = encode-bytes (family k);
   reads = encode-decodes (family k);
   made = decode-encodes (family k);

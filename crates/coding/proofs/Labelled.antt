@@ -1,6 +1,7 @@
 -- Words and payloads of families 1 and 2: tree bits and labels in bytes.
 --
 --   labelled-sized, labelled-bytes   a valid word's payload has the length for its family, and its entries are bytes
+--   labelled-values       its groups are values
 --   labelled-decodes      it is decoded to the word
 --   decodes-labelled      a payload that is decoded is the valid word's
 --   payload-labelled      the payload of a fit plan is its word's
@@ -14,7 +15,7 @@ use Rattle.model.specs.Numbers.{allBelow}
 use Rattle.model.specs.Map.{Plan, edges, family, dartCountFits, fit}
 use Rattle.model.specs.Traversal.{Letter, word}
 use Rattle.model.specs.LabelledTree.{treeBits, labels}
-use Rattle.model.specs.Record.{payloadLength, payload}
+use Rattle.model.specs.Record.{payloadLength}
 use Rattle.model.proofs.Fitness.{fit-parts, loopless}
 use Rattle.words.specs.Word.{found, nested, valid, wordBits, wordLabels}
 use Rattle.words.proofs.Found.{when-found}
@@ -24,7 +25,9 @@ use Rattle.machine.proofs.Encoding.{decode-encode}
 use Rattle.machine.proofs.Decoding.{encode-decode}
 use Rattle.machine.proofs.Sizes.{bits-length, letters-length, labels-bound}
 use Rattle.machine.proofs.Bounds.{bits-below}
-use Rattle.packing.specs.Payload.{hasLabels, payloadBits, payloadLabels, payloadClean}
+use Rattle.packing.specs.Payload.{hasLabels, valuePayload, payloadBits, payloadLabels, payloadClean}
+use Rattle.packing.specs.Groups.{Values}
+use Rattle.packing.proofs.Groups.{clean-values}
 use Rattle.packing.proofs.Labelled.{labelled-family, labelled-strict}
 use Rattle.packing.proofs.Payload.{payload-length, Parts, payload-bits, payload-labels, payload-clean, payload-bytes, unpayload-parts, payload-unpayload}
 use Rattle.coding.specs.Payloads.{encodeLabelled, decodeLabelled}
@@ -54,6 +57,10 @@ module _ (f : ℕ) (has : hasLabels f ≡ true) where
     unfolding encodeLabelled
     labelled-sized = payload-length f half (wordBits false w) (wordLabels w) has
 
+    pub labelled-values : Values f (length w / 2) (encodeLabelled f w)
+    unfolding encodeLabelled
+    labelled-values = clean-values f half _ (payload-clean f half (wordBits false w) (wordLabels w) has parts)
+
     pub labelled-bytes : allBelow 256 (encodeLabelled f w) ≡ true
     unfolding encodeLabelled
     labelled-bytes = payload-bytes f half (wordBits false w) (wordLabels w) has parts
@@ -82,7 +89,7 @@ module _ (f : ℕ) (has : hasLabels f ≡ true) where
       (proper, rw (same, bits, marks) (payload-unpayload f m ps has long bytes clean), size)
 
 pub payload-labelled : (k : ℕ) → hasLabels (family k) ≡ true → (p : Plan) → fit k p ≡ true
-    → payload (family k) (edges (p .rotation)) (treeBits p) (labels p) ≡ encodeLabelled (family k) (word p)
+    → valuePayload (family k) (edges (p .rotation)) (treeBits p) (labels p) ≡ encodeLabelled (family k) (word p)
 unfolding encodeLabelled edges
 payload-labelled k has p e =
     let no-loop = loopless (family k) (p .rotation) (fit-parts k p e .loops) (labelled-strict (family k) has) in

@@ -1,4 +1,4 @@
--- Which bytes are the record of a fit plan, and of which: the laws of `lists/Records` at the coders that there are.
+-- Which bytes are the record of a fit plan, and of which, under a table that loading gives: the laws of `lists/Records` at the coders that there are.
 --
 --   coderOf               the coder of the kind that a plan is fit for
 --   has-decodes           bytes that are a fit plan's record decode to its word
@@ -10,15 +10,16 @@
 --   decodes-standard, decodes-outside   its rotation is in standard numbers, and that is the outside that reading returns
 use Prim.Native.Nat.{ℕ, _*_, _<_}
 use mathlib.Core.Path.{_≡_, refl, sym}
-use mathlib.Core.Bool.{true}
+use mathlib.Core.Bool.{true, false}
 use mathlib.Core.List.{List}
-use lib.ListN.{length}
+use lib.ListN.{length, drop}
+use Rattle.model.specs.declared.Table.{Table}
 use Rattle.model.specs.Numbers.{allBelow, isPermutation}
 use Rattle.model.specs.Map.{Plan, faceOf, family, dartCountFits, fit}
 use Rattle.model.specs.Traversal.{Letter, word, standardRotation}
 use Rattle.model.specs.Record.{headLength}
 use Rattle.model.specs.Shelf.{kindOf, edgesOf, passes}
-use Rattle.model.specs.Calls.{HasRecord, outsideRead}
+use Rattle.model.specs.Calls.{tableRefused, HasRecord, outsideRead}
 use Rattle.model.proofs.Below.{below-drop}
 use Rattle.model.proofs.Fitness.{fit-parts}
 use Rattle.model.proofs.Heads.{passes-facts}
@@ -26,6 +27,7 @@ use Rattle.model.proofs.Outside.{withOutside}
 use Rattle.words.specs.Word.{found, none, rotationOf, planOf}
 use Rattle.words.proofs.Validity.{valid-fits}
 use Rattle.building.proofs.Built.{built-fit}
+use Rattle.packing.proofs.Groups.{undone-sized, undone-bytes}
 use Rattle.packing.proofs.Headed.{passes-sized}
 use Rattle.lists.specs.Coder.{outsideOf, Coder}
 use Rattle.lists.proofs.Records as generic
@@ -35,46 +37,49 @@ use Rattle.coding.proofs.Coders.{decode-encodes, coders}
 pub coderOf : (k : ℕ) (p : Plan) → fit k p ≡ true → Coder k
 coderOf k p e = coders k (fit-parts k p e .kind)
 
-pub has-decodes : (r : List ℕ) (p : Plan) → HasRecord r p → decodeRecord r ≡ found (word p)
-unfolding coders decodeRecord
-has-decodes r p h = generic.has-decodes r (coders (kindOf r) (fit-parts (kindOf r) p (h .0) .kind)) p h
-
-pub none-has : (r : List ℕ) → decodeRecord r ≡ none → (p : Plan) → HasRecord r p → ⊥
-unfolding coders decodeRecord
-none-has r e p h = generic.none-has r (coders (kindOf r) (fit-parts (kindOf r) p (h .0) .kind)) e p h
-
-pub decodes-map : (r : List ℕ) (v : List Letter) → passes r ≡ true → allBelow 256 r ≡ true → decodeRecord r ≡ found v
-    → (isPermutation (rotationOf v) ≡ true) × (dartCountFits (length v) ≡ true) × (length v ≡ 2 * edgesOf r)
-unfolding decodeRecord planOf
-decodes-map r v pass bytes e =
-    let f = family (kindOf r) in
-    let s = passes-sized r pass in
-    let (proper, same, long) = decode-encodes f (edgesOf r) _ v s (below-drop 256 (headLength (kindOf r)) r bytes) e in
-    let fits = built-fit f v proper (kindOf r) (passes-facts r pass .kind) refl in
-    (fit-parts (kindOf r) (planOf v) fits .entries, valid-fits f v proper, long)
-
 abbrev pub Sound : List ℕ → List Letter → Type 0
 Sound r v = (outsideOf r < length v) × (faceOf (rotationOf v) (outsideOf r) ≡ outsideOf r)
 
-pub has-sound : (r : List ℕ) (v : List Letter) → decodeRecord r ≡ found v → (p : Plan) → HasRecord r p → Sound r v
-unfolding coders decodeRecord
-has-sound r v e p h = generic.has-sound r (coders (kindOf r) (fit-parts (kindOf r) p (h .0) .kind)) v e p h
+module _ (t : Table) (stands : tableRefused t ≡ false) where
+  pub has-decodes : (r : List ℕ) (p : Plan) → HasRecord t r p → decodeRecord (t .inverse) r ≡ found (word p)
+  unfolding coders decodeRecord
+  has-decodes r p h = generic.has-decodes t stands r (coders (kindOf r) (fit-parts (kindOf r) p (h .0) .kind)) p h
 
-module _ (r : List ℕ) (v : List Letter) (pass : passes r ≡ true) (bytes : allBelow 256 r ≡ true) (e : decodeRecord r ≡ found v) (sound : Sound r v) where
-  abbrev pub given : Plan
-  given = withOutside (planOf v) (outsideOf r)
+  pub none-has : (r : List ℕ) → decodeRecord (t .inverse) r ≡ none → (p : Plan) → HasRecord t r p → ⊥
+  unfolding coders decodeRecord
+  none-has r e p h = generic.none-has t stands r (coders (kindOf r) (fit-parts (kindOf r) p (h .0) .kind)) e p h
 
-  coder : Coder (kindOf r)
-  coder = coders (kindOf r) (passes-facts r pass .kind)
+  pub decodes-map : (r : List ℕ) (v : List Letter) → passes r ≡ true → allBelow 256 r ≡ true → decodeRecord (t .inverse) r ≡ found v
+      → (isPermutation (rotationOf v) ≡ true) × (dartCountFits (length v) ≡ true) × (length v ≡ 2 * edgesOf r)
+  unfolding decodeRecord planOf
+  decodes-map r v pass bytes e =
+      let f = family (kindOf r) in
+      let ps = drop (headLength (kindOf r)) r in
+      let s = passes-sized r pass in
+      let (proper, same, long) = decode-encodes f (edgesOf r) _ v (undone-sized f (edgesOf r) ps (t .inverse) s)
+      (undone-bytes f (edgesOf r) ps t stands s (below-drop 256 (headLength (kindOf r)) r bytes)) e in
+      let fits = built-fit f v proper (kindOf r) (passes-facts r pass .kind) refl in
+      (fit-parts (kindOf r) (planOf v) fits .entries, valid-fits f v proper, long)
 
-  pub decodes-has : HasRecord r given
-  unfolding coders coder decodeRecord planOf
-  decodes-has = generic.decodes-has r coder v pass bytes e sound
+  pub has-sound : (r : List ℕ) (v : List Letter) → decodeRecord (t .inverse) r ≡ found v → (p : Plan) → HasRecord t r p → Sound r v
+  unfolding coders decodeRecord
+  has-sound r v e p h = generic.has-sound t stands r (coders (kindOf r) (fit-parts (kindOf r) p (h .0) .kind)) v e p h
 
-  pub decodes-standard : standardRotation given ≡ rotationOf v
-  unfolding coders coder decodeRecord planOf
-  decodes-standard = generic.decodes-standard r coder v pass bytes e sound
+  module _ (r : List ℕ) (v : List Letter) (pass : passes r ≡ true) (bytes : allBelow 256 r ≡ true) (e : decodeRecord (t .inverse) r ≡ found v) (sound : Sound r v) where
+    abbrev pub given : Plan
+    given = withOutside (planOf v) (outsideOf r)
 
-  pub decodes-outside : outsideRead (kindOf r) given ≡ outsideOf r
-  unfolding coders coder decodeRecord planOf
-  decodes-outside = sym (generic.has-outside r coder given decodes-has)
+    coder : Coder (kindOf r)
+    coder = coders (kindOf r) (passes-facts r pass .kind)
+
+    pub decodes-has : HasRecord t r given
+    unfolding coders coder decodeRecord planOf
+    decodes-has = generic.decodes-has t stands r coder v pass bytes e sound
+
+    pub decodes-standard : standardRotation given ≡ rotationOf v
+    unfolding coders coder decodeRecord planOf
+    decodes-standard = generic.decodes-standard t stands r coder v pass bytes e sound
+
+    pub decodes-outside : outsideRead (kindOf r) given ≡ outsideOf r
+    unfolding coders coder decodeRecord planOf
+    decodes-outside = sym (generic.has-outside t stands r coder given decodes-has)

@@ -1,10 +1,10 @@
--- Words and payloads.
+-- Words and payloads of values.
 --
 --   encodeLabelled f w    kinds 1 and 2: the payload that holds the tree bits and labels of the word w
 --   decodeLabelled f m ps the word that the bytes ps hold as such a payload of a record with m edges, if any
 --   decodeLetters m ps    kind 4: the word that the bytes ps hold, if any; its payload is `lettersPayload`
 --   encodePayload f w, decodePayload f m ps   the same, by family
---   decodeRecord r        the word that the record r holds, if any
+--   decodeRecord inv r    the word that the record r holds, if any, its groups undone by the inverse inv
 use mathlib.Core.Bool.{false, cond}
 use mathlib.Core.List.{List}
 use Prim.Native.Nat.{ℕ, _/_}
@@ -12,14 +12,15 @@ use lib.Dec.{eqb}
 use lib.ListN.{length, drop}
 use Rattle.model.specs.Map.{family}
 use Rattle.model.specs.Traversal.{Letter}
-use Rattle.model.specs.Record.{headLength, payload}
+use Rattle.model.specs.Record.{headLength}
 use Rattle.model.specs.Shelf.{kindOf, edgesOf}
 use Rattle.words.specs.Word.{Found, none, wordBits, wordLabels, decodeWord, nestedWord}
-use Rattle.packing.specs.Payload.{payloadBits, payloadLabels, payloadClean}
+use Rattle.packing.specs.Payload.{valuePayload, payloadBits, payloadLabels, payloadClean}
+use Rattle.packing.specs.Groups.{undone}
 use Rattle.packing.specs.Letters.{lettersPayload, payloadLetters, lettersClean}
 
 unfoldable pub encodeLabelled : ℕ → List Letter → List ℕ
-encodeLabelled f w = payload f (length w / 2) (wordBits false w) (wordLabels w)
+encodeLabelled f w = valuePayload f (length w / 2) (wordBits false w) (wordLabels w)
 
 unfoldable pub decodeLabelled : ℕ → ℕ → List ℕ → Found
 decodeLabelled f m ps = cond (payloadClean f m ps) (decodeWord (payloadBits m ps) (payloadLabels f m ps)) none
@@ -33,5 +34,7 @@ encodePayload f w = cond (eqb f 4) (lettersPayload w) (encodeLabelled f w)
 unfoldable pub decodePayload : ℕ → ℕ → List ℕ → Found
 decodePayload f m ps = cond (eqb f 4) (decodeLetters m ps) (decodeLabelled f m ps)
 
-unfoldable pub decodeRecord : List ℕ → Found
-decodeRecord r = decodePayload (family (kindOf r)) (edgesOf r) (drop (headLength (kindOf r)) r)
+unfoldable pub decodeRecord : List ℕ → List ℕ → Found
+decodeRecord inv r =
+    let f = family (kindOf r) in
+    decodePayload f (edgesOf r) (undone inv f (edgesOf r) (drop (headLength (kindOf r)) r))

@@ -2,7 +2,7 @@
 --
 --   refused-exactly       the number of the answer is that of the first refusal; 0 if none holds
 --   accepted-where        a call is accepted where none holds
---   accepted-fit          the plan of an accepted call is fit
+--   accepted-stands, accepted-fit   the table is one that loading gives, and the plan of an accepted call is fit
 --   answer-length         the answer of an accepted call is the length for its kind and edges
 --   accepted-bytes        the bytes of an accepted call are the record of its plan
 --   refused-bytes         a refused call adds no byte
@@ -12,41 +12,46 @@ use mathlib.Core.List.{[]}
 use lib.ListN.{length, drop}
 use lib.Seq.{take-append-seam}
 use borrow.Author.Tests.{eqb-true, eq-eqb}
+use Rattle.model.specs.declared.Table.{Table}
 use Rattle.model.specs.Map.{edges, fit}
 use Rattle.model.specs.Record.{recordLength, recordOf}
-use Rattle.model.specs.Calls.{front, writeAnswer, writtenOutput, numberOfWritten, lengthOfWritten}
+use Rattle.model.specs.Calls.{front, tableRefused, answerOf, writeAnswer, writtenOutput, numberOfWritten, lengthOfWritten}
 use Rattle.model.specs.Writings.{Writing, MeetsContract, refusalOf, isAccepted, bytesWritten}
 use Rattle.model.proofs.Refusals.{not-refused}
 use Rattle.model.proofs.Answers.{number-of-written}
 
-pub refused-exactly : (c : Writing) → MeetsContract c → numberOfWritten (c .answer) ≡ refusalOf c
-refused-exactly c h = ap numberOfWritten (h .answered) ∙ number-of-written (c .kind) (c .plan) (length (c .work)) (length (c .output))
+module _ (t : Table) where
+  pub refused-exactly : (c : Writing) → MeetsContract t c → numberOfWritten (c .answer) ≡ refusalOf t c
+  refused-exactly c h = ap numberOfWritten (h .answered) ∙ number-of-written t (c .kind) (c .plan) (length (c .work)) (length (c .output))
 
-accepted-refusal : (c : Writing) → MeetsContract c → isAccepted c ≡ true → refusalOf c ≡ 0
-unfolding isAccepted
-accepted-refusal c h a = sym (refused-exactly c h) ∙ eqb-true (numberOfWritten (c .answer)) 0 a
+  accepted-refusal : (c : Writing) → MeetsContract t c → isAccepted c ≡ true → refusalOf t c ≡ 0
+  unfolding isAccepted
+  accepted-refusal c h a = sym (refused-exactly c h) ∙ eqb-true (numberOfWritten (c .answer)) 0 a
 
-pub accepted-where : (c : Writing) → MeetsContract c → refusalOf c ≡ 0 → isAccepted c ≡ true
-unfolding isAccepted
-accepted-where c h e = eq-eqb (numberOfWritten (c .answer)) 0 (refused-exactly c h ∙ e)
+  pub accepted-where : (c : Writing) → MeetsContract t c → refusalOf t c ≡ 0 → isAccepted c ≡ true
+  unfolding isAccepted
+  accepted-where c h e = eq-eqb (numberOfWritten (c .answer)) 0 (refused-exactly c h ∙ e)
 
-pub accepted-fit : (c : Writing) → MeetsContract c → isAccepted c ≡ true → fit (c .kind) (c .plan) ≡ true
-accepted-fit c h a = not-refused (c .kind) (c .plan) (length (c .work)) (length (c .output)) (accepted-refusal c h a)
+  pub accepted-stands : (c : Writing) → MeetsContract t c → isAccepted c ≡ true → tableRefused t ≡ false
+  accepted-stands c h a = not-refused t (c .kind) (c .plan) (length (c .work)) (length (c .output)) (accepted-refusal c h a) .0
 
-pub answer-length : (c : Writing) → MeetsContract c → isAccepted c ≡ true → lengthOfWritten (c .answer) ≡ recordLength (c .kind) (edges (c .plan .rotation))
-unfolding writeAnswer
-answer-length c h a = ap lengthOfWritten (h .answered) ∙ simp (eq-eqb _ 0 (accepted-refusal c h a))
+  pub accepted-fit : (c : Writing) → MeetsContract t c → isAccepted c ≡ true → fit (c .kind) (c .plan) ≡ true
+  accepted-fit c h a = not-refused t (c .kind) (c .plan) (length (c .work)) (length (c .output)) (accepted-refusal c h a) .1
 
-output-is : (c : Writing) → MeetsContract c → isAccepted c ≡ true → c .output-after ≡ front (recordOf (c .kind) (c .plan)) (c .output)
-unfolding writtenOutput
-output-is c h a = h .filled ∙ simp (eq-eqb _ 0 (accepted-refusal c h a))
+  pub answer-length : (c : Writing) → MeetsContract t c → isAccepted c ≡ true → lengthOfWritten (c .answer) ≡ recordLength (c .kind) (edges (c .plan .rotation))
+  unfolding writeAnswer answerOf
+  answer-length c h a = ap lengthOfWritten (h .answered) ∙ simp (eq-eqb _ 0 (accepted-refusal c h a))
 
-pub accepted-bytes : (c : Writing) → MeetsContract c → isAccepted c ≡ true
-    → length (recordOf (c .kind) (c .plan)) ≡ recordLength (c .kind) (edges (c .plan .rotation)) → bytesWritten c ≡ recordOf (c .kind) (c .plan)
-unfolding bytesWritten front
-accepted-bytes c h a n =
-    let r = recordOf (c .kind) (c .plan) in
-    rw (a, answer-length c h a, output-is c h a, sym n) (take-append-seam r (drop (length r) (c .output)))
+  output-is : (c : Writing) → MeetsContract t c → isAccepted c ≡ true → c .output-after ≡ front (recordOf t (c .kind) (c .plan)) (c .output)
+  unfolding writtenOutput
+  output-is c h a = h .filled ∙ simp (eq-eqb _ 0 (accepted-refusal c h a))
+
+  pub accepted-bytes : (c : Writing) → MeetsContract t c → isAccepted c ≡ true
+      → length (recordOf t (c .kind) (c .plan)) ≡ recordLength (c .kind) (edges (c .plan .rotation)) → bytesWritten c ≡ recordOf t (c .kind) (c .plan)
+  unfolding bytesWritten front
+  accepted-bytes c h a n =
+      let r = recordOf t (c .kind) (c .plan) in
+      rw (a, answer-length c h a, output-is c h a, sym n) (take-append-seam r (drop (length r) (c .output)))
 
 pub refused-bytes : (c : Writing) → isAccepted c ≡ false → bytesWritten c ≡ []
 unfolding bytesWritten

@@ -2,14 +2,15 @@
 --
 --   rooted rot            the plan with this rotation and root 0, where its outside is too
 --   outsideOf r           the number of the outside that the bytes r name; 0 in a kind without it
---   Coder k               plans that are fit for kind k are coded by words, and the words by payloads
+--   Coder k               plans that are fit for kind k are coded by words, and the words by payloads of values, whatever the table
 use Prim.Native.Nat.{ℕ, _*_, _/_}
 use mathlib.Core.Path.{_≡_}
 use mathlib.Core.Bool.{true, cond}
 use mathlib.Core.List.{List}
 use lib.ListN.{length}
+use Rattle.model.specs.declared.Table.{Table}
 use Rattle.model.specs.Numbers.{allBelow}
-use Rattle.model.specs.Map.{Plan, darts, storesOutside, family, fit}
+use Rattle.model.specs.Map.{Plan, darts, edges, storesOutside, family, fit}
 use Rattle.model.specs.Traversal.{Letter, standardNumbers, standardRotation, standardPlan}
 use Rattle.model.specs.Record.{payloadOf}
 use Rattle.model.specs.Shelf.{word16, kindOf}
@@ -17,6 +18,7 @@ use Rattle.model.specs.Renumbering.{Renumbering}
 use Rattle.model.proofs.Outside.{withOutside}
 use Rattle.words.specs.Word.{Found, found}
 use Rattle.packing.specs.Payload.{Sized}
+use Rattle.packing.specs.Groups.{relabelled, Values}
 
 abbrev pub rooted : List ℕ → Plan
 rooted rot = record { rotation = rot; root = 0; outside = 0 }
@@ -38,11 +40,13 @@ pub record Coder (k : ℕ) : Type 1 where
   pub anywhere : (p : Plan) (o : ℕ) → codes (withOutside p o) ≡ codes p
   pub carried : (p q : Plan) (f : List ℕ) → fit k p ≡ true → Renumbering p q f → codes p ≡ codes q
   pub alike : (p q : Plan) → fit k p ≡ true → fit k q ≡ true → codes p ≡ codes q → (f : List ℕ) × Renumbering p q f
-  -- payloads of words
+  -- payloads of words, of values; a table's bytes come in once, from outside
   pub encode : List Letter → List ℕ
   pub decode : ℕ → List ℕ → Found
-  pub written : (p : Plan) → fit k p ≡ true → payloadOf (family k) p ≡ encode (codes p)
+  pub written : (t : Table) (p : Plan) → fit k p ≡ true
+      → payloadOf t (family k) p ≡ relabelled (t .bytes) (family k) (edges (p .rotation)) (encode (codes p))
   pub sized : (w : List Letter) → Proper w → Sized (family k) (length w / 2) (encode w)
+  pub values : (w : List Letter) → Proper w → Values (family k) (length w / 2) (encode w)
   pub bytes : (w : List Letter) → Proper w → allBelow 256 (encode w) ≡ true
   pub reads : (w : List Letter) → Proper w → decode (length w / 2) (encode w) ≡ found w
   pub made : (m : ℕ) (ps : List ℕ) (w : List Letter) → Sized (family k) m ps → allBelow 256 ps ≡ true → decode m ps ≡ found w

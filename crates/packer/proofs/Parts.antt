@@ -12,8 +12,8 @@ use mathlib.Core.List.{List, _++_}
 use lib.ListN.{length}
 use borrow.Author.Tests.{eq-eqb, ne-eqb}
 use Rattle.model.specs.Numbers.{allBelow}
-use Rattle.model.specs.Record.{pack, bytesFor, labelBase, payload}
-use Rattle.packing.specs.Payload.{hasLabels}
+use Rattle.model.specs.Record.{pack, bytesFor, labelBase}
+use Rattle.packing.specs.Payload.{hasLabels, valuePayload}
 use Rattle.packing.proofs.Packed.{pack-length}
 use Rattle.packing.proofs.Labelled.{labelled-two}
 use Rattle.packing.proofs.Payload.{payload-length}
@@ -47,15 +47,15 @@ module _ (m : ℕ) (w : List ℕ) where
 
   pub plain-placed : (at count : ℕ) (out out′ : List ℕ) → count ≡ bytesFor (3 * m) 8
       → out′ ≡ placed at (pack 2 8 count (between (BITS * n) (LABELS * n + m) w)) out
-      → out′ ≡ placed at (payload 1 m (workBits n w) (workLabels n w)) out
-  unfolding payload
+      → out′ ≡ placed at (valuePayload 1 m (workBits n w) (workLabels n w)) out
+  unfolding valuePayload
   plain-placed at count out out′ e p = p ∙ rw (e, one-run)
 
   pub starred-placed : (at bytes count : ℕ) (out mid out′ : List ℕ) → bytes ≡ bytesFor n 8 → count ≡ bytesFor m 5 → at + bytes + count ≤ length out
       → mid ≡ placed at (pack 2 8 bytes (between (BITS * n) (BITS * n + n) w)) out
       → out′ ≡ placed (at + bytes) (pack 3 5 count (between (LABELS * n) (LABELS * n + m) w)) mid
-      → out′ ≡ placed at (payload 2 m (workBits n w) (workLabels n w)) out
-  unfolding payload
+      → out′ ≡ placed at (valuePayload 2 m (workBits n w) (workLabels n w)) out
+  unfolding valuePayload
   starred-placed at bytes count out mid out′ e f h p q =
       let bits = pack 2 8 bytes (workBits n w) in
       let l = pack-length 2 8 bytes (workBits n w) in
@@ -63,7 +63,7 @@ module _ (m : ℕ) (w : List ℕ) where
 
 -- ---- by family
 
-module _ (k m at room : ℕ) (bits labels : List ℕ) (has : hasLabels k ≡ true) (fits : at + length (payload k m bits labels) ≤ room)
+module _ (k m at room : ℕ) (bits labels : List ℕ) (has : hasLabels k ≡ true) (fits : at + length (valuePayload k m bits labels) ≤ room)
     (small : allBelow (labelBase k) labels ≡ true) where
   pub plain-asked : k ≡ 1 → (at + bytesFor (3 * m) 8 ≤ room) × (allBelow 2 labels ≡ true)
   unfolding labelBase
@@ -74,9 +74,9 @@ module _ (k m at room : ℕ) (bits labels : List ℕ) (has : hasLabels k ≡ tru
   starred-asked d = let a = payload-length k m bits labels has in let b = family-two k m (labelled-two k has d) in (omega arith, rw (ne-eqb k 1 d) at small)
 
 module _ (k m at : ℕ) (bits labels out out′ : List ℕ) where
-  pub plain-payload : k ≡ 1 → out′ ≡ placed at (payload 1 m bits labels) out → out′ ≡ placed at (payload k m bits labels) out
+  pub plain-payload : k ≡ 1 → out′ ≡ placed at (valuePayload 1 m bits labels) out → out′ ≡ placed at (valuePayload k m bits labels) out
   plain-payload e p = rw e p
 
-  pub starred-payload : k ≢ 1 → out′ ≡ placed at (payload 2 m bits labels) out → out′ ≡ placed at (payload k m bits labels) out
-  unfolding payload
+  pub starred-payload : k ≢ 1 → out′ ≡ placed at (valuePayload 2 m bits labels) out → out′ ≡ placed at (valuePayload k m bits labels) out
+  unfolding valuePayload
   starred-payload d p = rw (ne-eqb k 1 d) p

@@ -5,8 +5,8 @@ ghost use mathlib.Core.List.{_++_};
 ghost use Prim.Native.Nat.{_+_, _*_, _^_, _≤_, _<_};
 ghost use lib.ListN.{length, getD};
 ghost use Rattle.model.specs.Numbers.{allBelow};
-ghost use Rattle.model.specs.Record.{digits, pack, le16, headLength, payload, labelBase, bytesFor};
-ghost use Rattle.packing.specs.Payload.{hasLabels};
+ghost use Rattle.model.specs.Record.{digits, pack, le16, headLength, labelBase, bytesFor};
+ghost use Rattle.packing.specs.Payload.{hasLabels, valuePayload};
 ghost use Rattle.work.specs.Area.{placed};
 ghost use Rattle.work.specs.Letters.{workBits, workLabels};
 ghost use Rattle.packer.specs.Packed.{between, Headed};
@@ -104,7 +104,7 @@ pub fn put_head(out: &mut [u8], total: u16, kind: u16, m: u16, outside: u16) -> 
 fn put_plain(w: &[u16], m: usize, out: &mut [u8], at: usize)
     requires { ⌜ (m ≤ 4096) × (32 * m ≤ length (now w)) × (at ≤ 2 ^ 16) × (at + bytesFor (3 * m) 8 ≤ length (now out))
         × (allBelow 2 (workBits (2 * m) (now w)) ≡ true) × (allBelow 2 (workLabels (2 * m) (now w)) ≡ true) ⌝ }
-    ensures { λ _. ⌜ now (out .exit) ≡ placed at (payload 1 m (workBits (2 * m) (now (w .entry))) (workLabels (2 * m) (now (w .entry))))
+    ensures { λ _. ⌜ now (out .exit) ≡ placed at (valuePayload 1 m (workBits (2 * m) (now (w .entry))) (workLabels (2 * m) (now (w .entry))))
         (now (out .entry)) ⌝ }
 {
     let n = 2 * m;
@@ -118,7 +118,7 @@ fn put_plain(w: &[u16], m: usize, out: &mut [u8], at: usize)
 fn put_starred(w: &[u16], m: usize, out: &mut [u8], at: usize)
     requires { ⌜ (m ≤ 4096) × (32 * m ≤ length (now w)) × (at ≤ 2 ^ 16) × (at + bytesFor (2 * m) 8 + bytesFor m 5 ≤ length (now out))
         × (allBelow 2 (workBits (2 * m) (now w)) ≡ true) × (allBelow 3 (workLabels (2 * m) (now w)) ≡ true) ⌝ }
-    ensures { λ _. ⌜ now (out .exit) ≡ placed at (payload 2 m (workBits (2 * m) (now (w .entry))) (workLabels (2 * m) (now (w .entry))))
+    ensures { λ _. ⌜ now (out .exit) ≡ placed at (valuePayload 2 m (workBits (2 * m) (now (w .entry))) (workLabels (2 * m) (now (w .entry))))
         (now (out .entry)) ⌝ }
 {
     let n = 2 * m;
@@ -133,9 +133,9 @@ fn put_starred(w: &[u16], m: usize, out: &mut [u8], at: usize)
 // The payload of a record of this family, 1 or 2, from place at on.
 pub fn put_payload(w: &[u16], family: u16, m: usize, out: &mut [u8], at: usize)
     requires { ⌜ (hasLabels family ≡ true) × (m ≤ 4096) × (32 * m ≤ length (now w)) × (at ≤ 2 ^ 16)
-        × (at + length (payload family m (workBits (2 * m) (now w)) (workLabels (2 * m) (now w))) ≤ length (now out))
+        × (at + length (valuePayload family m (workBits (2 * m) (now w)) (workLabels (2 * m) (now w))) ≤ length (now out))
         × (allBelow 2 (workBits (2 * m) (now w)) ≡ true) × (allBelow (labelBase family) (workLabels (2 * m) (now w)) ≡ true) ⌝ }
-    ensures { λ _. ⌜ now (out .exit) ≡ placed at (payload family m (workBits (2 * m) (now (w .entry))) (workLabels (2 * m) (now (w .entry))))
+    ensures { λ _. ⌜ now (out .exit) ≡ placed at (valuePayload family m (workBits (2 * m) (now (w .entry))) (workLabels (2 * m) (now (w .entry))))
         (now (out .entry)) ⌝ }
 {
     if family == 1 {

@@ -2,13 +2,13 @@
 use mathlib.Core.Path.{_≡_, refl}
 use mathlib.Core.Bool.{true, false}
 use mathlib.Core.List.{[], _∷_}
-use Rattle.model.specs.Record.{digitsFrom, pack, payload}
+use Rattle.model.specs.Record.{digitsFrom, pack}
 use Rattle.model.specs.Numbers.{allBelow}
 use Rattle.packing.specs.Unpack.{digitsOf, unpack, bits, groups}
-use Rattle.packing.specs.Payload.{payloadBits, payloadLabels, payloadClean}
+use Rattle.packing.specs.Payload.{valuePayload, payloadBits, payloadLabels, payloadClean}
 
-made : payload 2 1 (1 ∷ 0 ∷ []) (2 ∷ []) ≡ 128 ∷ 162 ∷ []
-unfolding payload pack digitsFrom
+made : valuePayload 2 1 (1 ∷ 0 ∷ []) (2 ∷ []) ≡ 128 ∷ 162 ∷ []
+unfolding valuePayload pack digitsFrom
 made = refl
 
 bits-of : payloadBits 1 (128 ∷ 162 ∷ []) ≡ 1 ∷ 0 ∷ []

@@ -3,6 +3,7 @@ pub mod Packed
 pub mod Place
 pub mod Labelled
 pub mod Payload
+pub mod Groups
 pub mod Letters
 pub mod Headed
 pub mod Examples

@@ -1,3 +1,4 @@
 pub mod Unpack
 pub mod Payload
+pub mod Groups
 pub mod Letters

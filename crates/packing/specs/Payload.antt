@@ -1,9 +1,10 @@
--- A payload taken apart into its tree bits and labels: the inverse of `payload`.
+-- A payload taken apart into its tree bits and labels: the inverse of `valuePayload`, which is `payload` before the table.
 --
 --   hasLabels f           records of family f hold tree bits and labels
 --   Sized f m ps          ps is as long as the payload of a record of family f with m edges
 --   extraBytes k x        the number x of the outside, in a kind that stores it; no bytes in another
 --   Behind k m rest       rest is as long as what follows m in a record of kind k with m edges
+--   valuePayload f m bits labels   tree bits and labels in bytes, a group's value in place of its byte
 --   blankFrom l ds        every digit from place l on is 0
 --   payloadBits m ps      the tree bits in the payload ps
 --   payloadLabels k m ps  the labels in the payload ps
@@ -11,12 +12,12 @@
 use Prim.Native.Nat.{ℕ, _+_, _*_, _≤_}
 use mathlib.Core.Path.{_≡_}
 use mathlib.Core.Bool.{Bool, true, _&&_, _||_, cond}
-use mathlib.Core.List.{List, []}
+use mathlib.Core.List.{List, [], _++_}
 use lib.Dec.{eqb}
 use lib.ListN.{length, take, drop}
 use Rattle.model.specs.Numbers.{allBelow}
 use Rattle.model.specs.Map.{isFamily, storesOutside, isKind}
-use Rattle.model.specs.Record.{bytesFor, le16, payloadLength, recordLength}
+use Rattle.model.specs.Record.{pack, bytesFor, le16, payloadLength, recordLength}
 use Rattle.packing.specs.Unpack.{bits, groups}
 
 unfoldable pub hasLabels : ℕ → Bool
@@ -36,6 +37,10 @@ pub record Behind (k m : ℕ) (rest : List ℕ) : Type 0 where
   pub some-edge : 1 ≤ m
   pub few-edges : m ≤ 4096
   pub long : 6 + length rest ≡ recordLength k m
+
+unfoldable pub valuePayload : ℕ → ℕ → List ℕ → List ℕ → List ℕ
+valuePayload f m bits labels =
+    cond (eqb f 1) (pack 2 8 (bytesFor (3 * m) 8) (bits ++ labels)) (pack 2 8 (bytesFor (2 * m) 8) bits ++ pack 3 5 (bytesFor m 5) labels)
 
 abbrev pub blankFrom : ℕ → List ℕ → Bool
 blankFrom l ds = allBelow 1 (drop l ds)
