@@ -1,0 +1,6 @@
+mod Bits
+pub mod Exact
+mod Inverting
+mod Filling
+mod Applying
+mod Loading
