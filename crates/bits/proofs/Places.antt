@@ -1,16 +1,18 @@
 -- Bits and labels at their places in a byte list. Assumes nothing.
 --
---   bit-read, label-read       by dividing
+--   bit-read, label-read       by dividing, a label in the value of its group's byte
 --   bit-fits                   the byte after a bit is put
 --   bit-put                    the bits after a bit is put
 use Prim.Native.Nat.{ℕ, suc, _+_, _-_, _*_, _/_, _%_, _^_, _≤_, _<_}
 use native.Mathlib.Nat.{mod-eq-of-lt}
 use native.Mathlib.Omega.{arith}
-use mathlib.Core.Path.{_≡_}
+use mathlib.Core.Path.{_≡_, sym, ap, _∙_}
 use mathlib.Core.List.{List}
 use lib.ListN.{length, getD, set, drop, length-set, length-drop}
 use lib.Seq.{getD-drop}
 use Rattle.packing.specs.Unpack.{bits, groups}
+use Rattle.packing.specs.Groups.{valuesOf}
+use Rattle.packing.proofs.Groups.{values-length, values-at}
 use Rattle.packing.proofs.Place.{unpack-read, put-fits, unpack-put}
 
 -- ---- bits
@@ -46,13 +48,18 @@ module _ (s : List ℕ) (k : ℕ) (h : k < 8 * length s) where
 
 -- ---- labels
 
-module _ (s : List ℕ) (from i : ℕ) (f : from ≤ length s) (h : i < 5 * (length s - from)) where
+module _ (inv s : List ℕ) (from i : ℕ) (f : from ≤ length s) (h : i < 5 * (length s - from)) where
+  abbrev vs : List ℕ
+  vs = valuesOf inv s
+
   label-power : 5 - suc (i % 5) ≡ 4 - i % 5
   label-power = omega arith
 
-  room : i < length (drop from s) * 5
-  room = let e = length-drop from s in omega arith
+  room : i < length (drop from vs) * 5
+  room = let e = length-drop from vs in let l = values-length inv s in omega arith
 
-  pub label-read : getD s (from + i / 5) 0 / 3 ^ (4 - i % 5) % 3 ≡ getD (groups (drop from s)) i 0
+  pub label-read : getD inv (getD s (from + i / 5) 0) 0 / 3 ^ (4 - i % 5) % 3 ≡ getD (groups (drop from vs)) i 0
   unfolding groups
-  label-read = rw (label-power, getD-drop from s (i / 5) 0) at (unpack-read 3 5 (length (drop from s)) i (drop from s) (omega arith) room)
+  label-read =
+      ap (λ (v : ℕ). v / 3 ^ (4 - i % 5) % 3) (sym (values-at inv s (from + i / 5) (omega arith)))
+      ∙ (rw (label-power, getD-drop from vs (i / 5) 0) at (unpack-read 3 5 (length (drop from vs)) i (drop from vs) (omega arith) room))

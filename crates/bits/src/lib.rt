@@ -1,9 +1,10 @@
-// Bits and labels of byte slices: a bit or a label read at its place, a bit put where 0 stands.
+// Bits and labels of byte slices: a bit or a label read at its place, a bit put where 0 stands. Labels stand in groups, under a table's inverse.
 // It knows bytes and digits, no heads of records and no plans.
 ghost use mathlib.Core.Path.{_≡_};
 ghost use Prim.Native.Nat.{_-_, _*_, _^_, _<_, _≤_};
 ghost use lib.ListN.{length, getD, set, drop};
 ghost use Rattle.packing.specs.Unpack.{bits, groups};
+ghost use Rattle.packing.specs.Groups.{valuesOf};
 
 // Bit k of the bytes.
 pub fn bit_at(s: &[u8], k: usize) -> u8
@@ -46,12 +47,13 @@ fn place_value(j: usize) -> u8
 }
 
 // Label i of the groups from byte `from` on.
-pub fn label_at(s: &[u8], from: usize, i: usize) -> u8
-    requires { ⌜ (from ≤ length (now s)) × (i < 5 * (length (now s) - from)) ⌝ }
-    ensures { λ r. ⌜ r ≡ getD (groups (drop from (now (s .entry)))) i 0 ⌝ }
+pub fn label_at(s: &[u8], inverse: &[u8], from: usize, i: usize) -> u8
+    requires { ⌜ (length (now inverse) ≡ 256) × (from ≤ length (now s)) × (i < 5 * (length (now s) - from)) ⌝ }
+    ensures { λ r. ⌜ r ≡ getD (groups (drop from (valuesOf (now (inverse .entry)) (now (s .entry))))) i 0 ⌝ }
 {
     let q = from + i / 5;
-    let b = s[q];
+    let b = s[q] as usize;
+    let group = inverse[b];
     let v = place_value(i % 5);
-    b / v % 3
+    group / v % 3
 }

@@ -19,6 +19,8 @@ use lib.ListN.{length, set, replicate, length-append, length-drop}
 use Rattle.model.specs.Numbers.{allBelow}
 use Rattle.model.specs.Traversal.{Letter}
 use Rattle.packing.specs.Payload.{hasLabels, Sized, payloadBits, payloadLabels, payloadClean}
+use Rattle.packing.specs.Groups.{undone}
+use Rattle.packing.proofs.Groups.{undone-bits}
 use Rattle.words.specs.Word.{Machine, Found, found, none, after, done, stuck, turn, start, head, wordDarts, rotationOf, decodeWord}
 use Rattle.machine.specs.Reading.{left, run}
 use Rattle.words.proofs.Found.{wordIn}
@@ -163,31 +165,37 @@ module _ (m : ℕ) (bs w : List ℕ) (s : State) (l : ℕ) (c : Cursor) (o : Out
 -- ---- the payload
 
 -- the payload is clean, its labels stand in the work area, and the rotation is cleared
-pub record Prepared (k m : ℕ) (ps w : List ℕ) : Type 0 where
-  pub clean : payloadClean k m ps ≡ true
+-- the payload ps, undone by the inverse inv, is clean, and its labels are in the work area
+pub record Prepared (inv : List ℕ) (k m : ℕ) (ps w : List ℕ) : Type 0 where
+  pub clean : payloadClean k m (undone inv k m ps) ≡ true
   pub sizes : (1 ≤ m) × (m ≤ 4096) × (2 * m ≤ 8 * length ps)
+  pub sized : Sized k m ps
   pub room : 32 * m ≤ length w
-  pub labelled : labelsAt m w ≡ payloadLabels k m ps
+  pub labelled : labelsAt m w ≡ payloadLabels k m (undone inv k m ps)
   pub blank : region 0 (2 * m) w ≡ replicate (2 * m) 0
 
-module _ (k m : ℕ) (ps : List ℕ) where
-  pub prepared : hasLabels k ≡ true → Sized k m ps → payloadClean k m ps ≡ true → (w w′ : List ℕ) → 32 * m ≤ length w → labelsAt m w ≡ payloadLabels k m ps
-      → w′ ≡ placed 0 (replicate (2 * m) 0) w → Prepared k m ps w′
+module _ (inv : List ℕ) (k m : ℕ) (ps : List ℕ) where
+  abbrev vs : List ℕ
+  vs = undone inv k m ps
+
+  pub prepared : hasLabels k ≡ true → Sized k m ps → payloadClean k m vs ≡ true → (w w′ : List ℕ) → 32 * m ≤ length w → labelsAt m w ≡ payloadLabels k m vs
+      → w′ ≡ placed 0 (replicate (2 * m) 0) w → Prepared inv k m ps w′
   prepared has h e w w′ r l f =
       let (room, blank, same) = blank-area m w w′ r f in
       record {
         clean = e;
         sizes = (h .some-edge, h .few-edges, bits-room ps m k has h);
+        sized = h;
         room = room;
         labelled = same ∙ l;
         blank = blank;
       }
 
-  pub answer-unclean : (n : ℕ) (w : List ℕ) → payloadClean k m ps ≡ false → Answered (decodeLabelled k m ps) n false w
+  pub answer-unclean : (n : ℕ) (w : List ℕ) → payloadClean k m vs ≡ false → Answered (decodeLabelled k m vs) n false w
   unfolding decodeLabelled
   answer-unclean n w e = record { word-found = λ f. absurd (false≢true f); none-found = λ f. rw e }
 
-  pub answer-clean : (n : ℕ) (w : List ℕ) (b : Bool) (w′ : List ℕ) → Prepared k m ps w
-      → Answered (decodeWord (payloadBits m ps) (labelsAt m w)) n b w′ → Answered (decodeLabelled k m ps) n b w′
+  pub answer-clean : (n : ℕ) (w : List ℕ) (b : Bool) (w′ : List ℕ) → Prepared inv k m ps w
+      → Answered (decodeWord (payloadBits m ps) (labelsAt m w)) n b w′ → Answered (decodeLabelled k m vs) n b w′
   unfolding decodeLabelled
-  answer-clean n w b w′ p a = rw (p .clean, ← p .labelled) a
+  answer-clean n w b w′ p a = rw (p .clean, ← p .labelled, undone-bits k m ps inv (p .sized)) a

@@ -6,6 +6,7 @@ ghost use Prim.Native.Nat.{_*_, _≤_, _<_};
 ghost use lib.ListN.{length, getD, replicate};
 ghost use Rattle.words.specs.Word.{decodeWord};
 ghost use Rattle.packing.specs.Payload.{hasLabels, Sized, payloadBits};
+ghost use Rattle.packing.specs.Groups.{undone};
 ghost use Rattle.work.specs.Area.{region};
 ghost use Rattle.coding.specs.Payloads.{decodeLabelled};
 ghost use Rattle.unpacker.specs.Unpacked.{labelsAt};
@@ -236,17 +237,17 @@ fn run(payload: &[u8], m: usize, w: &mut [u16]) -> bool
     }
 }
 
-// The standard plan of a payload of kind 1 or 2: whether there is one, and its rotation in the first 2m entries.
-pub fn decode(payload: &[u8], family: u16, m: usize, w: &mut [u16]) -> bool
-    requires { ⌜ (hasLabels family ≡ true) × Sized family m (now payload) ⌝ }
+// The standard plan of a payload of kind 1 or 2, under the table with this inverse: whether there is one, and its rotation in the first 2m entries.
+pub fn decode(payload: &[u8], family: u16, inverse: &[u8], m: usize, w: &mut [u16]) -> bool
+    requires { ⌜ (hasLabels family ≡ true) × Sized family m (now payload) × (length (now inverse) ≡ 256) ⌝ }
     requires { ⌜ 32 * m ≤ length (now w) ⌝ }
-    ensures { λ r. ⌜ Answered (decodeLabelled family m (now (payload .entry))) (2 * m) r (now (w .exit)) ⌝ }
+    ensures { λ r. ⌜ Answered (decodeLabelled family m (undone (now (inverse .entry)) family m (now (payload .entry)))) (2 * m) r (now (w .exit)) ⌝ }
 {
-    let clean = unpacker::clean(payload, family, m);
+    let clean = unpacker::clean(payload, family, inverse, m);
     if !clean {
         return false;
     }
-    unpacker::spread(payload, family, m, w);
+    unpacker::spread(payload, family, inverse, m, w);
     work::fill(w, 0, 2 * m, 0);
     run(payload, m, w)
 }

@@ -1,4 +1,4 @@
--- Whether a payload is as it is laid out: padding bits and fill labels are 0, groups fit. Assumes nothing.
+-- Whether a payload is as it is laid out: padding bits and fill labels are 0, every group's byte stands for a value. Assumes nothing.
 --
 --   length-labels         how many labels the bytes from a place on hold
 --   bits-next, bits-stop, bits-end   the bits from a place up to another are all 0, bit by bit
@@ -11,11 +11,12 @@ use mathlib.Core.Bool.{Bool, true, false, _&&_}
 use mathlib.Core.List.{List, _++_}
 use lib.ListN.{length, getD, take, drop, length-drop, take-append-drop}
 use lib.Seq.{take-all, take-at, length-take-le, getD-take}
-use borrow.Author.Tests.{ne-eqb}
 use Rattle.model.specs.Numbers.{allBelow}
 use Rattle.model.proofs.Below.{below-next, below-stop, below-end}
 use Rattle.packing.specs.Unpack.{bits, groups}
 use Rattle.packing.specs.Payload.{hasLabels, Sized, payloadClean}
+use Rattle.packing.specs.Groups.{undone, valuesOf}
+use Rattle.packing.proofs.Groups.{undone-other, undone-front, undone-back}
 use Rattle.packing.proofs.Labelled.{labelled-two}
 use Rattle.packing.proofs.Packed.{length-unpack, unpack-append}
 use Rattle.unpacker.proofs.Payload.{length-bits, two, of-kind}
@@ -50,21 +51,24 @@ bits-take n s h =
 
 -- ---- clean payloads
 
--- kind 2: the padding bits, the groups, the fill labels
-abbrev pub cleanParts : ℕ → List ℕ → Bool
-cleanParts m ps =
+-- kind 2: the padding bits of the payload ps, the groups and the fill labels of its values vs
+abbrev pub cleanParts : ℕ → List ℕ → List ℕ → Bool
+cleanParts m ps vs =
     allBelow 1 (drop (2 * m) (take (8 * ((2 * m + 7) / 8)) (bits ps)))
-    && (allBelow 243 (drop ((2 * m + 7) / 8) ps) && allBelow 1 (drop m (groups (drop ((2 * m + 7) / 8) ps))))
+    && (allBelow 243 (drop ((2 * m + 7) / 8) vs) && allBelow 1 (drop m (groups (drop ((2 * m + 7) / 8) vs))))
 
-module _ (k m : ℕ) (ps : List ℕ) where
-  pub clean-one : k ≡ 1 → allBelow 1 (drop (3 * m) (take (8 * length ps) (bits ps))) ≡ payloadClean k m ps
+module _ (inv : List ℕ) (k m : ℕ) (ps : List ℕ) where
+  pub clean-one : k ≡ 1 → allBelow 1 (drop (3 * m) (take (8 * length ps) (bits ps))) ≡ payloadClean k m (undone inv k m ps)
   unfolding payloadClean
   clean-one e =
       let l = length-bits ps in
-      rw e (ap (λ (ds : List ℕ). allBelow 1 (drop (3 * m) ds)) (take-all (8 * length ps) (bits ps) (omega arith)))
+      rw (undone-other inv ps k m (λ two. omega arith), e)
+      (ap (λ (ds : List ℕ). allBelow 1 (drop (3 * m) ds)) (take-all (8 * length ps) (bits ps) (omega arith)))
 
-  pub clean-two : hasLabels k ≡ true → Sized k m ps → k ≢ 1 → payloadClean k m ps ≡ cleanParts m ps
+  pub clean-two : hasLabels k ≡ true → Sized k m ps → k ≢ 1 → payloadClean k m (undone inv k m ps) ≡ cleanParts m ps (valuesOf inv ps)
   unfolding payloadClean
   clean-two has h e =
-      let z = two ps m (of-kind ps m k 2 (labelled-two k has e) h) in
-      rw (ne-eqb k 1 e, bits-take ((2 * m + 7) / 8) ps (omega arith))
+      let is = labelled-two k has e in
+      let s = of-kind ps m k 2 is h in
+      let z = two ps m s in
+      rw (is, undone-front inv ps m s, undone-back inv ps m s, bits-take ((2 * m + 7) / 8) ps (omega arith))

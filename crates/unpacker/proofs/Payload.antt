@@ -5,7 +5,7 @@
 --   bits-room             a payload has room for its tree bits
 --   KindOne, one          the sizes in kind 1
 --   KindTwo, two          the sizes in kind 2
---   of-kind, labels-of-kind   the sizes and the labels, by the kind's number
+--   of-kind, labels-of-kind, labels-own   the sizes and the labels, by the kind's number
 --   label-one             where a label of kind 1 stands among all bits
 --   labels-two            the labels of kind 2 are the first of those in the groups
 use Prim.Native.Nat.{ℕ, _+_, _*_, _/_, _≤_, _<_}
@@ -18,6 +18,8 @@ use lib.Seq.{length-take-le, getD-take, getD-drop}
 use Rattle.model.specs.Record.{payloadLength}
 use Rattle.packing.specs.Unpack.{bits, groups}
 use Rattle.packing.specs.Payload.{hasLabels, Sized, payloadBits, payloadLabels}
+use Rattle.packing.specs.Groups.{undone, valuesOf}
+use Rattle.packing.proofs.Groups.{undone-other, undone-back}
 use Rattle.packing.proofs.Labelled.{labelled-cases}
 use Rattle.packing.proofs.Packed.{length-unpack}
 use Rattle.packing.proofs.Payload.{unpayload-parts}
@@ -74,8 +76,12 @@ module _ (ps : List ℕ) (m : ℕ) where
   pub of-kind : (k j : ℕ) → k ≡ j → Sized k m ps → Sized j m ps
   of-kind k j e h = subst (λ (i : ℕ). Sized i m ps) e h
 
-  pub labels-of-kind : (k j : ℕ) → k ≡ j → payloadLabels j m ps ≡ payloadLabels k m ps
-  labels-of-kind k j e = ap (λ (i : ℕ). payloadLabels i m ps) (sym e)
+  pub labels-of-kind : (inv : List ℕ) (k j : ℕ) → k ≡ j → payloadLabels j m (undone inv j m ps) ≡ payloadLabels k m (undone inv k m ps)
+  labels-of-kind inv k j e = ap (λ (i : ℕ). payloadLabels i m (undone inv i m ps)) (sym e)
+
+  -- nothing is undone in kind 1
+  pub labels-own : (inv : List ℕ) → payloadLabels 1 m ps ≡ payloadLabels 1 m (undone inv 1 m ps)
+  labels-own inv = ap (payloadLabels 1 m) (sym (undone-other inv ps 1 m (λ two. omega arith)))
 
   -- ---- labels
 
@@ -83,6 +89,6 @@ module _ (ps : List ℕ) (m : ℕ) where
   unfolding payloadLabels
   label-one i h = sym (getD-take m (drop (2 * m) (bits ps)) i 0 h ∙ getD-drop (2 * m) (bits ps) i 0)
 
-  pub labels-two : take m (groups (drop ((2 * m + 7) / 8) ps)) ≡ payloadLabels 2 m ps
+  pub labels-two : (inv : List ℕ) → Sized 2 m ps → take m (groups (drop ((2 * m + 7) / 8) (valuesOf inv ps))) ≡ payloadLabels 2 m (undone inv 2 m ps)
   unfolding payloadLabels
-  labels-two = refl
+  labels-two inv s = ap (λ (vs : List ℕ). take m (groups vs)) (sym (undone-back inv ps m s))

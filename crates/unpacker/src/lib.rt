@@ -1,5 +1,5 @@
-// A payload taken apart: whether its padding bits and fill labels are 0 and its groups fit, and its labels by number, put into the lent work area.
-// It knows digits and bytes; no heads of records, no letters, no words and no plans.
+// A payload taken apart: whether its padding bits and fill labels are 0 and its groups are a table's, and its labels by number, put into the lent work
+// area. It knows digits and bytes and the inverse of a table; no heads of records, no letters, no words and no plans.
 ghost use mathlib.Core.Path.{_≡_};
 ghost use mathlib.Core.Bool.{true};
 ghost use Prim.Native.Nat.{_+_, _*_, _^_, _≤_, _<_};
@@ -7,6 +7,7 @@ ghost use lib.ListN.{length, take, drop};
 ghost use Rattle.model.specs.Numbers.{allBelow};
 ghost use Rattle.packing.specs.Unpack.{bits, groups};
 ghost use Rattle.packing.specs.Payload.{hasLabels, Sized, payloadLabels, payloadClean};
+ghost use Rattle.packing.specs.Groups.{undone, valuesOf};
 ghost use Rattle.unpacker.specs.Unpacked.{labelsAt, grouped};
 
 // ---- padding bits, fill labels and groups
@@ -28,14 +29,14 @@ fn zero_bits(bytes: &[u8], from: usize, to: usize) -> bool
 }
 
 // Every label of the groups from byte `from` on is 0, from number m on.
-fn zero_labels(bytes: &[u8], from: usize, m: usize) -> bool
-    requires { ⌜ (from ≤ length (now bytes)) × (length (now bytes) < 2 ^ 32) ⌝ }
-    ensures { λ r. ⌜ r ≡ allBelow 1 (drop m (groups (drop from (now (bytes .entry))))) ⌝ }
+fn zero_labels(bytes: &[u8], inverse: &[u8], from: usize, m: usize) -> bool
+    requires { ⌜ (length (now inverse) ≡ 256) × (from ≤ length (now bytes)) × (length (now bytes) < 2 ^ 32) ⌝ }
+    ensures { λ r. ⌜ r ≡ allBelow 1 (drop m (groups (drop from (valuesOf (now (inverse .entry)) (now (bytes .entry)))))) ⌝ }
 {
     let end = 5 * (bytes.len() - from);
     let mut k = m;
     while k < end {
-        let l = bits::label_at(bytes, from, k);
+        let l = bits::label_at(bytes, inverse, from, k);
         if l != 0 {
             return false;
         }
@@ -44,14 +45,15 @@ fn zero_labels(bytes: &[u8], from: usize, m: usize) -> bool
     true
 }
 
-// No byte from place `from` on is above 242.
-fn groups_fit(bytes: &[u8], from: usize) -> bool
-    ensures { λ r. ⌜ r ≡ allBelow 243 (drop from (now (bytes .entry))) ⌝ }
+// Every byte from place `from` on stands for a group.
+fn groups_fit(bytes: &[u8], inverse: &[u8], from: usize) -> bool
+    requires { ⌜ length (now inverse) ≡ 256 ⌝ }
+    ensures { λ r. ⌜ r ≡ allBelow 243 (drop from (valuesOf (now (inverse .entry)) (now (bytes .entry)))) ⌝ }
 {
     let mut k = from;
     while k < bytes.len() {
-        let b = bytes[k];
-        if b > 242 {
+        let b = bytes[k] as usize;
+        if inverse[b] > 242 {
             return false;
         }
         k += 1;
@@ -59,10 +61,10 @@ fn groups_fit(bytes: &[u8], from: usize) -> bool
     true
 }
 
-// "unused low bits are 0", "the last group filled with 0", and five labels make no more than 242.
-pub fn clean(payload: &[u8], family: u16, m: usize) -> bool
-    requires { ⌜ (hasLabels family ≡ true) × Sized family m (now payload) ⌝ }
-    ensures { λ r. ⌜ r ≡ payloadClean family m (now (payload .entry)) ⌝ }
+// "unused low bits are 0", "the last group filled with 0", and every group's byte is the table's.
+pub fn clean(payload: &[u8], family: u16, inverse: &[u8], m: usize) -> bool
+    requires { ⌜ (hasLabels family ≡ true) × Sized family m (now payload) × (length (now inverse) ≡ 256) ⌝ }
+    ensures { λ r. ⌜ r ≡ payloadClean family m (undone (now (inverse .entry)) family m (now (payload .entry))) ⌝ }
 {
     if family == 1 {
         return zero_bits(payload, 3 * m, 8 * payload.len());
@@ -72,11 +74,11 @@ pub fn clean(payload: &[u8], family: u16, m: usize) -> bool
     if !padded {
         return false;
     }
-    let fit = groups_fit(payload, from);
+    let fit = groups_fit(payload, inverse, from);
     if !fit {
         return false;
     }
-    zero_labels(payload, from, m)
+    zero_labels(payload, inverse, from, m)
 }
 
 // ---- labels by number
@@ -109,30 +111,30 @@ fn put_group(w: &mut [u16], at: usize, group: u8)
 }
 
 // The labels of kind 2, and those that fill the last group.
-fn spread_groups(payload: &[u8], m: usize, w: &mut [u16])
-    requires { ⌜ Sized 2 m (now payload) ⌝ }
+fn spread_groups(payload: &[u8], inverse: &[u8], m: usize, w: &mut [u16])
+    requires { ⌜ Sized 2 m (now payload) × (length (now inverse) ≡ 256) ⌝ }
     requires { ⌜ 32 * m ≤ length (now w) ⌝ }
-    ensures { λ _. ⌜ labelsAt m (now (w .exit)) ≡ payloadLabels 2 m (now (payload .entry)) ⌝ }
+    ensures { λ _. ⌜ labelsAt m (now (w .exit)) ≡ payloadLabels 2 m (undone (now (inverse .entry)) 2 m (now (payload .entry))) ⌝ }
 {
     let from = (2 * m + 7) / 8;
     let count = payload.len() - from;
     let mut i = 0;
     while i < count {
-        let group = payload[from + i];
-        put_group(w, work::LABELS * (2 * m) + 5 * i, group);
+        let b = payload[from + i] as usize;
+        put_group(w, work::LABELS * (2 * m) + 5 * i, inverse[b]);
         i += 1;
     }
 }
 
 // The labels by number, so that whoever reads them one by one needs no division.
-pub fn spread(payload: &[u8], family: u16, m: usize, w: &mut [u16])
-    requires { ⌜ (hasLabels family ≡ true) × Sized family m (now payload) ⌝ }
+pub fn spread(payload: &[u8], family: u16, inverse: &[u8], m: usize, w: &mut [u16])
+    requires { ⌜ (hasLabels family ≡ true) × Sized family m (now payload) × (length (now inverse) ≡ 256) ⌝ }
     requires { ⌜ 32 * m ≤ length (now w) ⌝ }
-    ensures { λ _. ⌜ labelsAt m (now (w .exit)) ≡ payloadLabels family m (now (payload .entry)) ⌝ }
+    ensures { λ _. ⌜ labelsAt m (now (w .exit)) ≡ payloadLabels family m (undone (now (inverse .entry)) family m (now (payload .entry))) ⌝ }
 {
     if family == 1 {
         spread_bits(payload, m, w);
         return;
     }
-    spread_groups(payload, m, w);
+    spread_groups(payload, inverse, m, w);
 }
