@@ -92,7 +92,7 @@ fn run(
     work: &mut [u16],
     out: &mut [u8],
 ) {
-    let answer = writing::write(order, start, outside, kind, work, out);
+    let answer = writing::write(tables::standard(), order, start, outside, kind, work, out);
     show(name, kind, answer, out);
 }
 

@@ -10,7 +10,7 @@ fn plans(record: &[u8]) -> u32
 {
     let mut work = [0u16; 96];
     let mut out = [0u16; 6];
-    match reading::read(record, &mut work, &mut out) {
+    match reading::read(tables::standard(), record, &mut work, &mut out) {
         ReadBack::Edges(m, x) => {
             return 1;
         }

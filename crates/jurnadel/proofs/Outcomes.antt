@@ -7,6 +7,7 @@
 use mathlib.Core.Path.{_≡_, sym, ap, _∙_}
 use mathlib.Core.List.{List}
 use Prim.Native.Nat.{ℕ}
+use Rattle.model.specs.declared.Table.{Table}
 use Rattle.model.specs.declared.Written.{Written}
 use Rattle.model.specs.declared.ReadBack.{ReadBack}
 use Rattle.model.specs.declared.Measured.{Measured}
@@ -17,9 +18,9 @@ use Rattle.model.specs.Calls.{Measures, numberOfMeasured, countOfMeasured, char
 use Rattle.model.specs.Calls.{numberOfShelved, recordNumberOfShelved, usedOfShelved}
 use Rattle.model.specs.Exports.{WriteExport, ReadExport, MeasureExport, ShelveExport}
 
-pub write-out : (k : ℕ) (p : Plan) (work out : List ℕ) (a b : Written) (work′ out′ : List ℕ) → Wrote k p work out a work′ out′ → a ≡ b
-    → WriteExport k p work out (numberOfWritten b) (lengthOfWritten b) (characteristicOfWritten b) work′ out′
-write-out k p work out a b work′ out′ w e =
+pub write-out : (t : Table) (k : ℕ) (p : Plan) (work out : List ℕ) (a b : Written) (work′ out′ : List ℕ) → Wrote t k p work out a work′ out′ → a ≡ b
+    → WriteExport t k p work out (numberOfWritten b) (lengthOfWritten b) (characteristicOfWritten b) work′ out′
+write-out t k p work out a b work′ out′ w e =
     let z = sym e ∙ w .answered in
     record {
       number-is = ap numberOfWritten z;
@@ -29,9 +30,9 @@ write-out k p work out a b work′ out′ w e =
       cleared = w .cleared;
     }
 
-pub read-out : (bytes work out : List ℕ) (a b : ReadBack) (work′ out′ : List ℕ) → ReadCall bytes work out a work′ out′ → a ≡ b
-    → ReadExport bytes work out (numberOfRead b) (edgesOfRead b) (outsideOfRead b) work′ out′
-read-out bytes work out a b work′ out′ c e =
+pub read-out : (t : Table) (bytes work out : List ℕ) (a b : ReadBack) (work′ out′ : List ℕ) → ReadCall t bytes work out a work′ out′ → a ≡ b
+    → ReadExport t bytes work out (numberOfRead b) (edgesOfRead b) (outsideOfRead b) work′ out′
+read-out t bytes work out a b work′ out′ c e =
     record {
       answer = a;
       outcome = c .outcome;
@@ -53,9 +54,9 @@ measure-out rot work list a b work′ list′ m e =
       cleared = m .cleared;
     }
 
-pub shelve-out : (bytes shelf : List ℕ) (used : ℕ) (a b : Shelved) (shelf′ : List ℕ) → Stored bytes shelf used a shelf′ → a ≡ b
-    → ShelveExport bytes shelf used (numberOfShelved b) (recordNumberOfShelved b) (usedOfShelved used b) shelf′
-shelve-out bytes shelf used a b shelf′ s e =
+pub shelve-out : (t : Table) (bytes shelf : List ℕ) (used : ℕ) (a b : Shelved) (shelf′ : List ℕ) → Stored t bytes shelf used a shelf′ → a ≡ b
+    → ShelveExport t bytes shelf used (numberOfShelved b) (recordNumberOfShelved b) (usedOfShelved used b) shelf′
+shelve-out t bytes shelf used a b shelf′ s e =
     let z = sym e ∙ s .answered in
     record {
       refusal-is = ap numberOfShelved z;

@@ -1,12 +1,16 @@
-// The calls as exported C functions. Numbers and slices go over as they are, a slice as pointer and length; an answer's values go out through references
-// to numbers. Each function is total: any content and any length of what is lent. But for the sizes nothing is worked out here: each call is that of a crate below.
+// The calls as exported C functions. Numbers and slices go over as they are, a slice as pointer and length, a table by value; an answer's values go out
+// through references to numbers. Each function is total: any content and any length of what is lent. But for the sizes nothing is worked out here: each
+// call is that of a crate below.
 use model::Measured;
 use model::ReadBack;
 use model::Shelved;
+use model::Table;
 use model::Written;
 ghost use mathlib.Core.Path.{_≡_};
 ghost use Prim.Native.Nat.{_*_};
 ghost use lib.ListN.{length, take};
+ghost use Rattle.model.specs.Groups.{standardTable};
+ghost use Rattle.model.specs.Calls.{Loads};
 ghost use Rattle.model.specs.ShelfWalk.{recordAt, Begun};
 ghost use Rattle.model.specs.Exports.{WriteExport, ReadExport, MeasureExport, ShelveExport, FetchExport, lengthFor};
 
@@ -37,11 +41,30 @@ pub extern "C" fn jurnadel_work_length(trails: u16) -> usize
     32 * (trails as usize)
 }
 
+// ---- group tables
+
+// The table of these bytes. Its refusal goes to `refusal`, 0 if none; refused, the table is zeros, and every call refuses it.
+#[no_mangle]
+pub extern "C" fn jurnadel_load_table(bytes: &[u8], refusal: &mut u16) -> Table
+    ensures { λ r. ⌜ Loads (now (bytes .entry)) r (now (refusal .exit)) ⌝ }
+{
+    tables::load(bytes, refusal)
+}
+
+// The table under which a group's byte is its value.
+#[no_mangle]
+pub extern "C" fn jurnadel_standard_table() -> Table
+    ensures { λ r. ⌜ r ≡ standardTable ⌝ }
+{
+    tables::standard()
+}
+
 // ---- plans and records
 
 // The record's length goes to `length`, 0 if refused; of refusal 10 the characteristic to `characteristic`, else 0.
 #[no_mangle]
 pub extern "C" fn jurnadel_write(
+    table: Table,
     order: &[u16],
     start: u16,
     outside: u16,
@@ -51,9 +74,9 @@ pub extern "C" fn jurnadel_write(
     length: &mut u16,
     characteristic: &mut i32,
 ) -> u16
-    ensures { λ r. ⌜ WriteExport kind (record { rotation = now (order .entry); root = start; outside = outside }) (now (work .entry)) (now (output .entry)) r (now (length .exit)) (now (characteristic .exit)) (now (work .exit)) (now (output .exit)) ⌝ }
+    ensures { λ r. ⌜ WriteExport table kind (record { rotation = now (order .entry); root = start; outside = outside }) (now (work .entry)) (now (output .entry)) r (now (length .exit)) (now (characteristic .exit)) (now (work .exit)) (now (output .exit)) ⌝ }
 {
-    let answer = writing::write(order, start, outside, kind, work, output);
+    let answer = writing::write(table, order, start, outside, kind, work, output);
     match answer {
         Written::Length(n) => {
             *length = n;
@@ -77,15 +100,16 @@ pub extern "C" fn jurnadel_write(
 // `outside`; both are 0 if refused.
 #[no_mangle]
 pub extern "C" fn jurnadel_read(
+    table: Table,
     record: &[u8],
     work: &mut [u16],
     order: &mut [u16],
     trails: &mut u16,
     outside: &mut u16,
 ) -> u16
-    ensures { λ r. ⌜ ReadExport (now («record» .entry)) (now (work .entry)) (now (order .entry)) r (now (trails .exit)) (now (outside .exit)) (now (work .exit)) (now (order .exit)) ⌝ }
+    ensures { λ r. ⌜ ReadExport table (now («record» .entry)) (now (work .entry)) (now (order .entry)) r (now (trails .exit)) (now (outside .exit)) (now (work .exit)) (now (order .exit)) ⌝ }
 {
-    let answer = reading::read(record, work, order);
+    let answer = reading::read(table, record, work, order);
     match answer {
         ReadBack::Edges(m, x) => {
             *trails = m;
@@ -137,15 +161,16 @@ pub extern "C" fn jurnadel_area_lengths(
 // The record's number goes to `number`, 0 if refused; the used length to `new_used`, `used` if refused.
 #[no_mangle]
 pub extern "C" fn jurnadel_shelve(
+    table: Table,
     record: &[u8],
     shelf: &mut [u8],
     used: usize,
     number: &mut usize,
     new_used: &mut usize,
 ) -> u16
-    ensures { λ r. ⌜ ShelveExport (now («record» .entry)) (now (shelf .entry)) used r (now (number .exit)) (now («new_used» .exit)) (now (shelf .exit)) ⌝ }
+    ensures { λ r. ⌜ ShelveExport table (now («record» .entry)) (now (shelf .entry)) used r (now (number .exit)) (now («new_used» .exit)) (now (shelf .exit)) ⌝ }
 {
-    let answer = shelf::shelve(record, shelf, used);
+    let answer = shelf::shelve(table, record, shelf, used);
     match answer {
         Shelved::At(n, end) => {
             *number = n;

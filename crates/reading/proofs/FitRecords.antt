@@ -1,4 +1,4 @@
--- The record of a fit plan, as a reader meets it, and that reading it has one outcome.
+-- The record of a fit plan under a table t, as a reader meets it, and that reading it has one outcome.
 --
 --   record-length, record-kind   its length, and its kind
 --   own-record           the plan has it
@@ -9,9 +9,10 @@
 --   has-edges, has-passes   bytes that are a fit plan's record name its number of edges and pass 1, 2, 3 and 5
 use Prim.Native.Nat.{ℕ}
 use mathlib.Core.Path.{_≡_, sym, ap, subst, _∙_}
-use mathlib.Core.Bool.{true}
+use mathlib.Core.Bool.{true, false}
 use mathlib.Core.List.{List}
 use lib.ListN.{length}
+use Rattle.model.specs.declared.Table.{Table}
 use Rattle.model.specs.declared.ReadBack.{ReadBack}
 use Rattle.model.specs.declared.ReadBack.the-variants as readback
 use Rattle.model.specs.Numbers.{allBelow}
@@ -19,65 +20,66 @@ use Rattle.model.specs.Map.{Plan, edges, fit}
 use Rattle.model.specs.Traversal.{standardRotation, standardPlan}
 use Rattle.model.specs.Record.{recordLength, recordOf}
 use Rattle.model.specs.Shelf.{kindOf, edgesOf, passes}
-use Rattle.model.specs.Calls.{front, HasRecord, outsideRead, Reads, refused, read, unreadable}
+use Rattle.model.specs.Calls.{front, tableRefused, HasRecord, outsideRead, Reads, refused, read, unreadable}
 use Rattle.model.proofs.Outside.{withOutside}
 use Rattle.lists.specs.Coder.{rooted, outsideOf}
 use Rattle.lists.proofs.Records as coded
 use Rattle.coding.proofs.Records.{coderOf}
+use Rattle.reading.proofs.Checks.{clear-stands}
 
-module _ (r : List ℕ) (p : Plan) (has : HasRecord r p) where
+module _ (t : Table) (r : List ℕ) (p : Plan) (has : HasRecord t r p) where
   pub has-edges : edgesOf r ≡ edges (p .rotation)
-  has-edges = ap edgesOf (sym (has .1)) ∙ coded.record-edges (kindOf r) (coderOf (kindOf r) p (has .0)) p (has .0)
+  has-edges = ap edgesOf (sym (has .1)) ∙ coded.record-edges t (kindOf r) (coderOf (kindOf r) p (has .0)) p (has .0)
 
   pub has-passes : passes r ≡ true
-  has-passes = ap passes (sym (has .1)) ∙ coded.record-passes (kindOf r) (coderOf (kindOf r) p (has .0)) p (has .0)
+  has-passes = ap passes (sym (has .1)) ∙ coded.record-passes t (kindOf r) (coderOf (kindOf r) p (has .0)) p (has .0)
 
-module _ (r : List ℕ) (p q : Plan) (h : HasRecord r p) (g : HasRecord r q) where
+module _ (t : Table) (stands : tableRefused t ≡ false) (r : List ℕ) (p q : Plan) (h : HasRecord t r p) (g : HasRecord t r q) where
   pub one-standard : standardRotation q ≡ standardRotation p
   one-standard =
       let c = coderOf (kindOf r) p (h .0) in
-      let found = coded.has-decodes r c p h in
-      coded.read-back r c (c .codes p) q found g ∙ sym (coded.read-back r c (c .codes p) p found h)
+      let found = coded.has-decodes t stands r c p h in
+      coded.read-back t stands r c (c .codes p) q found g ∙ sym (coded.read-back t stands r c (c .codes p) p found h)
 
   pub one-outside : outsideRead (kindOf r) q ≡ outsideRead (kindOf r) p
   one-outside =
       let c = coderOf (kindOf r) p (h .0) in
-      sym (coded.has-outside r c q g) ∙ coded.has-outside r c p h
+      sym (coded.has-outside t stands r c q g) ∙ coded.has-outside t stands r c p h
 
-pub read-plan : (r : List ℕ) (p : Plan) → HasRecord r p → HasRecord r (withOutside (rooted (standardRotation p)) (outsideRead (kindOf r) p))
-read-plan r p h =
+pub read-plan : (t : Table) → tableRefused t ≡ false → (r : List ℕ) (p : Plan) → HasRecord t r p → HasRecord t r (withOutside (rooted (standardRotation p)) (outsideRead (kindOf r) p))
+read-plan t stands r p h =
     let c = coderOf (kindOf r) p (h .0) in
-    let found = coded.has-decodes r c p h in
-    let bytes = ap (allBelow 256) (sym (h .1)) ∙ coded.record-bytes (kindOf r) c p (h .0) in
-    let sound = coded.has-sound r c (c .codes p) found p h in
-    subst (λ (o : ℕ). HasRecord r (withOutside (rooted (standardRotation p)) o)) (coded.has-outside r c p h)
-    (subst (λ (rot : List ℕ). HasRecord r (withOutside (rooted rot) (outsideOf r))) (sym (coded.read-back r c (c .codes p) p found h))
-    (coded.decodes-has r c (c .codes p) (has-passes r p h) bytes found sound))
+    let found = coded.has-decodes t stands r c p h in
+    let bytes = ap (allBelow 256) (sym (h .1)) ∙ coded.record-bytes t (kindOf r) c p (h .0) stands in
+    let sound = coded.has-sound t stands r c (c .codes p) found p h in
+    subst (λ (o : ℕ). HasRecord t r (withOutside (rooted (standardRotation p)) o)) (coded.has-outside t stands r c p h)
+    (subst (λ (rot : List ℕ). HasRecord t r (withOutside (rooted rot) (outsideOf r))) (sym (coded.read-back t stands r c (c .codes p) p found h))
+    (coded.decodes-has t stands r c (c .codes p) (has-passes t r p h) bytes found sound))
 
-module _ (k : ℕ) (p : Plan) (fits : fit k p ≡ true) where
-  pub record-length : length (recordOf k p) ≡ recordLength k (edges (p .rotation))
-  record-length = coded.record-length k (coderOf k p fits) p fits
+module _ (t : Table) (k : ℕ) (p : Plan) (fits : fit k p ≡ true) where
+  pub record-length : length (recordOf t k p) ≡ recordLength k (edges (p .rotation))
+  record-length = coded.record-length t k (coderOf k p fits) p fits
 
-  pub record-kind : kindOf (recordOf k p) ≡ k
-  record-kind = coded.record-kind k (coderOf k p fits) p fits
+  pub record-kind : kindOf (recordOf t k p) ≡ k
+  record-kind = coded.record-kind t k (coderOf k p fits) p fits
 
-  pub own-record : HasRecord (recordOf k p) p
-  own-record = (subst (λ (j : ℕ). fit j p ≡ true) (sym record-kind) fits, ap (λ (j : ℕ). recordOf j p) record-kind)
+  pub own-record : HasRecord t (recordOf t k p) p
+  own-record = (subst (λ (j : ℕ). fit j p ≡ true) (sym record-kind) fits, ap (λ (j : ℕ). recordOf t j p) record-kind)
 
-  pub standard-record : (fit k (standardPlan p) ≡ true) × (recordOf k (standardPlan p) ≡ recordOf k p)
-  standard-record = coded.standard-record k (coderOf k p fits) p fits
+  pub standard-record : (fit k (standardPlan p) ≡ true) × (recordOf t k (standardPlan p) ≡ recordOf t k p)
+  standard-record = coded.standard-record t k (coderOf k p fits) p fits
 
-pub reads-one : (r : List ℕ) (w : ℕ) (out : List ℕ) (a b : ReadBack) (o o′ : List ℕ) → Reads r w out a o → Reads r w out b o′ → (a ≡ b) × (o ≡ o′)
+pub reads-one : (t : Table) (r : List ℕ) (w : ℕ) (out : List ℕ) (a b : ReadBack) (o o′ : List ℕ) → Reads t r w out a o → Reads t r w out b o′ → (a ≡ b) × (o ≡ o′)
 unfolding standardPlan
-reads-one r w out a b o o′ (refused d e f) (refused d′ e′ f′) = (e ∙ sym e′, f ∙ sym f′)
-reads-one r w out a b o o′ (refused d e f) (read z q g e′ f′) = absurd (d z)
-reads-one r w out a b o o′ (refused d e f) (unreadable z never e′ f′) = absurd (d z)
-reads-one r w out a b o o′ (read z p h e f) (refused d e′ f′) = absurd (d z)
-reads-one r w out a b o o′ (read z p h e f) (read z′ q g e′ f′) = (
-  e ∙ ap (readback.Edges (edgesOf r)) (one-outside r q p g h) ∙ sym e′,
-  f ∙ ap (λ (rot : List ℕ). front rot out) (one-standard r q p g h) ∙ sym f′,
+reads-one t r w out a b o o′ (refused d e f) (refused d′ e′ f′) = (e ∙ sym e′, f ∙ sym f′)
+reads-one t r w out a b o o′ (refused d e f) (read z q g e′ f′) = absurd (d z)
+reads-one t r w out a b o o′ (refused d e f) (unreadable z never e′ f′) = absurd (d z)
+reads-one t r w out a b o o′ (read z p h e f) (refused d e′ f′) = absurd (d z)
+reads-one t r w out a b o o′ (read z p h e f) (read z′ q g e′ f′) = (
+  e ∙ ap (readback.Edges (edgesOf r)) (one-outside t (clear-stands r w (length out) t z) r q p g h) ∙ sym e′,
+  f ∙ ap (λ (rot : List ℕ). front rot out) (one-standard t (clear-stands r w (length out) t z) r q p g h) ∙ sym f′,
 )
-reads-one r w out a b o o′ (read z p h e f) (unreadable z′ never e′ f′) = absurd (never p h)
-reads-one r w out a b o o′ (unreadable z never e f) (refused d e′ f′) = absurd (d z)
-reads-one r w out a b o o′ (unreadable z never e f) (read z′ q g e′ f′) = absurd (never q g)
-reads-one r w out a b o o′ (unreadable z never e f) (unreadable z′ never′ e′ f′) = (e ∙ sym e′, f ∙ sym f′)
+reads-one t r w out a b o o′ (read z p h e f) (unreadable z′ never e′ f′) = absurd (never p h)
+reads-one t r w out a b o o′ (unreadable z never e f) (refused d e′ f′) = absurd (d z)
+reads-one t r w out a b o o′ (unreadable z never e f) (read z′ q g e′ f′) = absurd (never q g)
+reads-one t r w out a b o o′ (unreadable z never e f) (unreadable z′ never′ e′ f′) = (e ∙ sym e′, f ∙ sym f′)

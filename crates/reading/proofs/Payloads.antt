@@ -20,6 +20,8 @@ use Rattle.model.specs.Shelf.{kindOf, edgesOf, passes}
 use Rattle.model.proofs.Heads.{family-four, passes-facts}
 use Rattle.heads.proofs.Head.{head-stores, head-plain, family-plain}
 use Rattle.packing.specs.Payload.{hasLabels, Sized}
+use Rattle.packing.specs.Groups.{undone}
+use Rattle.packing.proofs.Groups.{undone-other}
 use Rattle.packing.proofs.Labelled.{labelled-other}
 use Rattle.packing.proofs.Headed.{passes-sized}
 use Rattle.coding.specs.Payloads.{decodeLabelled, decodeLetters, decodePayload, decodeRecord}
@@ -29,15 +31,18 @@ module _ (f m : ℕ) (ps : List ℕ) (s : Sized f m ps) where
   pub letters-asked : f ≡ 4 → (1 ≤ m) × (m ≤ 4096) × (length ps ≡ bytesFor m 2)
   letters-asked e = let l = s .long in let q = family-four f m e in (s .some-edge, s .few-edges, omega arith)
 
-  pub labels-asked : f ≢ 4 → (hasLabels f ≡ true) × Sized f m ps
-  labels-asked d = (labelled-other f (s .is-family) d, s)
+  pub labels-asked : (inv : List ℕ) → length inv ≡ 256 → f ≢ 4 → (hasLabels f ≡ true) × Sized f m ps × (length inv ≡ 256)
+  labels-asked inv wide d = (labelled-other f (s .is-family) d, s, wide)
 
-module _ (f m : ℕ) (ps : List ℕ) (b : Bool) (w : List ℕ) where
-  pub letters-answered : f ≡ 4 → Answered (decodeLetters m ps) (2 * m) b w → Answered (decodePayload f m ps) (2 * m) b w
+module _ (inv : List ℕ) (f m : ℕ) (ps : List ℕ) (b : Bool) (w : List ℕ) where
+  abbrev vs : List ℕ
+  vs = undone inv f m ps
+
+  pub letters-answered : f ≡ 4 → Answered (decodeLetters m ps) (2 * m) b w → Answered (decodePayload f m vs) (2 * m) b w
   unfolding decodePayload
-  letters-answered e a = rw e a
+  letters-answered e a = rw (undone-other inv ps f m (λ two. omega arith), e) a
 
-  pub labels-answered : f ≢ 4 → Answered (decodeLabelled f m ps) (2 * m) b w → Answered (decodePayload f m ps) (2 * m) b w
+  pub labels-answered : f ≢ 4 → Answered (decodeLabelled f m vs) (2 * m) b w → Answered (decodePayload f m vs) (2 * m) b w
   unfolding decodePayload
   labels-answered d a = rw (ne-eqb f 4 d) a
 
@@ -62,6 +67,7 @@ module _ (r : List ℕ) (passed : passes r ≡ true) where
     pub payload-sized : Sized f m part
     payload-sized = rw (part-is, f-is, m-is) (passes-sized r passed)
 
-    pub record-decoded : (b : Bool) (w : List ℕ) → Answered (decodePayload f m part) (2 * m) b w → Answered (decodeRecord r) (2 * edgesOf r) b w
+    pub record-decoded : (inv : List ℕ) (b : Bool) (w : List ℕ) → Answered (decodePayload f m (undone inv f m part)) (2 * m) b w
+        → Answered (decodeRecord inv r) (2 * edgesOf r) b w
     unfolding decodeRecord
-    record-decoded b w a = rw (part-is, f-is, m-is) at a
+    record-decoded inv b w a = rw (part-is, f-is, m-is) at a

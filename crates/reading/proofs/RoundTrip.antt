@@ -1,4 +1,4 @@
--- Reading and writing undo each other, over the contracts of the two calls alone.
+-- Reading and writing undo each other under one table, over the contracts of the two calls alone.
 --
 --   read-record          reading a fit plan's record with room answers m and the outside, and gives the standard plan
 --   wrote-fit, wrote-bytes   a call that wrote was handed a fit plan, and the bytes are its record
@@ -10,11 +10,12 @@
 use Prim.Native.Nat.{ℕ, _*_, _≤_}
 use native.Mathlib.Omega.{arith}
 use mathlib.Core.Path.{_≡_, refl, sym, ap, ap₂, subst, _∙_}
-use mathlib.Core.Bool.{true}
+use mathlib.Core.Bool.{true, false}
 use mathlib.Core.List.{List}
 use lib.ListN.{length, take, drop}
 use lib.Seq.{take-at}
 use borrow.Author.Tests.{lt-ltb, le-ltb, eq-eqb}
+use Rattle.model.specs.declared.Table.{Table}
 use Rattle.model.specs.declared.Written.{Written}
 use Rattle.model.specs.declared.Written.the-variants as written
 use Rattle.model.specs.declared.ReadBack.{ReadBack}
@@ -24,41 +25,42 @@ use Rattle.model.specs.Map.{Plan, edges, fit}
 use Rattle.model.specs.Traversal.{standardRotation, standardPlan}
 use Rattle.model.specs.Record.{recordLength, recordOf}
 use Rattle.model.specs.Shelf.{kindOf, edgesOf}
-use Rattle.model.specs.Calls.{front, earlyRefusals, lateRefusals, writeRefusal, writeAnswer, writtenOutput, Wrote, readRefusal, HasRecord, outsideRead, Reads, refused, read, unreadable, ReadCall, edgesOfRead, outsideOfRead}
+use Rattle.model.specs.Calls.{front, tableRefused, earlyRefusals, lateRefusals, writeRefusal, answerOf, writeAnswer, writtenOutput, Wrote, readRefusal, HasRecord, outsideRead, Reads, refused, read, unreadable, ReadCall, edgesOfRead, outsideOfRead}
 use Rattle.model.specs.Writings.{Writing, MeetsContract, isAccepted, bytesWritten}
 use Rattle.model.proofs.Fitness.{fit-parts, even-darts}
 use Rattle.model.proofs.Outside.{withOutside}
 use Rattle.lists.specs.Coder.{rooted}
-use Rattle.lists.proofs.Calls.{accepted-fit, accepted-bytes}
+use Rattle.lists.proofs.Calls.{accepted-stands, accepted-fit, accepted-bytes}
 use Rattle.reading.proofs.Answers.{not-both}
-use Rattle.reading.proofs.Checks.{facts-early}
+use Rattle.reading.proofs.Checks.{past-table, clear-stands, facts-early}
 use Rattle.reading.proofs.FitRecords.{record-length, record-kind, own-record, one-standard, one-outside, read-plan, has-edges, has-passes}
 
 -- ---- reading what writing wrote
 
-module _ (r : List ℕ) (p : Plan) (has : HasRecord r p) (work out : List ℕ) (answer : ReadBack) (work′ out′ : List ℕ) where
+module _ (t : Table) (stands : tableRefused t ≡ false) (r : List ℕ) (p : Plan) (has : HasRecord t r p) (work out : List ℕ) (answer : ReadBack) (work′ out′ : List ℕ) where
   abbrev Given : Type 0
   Given = (answer ≡ readback.Edges (edges (p .rotation)) (outsideRead (kindOf r) p)) × (out′ ≡ front (standardPlan p .rotation) out)
 
   -- a call with room reads the record of a fit plan
-  pub read-record : ReadCall r work out answer work′ out′ → 32 * edges (p .rotation) ≤ length work → 2 * edges (p .rotation) ≤ length out → Given
+  pub read-record : ReadCall t r work out answer work′ out′ → 32 * edges (p .rotation) ≤ length work → 2 * edges (p .rotation) ≤ length out → Given
   unfolding standardPlan
   read-record c h l = go (c .outcome)
     where
-      clear : readRefusal r (length work) (length out) ≡ 0
+      clear : readRefusal t r (length work) (length out) ≡ 0
       clear =
-          let e = has-edges r p has in
-          facts-early r (length work) (length out) (record { passed = has-passes r p has; work-room = omega arith; out-room = omega arith })
+          let e = has-edges t r p has in
+          past-table r (length work) (length out) t stands
+          ∙ facts-early r (length work) (length out) (record { passed = has-passes t r p has; work-room = omega arith; out-room = omega arith })
 
-      go : Reads r (length work) out answer out′ → Given
+      go : Reads t r (length work) out answer out′ → Given
       go (refused d a o) = absurd (d clear)
       go (read e q g a o) = (
-        a ∙ ap₂ readback.Edges (has-edges r p has) (one-outside r p q has g),
-        o ∙ ap (λ (rot : List ℕ). front rot out) (one-standard r p q has g),
+        a ∙ ap₂ readback.Edges (has-edges t r p has) (one-outside t stands r p q has g),
+        o ∙ ap (λ (rot : List ℕ). front rot out) (one-standard t stands r p q has g),
       )
       go (unreadable e never a o) = absurd (never p has)
 
-module _ (k : ℕ) (p : Plan) (w o : List ℕ) (n : ℕ) (w′ o′ : List ℕ) (wrote : Wrote k p w o (written.Length n) w′ o′) where
+module _ (t : Table) (k : ℕ) (p : Plan) (w o : List ℕ) (n : ℕ) (w′ o′ : List ℕ) (wrote : Wrote t k p w o (written.Length n) w′ o′) where
   call : Writing
   call = record { kind = k; plan = p; work = w; output = o; answer = written.Length n; work-after = w′; output-after = o′ }
 
@@ -66,72 +68,84 @@ module _ (k : ℕ) (p : Plan) (w o : List ℕ) (n : ℕ) (w′ o′ : List ℕ) 
   unfolding isAccepted call
   accepted = refl
 
-  honest : MeetsContract call
+  honest : MeetsContract t call
   unfolding call
   honest = wrote
 
   pub wrote-fit : fit k p ≡ true
   unfolding call
-  wrote-fit = accepted-fit call honest accepted
+  wrote-fit = accepted-fit t call honest accepted
 
-  pub wrote-bytes : take n o′ ≡ recordOf k p
+  wrote-stands : tableRefused t ≡ false
+  unfolding call
+  wrote-stands = accepted-stands t call honest accepted
+
+  pub wrote-bytes : take n o′ ≡ recordOf t k p
   unfolding bytesWritten call isAccepted
-  wrote-bytes = accepted-bytes call honest accepted (record-length k p wrote-fit)
+  wrote-bytes = accepted-bytes t call honest accepted (record-length t k p wrote-fit)
 
-  wrote-has : HasRecord (take n o′) p
-  wrote-has = subst (λ (s : List ℕ). HasRecord s p) (sym wrote-bytes) (own-record k p wrote-fit)
+  wrote-has : HasRecord t (take n o′) p
+  wrote-has = subst (λ (s : List ℕ). HasRecord t s p) (sym wrote-bytes) (own-record t k p wrote-fit)
 
-  pub read-written : (work out : List ℕ) (answer : ReadBack) (work′ out′ : List ℕ) → ReadCall (take n o′) work out answer work′ out′
+  pub read-written : (work out : List ℕ) (answer : ReadBack) (work′ out′ : List ℕ) → ReadCall t (take n o′) work out answer work′ out′
       → 32 * edges (p .rotation) ≤ length work → 2 * edges (p .rotation) ≤ length out
       → (answer ≡ readback.Edges (edges (p .rotation)) (outsideRead k p)) × (out′ ≡ front (standardPlan p .rotation) out)
   read-written work out answer work′ out′ c h l =
       subst (λ (j : ℕ). (answer ≡ readback.Edges (edges (p .rotation)) (outsideRead j p)) × (out′ ≡ front (standardPlan p .rotation) out))
-      (ap kindOf wrote-bytes ∙ record-kind k p wrote-fit) (read-record (take n o′) p wrote-has work out answer work′ out′ c h l)
+      (ap kindOf wrote-bytes ∙ record-kind t k p wrote-fit) (read-record t wrote-stands (take n o′) p wrote-has work out answer work′ out′ c h l)
 
 -- ---- writing what reading gave
 
 -- a fit plan with room is not refused
-fit-accepted : (k : ℕ) (p : Plan) (w o : ℕ) → fit k p ≡ true → 32 * edges (p .rotation) ≤ w → recordLength k (edges (p .rotation)) ≤ o
-    → writeRefusal k p w o ≡ 0
+fit-accepted : (t : Table) (k : ℕ) (p : Plan) (w o : ℕ) → tableRefused t ≡ false → fit k p ≡ true → 32 * edges (p .rotation) ≤ w → recordLength k (edges (p .rotation)) ≤ o
+    → writeRefusal t k p w o ≡ 0
 unfolding writeRefusal earlyRefusals lateRefusals firstRefusal
-fit-accepted k p w o fits h l =
+fit-accepted t k p w o stands fits h l =
     let f = fit-parts k p fits in
-    rw (f .kind, f .count, lt-ltb _ _ (f .root), f .outside, f .entries, le-ltb w _ h, le-ltb o _ l, f .joined, f .flat, f .loops, f .degrees)
+    rw (stands, f .kind, f .count, lt-ltb _ _ (f .root), f .outside, f .entries, le-ltb w _ h, le-ltb o _ l, f .joined, f .flat, f .loops, f .degrees)
 
-module _ (k : ℕ) (p : Plan) (fits : fit k p ≡ true) (w o : List ℕ) (answer : Written) (w′ o′ : List ℕ) (wrote : Wrote k p w o answer w′ o′) where
+module _ (t : Table) (stands : tableRefused t ≡ false) (k : ℕ) (p : Plan) (fits : fit k p ≡ true) (w o : List ℕ) (answer : Written) (w′ o′ : List ℕ) (wrote : Wrote t k p w o answer w′ o′) where
   -- a call with room writes the record
   pub write-fit : 32 * edges (p .rotation) ≤ length w → recordLength k (edges (p .rotation)) ≤ length o
-      → (answer ≡ written.Length (recordLength k (edges (p .rotation)))) × (o′ ≡ front (recordOf k p) o)
-  unfolding writeAnswer writtenOutput
+      → (answer ≡ written.Length (recordLength k (edges (p .rotation)))) × (o′ ≡ front (recordOf t k p) o)
+  unfolding writeAnswer answerOf writtenOutput
   write-fit h l =
-      let e = fit-accepted k p (length w) (length o) fits h l in
+      let e = fit-accepted t k p (length w) (length o) stands fits h l in
       (wrote .answered ∙ simp (eq-eqb _ 0 e), wrote .filled ∙ simp (eq-eqb _ 0 e))
 
 -- the plan in the first 2m entries, root 0, with this outside
 abbrev pub planIn : ℕ → ℕ → List ℕ → Plan
 planIn m x out = withOutside (rooted (take (2 * m) out)) x
 
-module _ (r work out : List ℕ) (m x : ℕ) (work′ out′ : List ℕ) (call : ReadCall r work out (readback.Edges m x) work′ out′) where
-  pub given-plan : (edgesOf r ≡ m) × HasRecord r (planIn m x out′)
+module _ (t : Table) (r work out : List ℕ) (m x : ℕ) (work′ out′ : List ℕ) (call : ReadCall t r work out (readback.Edges m x) work′ out′) where
+  stands : tableRefused t ≡ false
+  stands = go (call .outcome)
+    where
+      go : Reads t r (length work) out (readback.Edges m x) out′ → tableRefused t ≡ false
+      go (refused d a o) = absurd (not-both m x _ a)
+      go (unreadable e never a o) = absurd (not-both m x _ a)
+      go (read e p has a o) = clear-stands r (length work) (length out) t e
+
+  pub given-plan : (edgesOf r ≡ m) × HasRecord t r (planIn m x out′)
   unfolding front standardPlan
   given-plan = go (call .outcome)
     where
-      go : Reads r (length work) out (readback.Edges m x) out′ → (edgesOf r ≡ m) × HasRecord r (planIn m x out′)
+      go : Reads t r (length work) out (readback.Edges m x) out′ → (edgesOf r ≡ m) × HasRecord t r (planIn m x out′)
       go (refused d a o) = absurd (not-both m x _ a)
       go (unreadable e never a o) = absurd (not-both m x _ a)
-      go (read e p has a o) = (same, subst (HasRecord r) (sym given) back)
+      go (read e p has a o) = (same, subst (HasRecord t r) (sym given) back)
         where
           same : edgesOf r ≡ m
           same = sym (ap edgesOfRead a)
 
-          back : HasRecord r (withOutside (rooted (standardRotation p)) (outsideRead (kindOf r) p))
-          back = read-plan r p has
+          back : HasRecord t r (withOutside (rooted (standardRotation p)) (outsideRead (kindOf r) p))
+          back = read-plan t stands r p has
 
           size : length (standardRotation p) ≡ 2 * m
           size =
               let q : Plan = withOutside (rooted (standardRotation p)) (outsideRead (kindOf r) p) in
               let d : length (standardRotation p) ≡ 2 * edges (standardRotation p) = even-darts q (fit-parts (kindOf r) q (back .0) .count) in
-              let s : edgesOf r ≡ edges (standardRotation p) = has-edges r q back in
+              let s : edgesOf r ≡ edges (standardRotation p) = has-edges t r q back in
               let e = same in
               omega arith
 
@@ -139,13 +153,13 @@ module _ (r work out : List ℕ) (m x : ℕ) (work′ out′ : List ℕ) (call :
           given = ap₂ (λ (rot : List ℕ) (o : ℕ). withOutside (rooted rot) o)
               (ap (take (2 * m)) o ∙ take-at (standardRotation p) (drop (length (standardRotation p)) out) (2 * m) size) (ap outsideOfRead a)
 
-  pub written-read : (w o : List ℕ) (answer : Written) (w′ o′ : List ℕ) → Wrote (kindOf r) (planIn m x out′) w o answer w′ o′
+  pub written-read : (w o : List ℕ) (answer : Written) (w′ o′ : List ℕ) → Wrote t (kindOf r) (planIn m x out′) w o answer w′ o′
       → 32 * m ≤ length w → length r ≤ length o → (answer ≡ written.Length (length r)) × (o′ ≡ front r o)
   written-read w o answer w′ o′ wrote h l =
       let q = planIn m x out′ in
       let has = given-plan .1 in
-      let e = has-edges r q has in
+      let e = has-edges t r q has in
       let same = given-plan .0 in
-      let size = ap length (sym (has .1)) ∙ record-length (kindOf r) q (has .0) in
-      let done = write-fit (kindOf r) q (has .0) w o answer w′ o′ wrote (omega arith) (omega arith) in
+      let size = ap length (sym (has .1)) ∙ record-length t (kindOf r) q (has .0) in
+      let done = write-fit t stands (kindOf r) q (has .0) w o answer w′ o′ wrote (omega arith) (omega arith) in
       (done .0 ∙ ap written.Length (sym size), done .1 ∙ ap (λ (b : List ℕ). front b o) (has .1))

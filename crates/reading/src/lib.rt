@@ -1,5 +1,5 @@
-// Reading, the call: any bytes come back as the plan in its standard numbering, or as one refusal. It puts the head checks and the decoder in
-// order and clears the work area; how a payload is decoded is not known here.
+// Reading, the call: any bytes come back as the plan in its standard numbering, or as one refusal. It puts the test of the table, the head checks and the
+// decoder in order and clears the work area; how a payload is decoded is not known here.
 ghost use mathlib.Core.Path.{_≡_};
 ghost use mathlib.Core.Bool.{true, _&&_};
 ghost use Prim.Native.Nat.{_*_, _≤_};
@@ -8,17 +8,20 @@ ghost use lib.ListN.{length};
 ghost use Rattle.model.specs.Numbers.{isPermutation};
 ghost use Rattle.model.specs.Map.{faceOf, storesOutside, dartCountFits};
 ghost use Rattle.model.specs.Shelf.{kindOf, edgesOf, passes};
-ghost use Rattle.model.specs.Calls.{readRefusal, Reads, ReadCall};
+ghost use Rattle.model.specs.Calls.{Reads, ReadCall};
 ghost use Rattle.packing.specs.Payload.{Sized};
+ghost use Rattle.packing.specs.Groups.{undone};
 ghost use Rattle.coding.specs.Payloads.{decodePayload};
 ghost use Rattle.work.specs.Area.{region};
 ghost use Rattle.builder.specs.Decoded.{Answered};
-ghost use Rattle.reading.specs.Planned.{Planned};
+ghost use Rattle.reading.specs.Early.{earlyRefusal};
+ghost use Rattle.reading.specs.Planned.{Inverse, PlannedUnder};
 use model::ReadBack;
+use model::Table;
 
 // The first of 1, 2, 3, 5, 7, 8 that concerns the record, with a work area and an output of these lengths; 0 if none does.
 fn early(record: &[u8], work: usize, out: usize) -> u16
-    ensures { λ r. ⌜ r ≡ readRefusal (now («record» .entry)) work out ⌝ }
+    ensures { λ r. ⌜ r ≡ earlyRefusal (now («record» .entry)) work out ⌝ }
 {
     let h = heads::head_refusal(record);
     if h != 0 {
@@ -34,16 +37,16 @@ fn early(record: &[u8], work: usize, out: usize) -> u16
     0
 }
 
-// The standard plan of a payload of this family: whether there is one, and its rotation in the first 2m entries.
-fn decode(payload: &[u8], family: u16, m: usize, w: &mut [u16]) -> bool
-    requires { ⌜ Sized family m (now payload) ⌝ }
+// The standard plan of a payload of this family, under the table with this inverse: whether there is one, and its rotation in the first 2m entries.
+fn decode(payload: &[u8], family: u16, inverse: &[u8], m: usize, w: &mut [u16]) -> bool
+    requires { ⌜ Sized family m (now payload) × (length (now inverse) ≡ 256) ⌝ }
     requires { ⌜ 32 * m ≤ length (now w) ⌝ }
-    ensures { λ r. ⌜ Answered (decodePayload family m (now (payload .entry))) (2 * m) r (now (w .exit)) ⌝ }
+    ensures { λ r. ⌜ Answered (decodePayload family m (undone (now (inverse .entry)) family m (now (payload .entry)))) (2 * m) r (now (w .exit)) ⌝ }
 {
     if family == 4 {
         return letter_decoder::decode(payload, m, w);
     }
-    decoder::decode(payload, family, m, w)
+    decoder::decode(payload, family, inverse, m, w)
 }
 
 // x is the lowest dart of a face of the rotation in the first n entries.
@@ -61,13 +64,13 @@ fn is_face(w: &[u16], n: usize, x: usize) -> bool
 }
 
 // The standard plan and the outside of a record of a kind that stores it, whose head passes; or 13.
-fn read_outer(record: &[u8], kind: u16, m: u16, w: &mut [u16]) -> ReadBack
-    requires { ⌜ (passes (now «record») ≡ true) × (kind ≡ kindOf (now «record»)) × (m ≡ edgesOf (now «record»)) × (storesOutside kind ≡ true)
+fn read_outer(inverse: &[u8], record: &[u8], kind: u16, m: u16, w: &mut [u16]) -> ReadBack
+    requires { ⌜ Inverse (now inverse) × (passes (now «record») ≡ true) × (kind ≡ kindOf (now «record»)) × (m ≡ edgesOf (now «record»)) × (storesOutside kind ≡ true)
         × (32 * edgesOf (now «record») ≤ length (now w)) ⌝ }
-    ensures { λ r. ⌜ Planned (now («record» .entry)) r (now (w .exit)) ⌝ }
+    ensures { λ r. ⌜ PlannedUnder (now (inverse .entry)) (now («record» .entry)) r (now (w .exit)) ⌝ }
 {
     let x = heads::field(record, 6);
-    if decode(&record[8..], heads::family(kind), m as usize, w) {
+    if decode(&record[8..], heads::family(kind), inverse, m as usize, w) {
         if is_face(w, 2 * (m as usize), x as usize) {
             return ReadBack::Edges(m, x);
         }
@@ -76,31 +79,41 @@ fn read_outer(record: &[u8], kind: u16, m: u16, w: &mut [u16]) -> ReadBack
 }
 
 // The standard plan of a record whose head passes, in the first 2m entries of a work area with room, or 13. The work area is not cleared.
-fn read_core(record: &[u8], w: &mut [u16]) -> ReadBack
-    requires { ⌜ (passes (now «record») ≡ true) × (32 * edgesOf (now «record») ≤ length (now w)) ⌝ }
-    ensures { λ r. ⌜ Planned (now («record» .entry)) r (now (w .exit)) ⌝ }
+fn read_core(inverse: &[u8], record: &[u8], w: &mut [u16]) -> ReadBack
+    requires { ⌜ Inverse (now inverse) × (passes (now «record») ≡ true) × (32 * edgesOf (now «record») ≤ length (now w)) ⌝ }
+    ensures { λ r. ⌜ PlannedUnder (now (inverse .entry)) (now («record» .entry)) r (now (w .exit)) ⌝ }
 {
     let kind = heads::field(record, 2);
     let m = heads::field(record, 4);
     if heads::stores_outside(kind) {
-        return read_outer(record, kind, m, w);
+        return read_outer(inverse, record, kind, m, w);
     }
-    let found = decode(&record[6..], kind, m as usize, w);
+    let found = decode(&record[6..], kind, inverse, m as usize, w);
     if found {
         return ReadBack::Edges(m, 0);
     }
     ReadBack::Refused(13)
 }
 
-// The checks, then 13, then the plan to the output.
-fn read_out(record: &[u8], work: &mut [u16], out: &mut [u16]) -> ReadBack
-    ensures { λ r. ⌜ Reads (now («record» .entry)) (length (now (work .entry))) (now (out .entry)) r (now (out .exit)) ⌝ }
+// The table, the checks, then 13, then the plan to the output.
+fn read_out<'a>(
+    bytes: &'a [u8],
+    inverse: &'a [u8],
+    record: &[u8],
+    work: &mut [u16],
+    out: &mut [u16],
+) -> ReadBack
+    requires { ⌜ (length (now bytes) ≡ 243) × (length (now inverse) ≡ 256) ⌝ }
+    ensures { λ r. ⌜ Reads (record { bytes = now (bytes .entry); inverse = now (inverse .entry) }) (now («record» .entry)) (length (now (work .entry))) (now (out .entry)) r (now (out .exit)) ⌝ }
 {
+    if !tables::is_loaded(bytes, inverse) {
+        return ReadBack::Refused(19);
+    }
     let e = early(record, work.len(), out.len());
     if e != 0 {
         return ReadBack::Refused(e);
     }
-    match read_core(record, work) {
+    match read_core(inverse, record, work) {
         ReadBack::Edges(m, x) => {
             work::copy_front(work, 2 * (m as usize), out);
             return ReadBack::Edges(m, x);
@@ -112,10 +125,10 @@ fn read_out(record: &[u8], work: &mut [u16], out: &mut [u16]) -> ReadBack
 }
 
 // "Reading returns m, with the standard plan in the first 2m entries", and "the lowest dart of the outside area"; the work area is zeros on every return.
-pub fn read(record: &[u8], work: &mut [u16], out: &mut [u16]) -> ReadBack
-    ensures { λ r. ⌜ ReadCall (now («record» .entry)) (now (work .entry)) (now (out .entry)) r (now (work .exit)) (now (out .exit)) ⌝ }
+pub fn read(table: Table, record: &[u8], work: &mut [u16], out: &mut [u16]) -> ReadBack
+    ensures { λ r. ⌜ ReadCall table (now («record» .entry)) (now (work .entry)) (now (out .entry)) r (now (work .exit)) (now (out .exit)) ⌝ }
 {
-    let r = read_out(record, work, out);
+    let r = read_out(&table.bytes, &table.inverse, record, work, out);
     work::clear(work);
     r
 }

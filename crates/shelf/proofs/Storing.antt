@@ -1,7 +1,7 @@
 -- Shelving at plain values: r is the record, s the shelf, u its used length.
 --
 --   spot-refused, spot-over, spot-broken, spot-there, spot-full, spot-new    the spot of a record, way by way
---   stored-refused, stored-there, stored-new    what shelving promises, by the spot
+--   stored-no-table, stored-refused, stored-there, stored-new    what shelving promises, by the table and the spot
 --   new-fits              a new record has room
 --   put-turn, put-ends    the loop that puts a record into the shelf
 use mathlib.Core.Path.{_≡_, refl, sym, ap, _∙_}
@@ -18,25 +18,27 @@ use Rattle.searching.specs.declared.Searched.{Searched}
 use Rattle.searching.specs.declared.Searched.the-variants as searched
 use Rattle.searching.specs.Search.{searchOf}
 use Rattle.searching.proofs.Told.{told-broken, told-there, told-missing}
+use Rattle.model.specs.declared.Table.{Table}
 use Rattle.model.specs.declared.Shelved.the-variants as shelved
 use Rattle.shelf.specs.declared.Spot.{Spot}
 use Rattle.shelf.specs.declared.Spot.the-variants.{There, New, Refused}
 use Rattle.model.specs.Numbers.{firstRefusal}
 use Rattle.model.specs.Shelf.{headRefusal, recordsIn, endToEnd, firstEqual, shelfRefused}
-use Rattle.model.specs.Calls.{front, shelveRefusal, shelveAnswer, shelvedBytes, Stored}
+use Rattle.model.specs.Calls.{front, tableRefused, shelveRefusal, shelveAnswer, shelvedBytes, Stored}
+use Rattle.model.proofs.Refusals.{table-first}
 use Rattle.model.proofs.Heads.{head-first}
-use Rattle.shelf.specs.Spot.{spotOf}
-use Rattle.shelf.proofs.Refusals.{used-part, shelve-none}
+use Rattle.shelf.specs.Spot.{spotRefusal, spotOf}
+use Rattle.shelf.proofs.Refusals.{used-part, shelve-past, spot-none}
 use Rattle.shelf.proofs.Walking.{used-fine}
 
 module _ (r s : List ℕ) (u : ℕ) where
   pub spot-refused : (x : ℕ) → x ≡ headRefusal r → (x ≡ 0 → ⊥) → Refused x ≡ spotOf r s u
-  unfolding spotOf shelveRefusal firstRefusal
+  unfolding spotOf spotRefusal firstRefusal
   spot-refused x e d = rw (head-first r, sym e, ne-eqb x 0 d, ne-eqb x 0 d)
 
   module _ (fine : headRefusal r ≡ 0) where
     pub spot-over : length s < u → Refused 14 ≡ spotOf r s u
-    unfolding spotOf shelveRefusal firstRefusal shelfRefused
+    unfolding spotOf spotRefusal firstRefusal shelfRefused
     spot-over h = rw (head-first r, fine, lt-ltb (length s) u h)
 
     module _ (h : u ≤ length s) where
@@ -49,21 +51,21 @@ module _ (r s : List ℕ) (u : ℕ) where
       fourteen b e = rw (le-ltb (length s) u h, sym (ap endToEnd (used-part s u)) ∙ e)
 
       pub spot-broken : searched.Broken ≡ answer → Refused 14 ≡ spotOf r s u
-      unfolding spotOf shelveRefusal firstRefusal
+      unfolding spotOf spotRefusal firstRefusal
       spot-broken e = rw (head-first r, fine, fourteen false (told-broken r _ e))
 
       module _ (n c : ℕ) where
         pub spot-there : searched.There n c ≡ answer → There n ≡ spotOf r s u
-        unfolding spotOf shelveRefusal firstRefusal
+        unfolding spotOf spotRefusal firstRefusal
         spot-there e = let t = told-there r _ n c e in rw (head-first r, fine, fourteen true (t .0), sym (used-part s u), t .3, t .1)
 
         module _ (e : searched.Missing n c ≡ answer) where
           pub spot-full : length s - u < length r → Refused 16 ≡ spotOf r s u
-          unfolding spotOf shelveRefusal firstRefusal
+          unfolding spotOf spotRefusal firstRefusal
           spot-full l = let t = told-missing r _ n c e in rw (head-first r, fine, fourteen true (t .0), sym (used-part s u), t .3, lt-ltb (length s - u) (length r) l)
 
           pub spot-new : length r ≤ length s - u → New n ≡ spotOf r s u
-          unfolding spotOf shelveRefusal firstRefusal
+          unfolding spotOf spotRefusal firstRefusal
           spot-new l =
               let t = told-missing r _ n c e in
               rw (head-first r, fine, fourteen true (t .0), sym (used-part s u), t .3, le-ltb (length s - u) (length r) l, t .1)
@@ -90,39 +92,48 @@ module _ (n x : ℕ) where
   refused-tells true false y e = (cc e, cc e)
   refused-tells false b y e = (refl, cc e)
 
-module _ (r s : List ℕ) (u : ℕ) where
+module _ (t : Table) (stands : tableRefused t ≡ false) (r s : List ℕ) (u : ℕ) where
   abbrev number : ℕ
   number = firstEqual r (recordsIn (take u s))
 
-  pub stored-refused : (x : ℕ) → Refused x ≡ spotOf r s u → Stored r s u (shelved.Refused x) s
+  past : shelveRefusal t r s u ≡ spotRefusal r s u
+  past = shelve-past t r s u stands
+
+  pub stored-refused : (x : ℕ) → Refused x ≡ spotOf r s u → Stored t r s u (shelved.Refused x) s
   unfolding spotOf shelveAnswer shelvedBytes
   stored-refused x e =
-      let t = refused-tells number (shelveRefusal r s u) (eqb (shelveRefusal r s u) 0) (eqb number (length (recordsIn (take u s)))) _ e in
-      record { answered = rw (t .0, t .1); bytes = rw (t .0) }
+      let q = refused-tells number (spotRefusal r s u) (eqb (spotRefusal r s u) 0) (eqb number (length (recordsIn (take u s)))) _ e in
+      record { answered = rw (past, q .0, q .1); bytes = rw (past, q .0) }
 
-  pub stored-there : (n : ℕ) → There n ≡ spotOf r s u → Stored r s u (shelved.At n u) s
+  pub stored-there : (n : ℕ) → There n ≡ spotOf r s u → Stored t r s u (shelved.At n u) s
   unfolding spotOf shelveAnswer shelvedBytes
   stored-there n e =
-      let t = there-tells number (shelveRefusal r s u) (eqb (shelveRefusal r s u) 0) (eqb number (length (recordsIn (take u s)))) _ e in
-      record { answered = rw (t .0, t .1, t .2); bytes = rw (t .0, t .1) }
+      let q = there-tells number (spotRefusal r s u) (eqb (spotRefusal r s u) 0) (eqb number (length (recordsIn (take u s)))) _ e in
+      record { answered = rw (past, q .0, q .1, q .2); bytes = rw (past, q .0, q .1) }
 
   module _ (n : ℕ) (e : New n ≡ spotOf r s u) where
-    is-new : (eqb (shelveRefusal r s u) 0 ≡ true) × (eqb number (length (recordsIn (take u s))) ≡ true) × (n ≡ number)
+    is-new : (eqb (spotRefusal r s u) 0 ≡ true) × (eqb number (length (recordsIn (take u s))) ≡ true) × (n ≡ number)
     unfolding spotOf
     is-new =
-        new-tells number (shelveRefusal r s u) (eqb (shelveRefusal r s u) 0) (eqb number (length (recordsIn (take u s)))) _ e
+        new-tells number (spotRefusal r s u) (eqb (spotRefusal r s u) 0) (eqb number (length (recordsIn (take u s)))) _ e
 
-    pub stored-new : (s′ : List ℕ) → s′ ≡ take u s ++ front r (drop u s) → Stored r s u (shelved.At n (u + length r)) s′
+    pub stored-new : (s′ : List ℕ) → s′ ≡ take u s ++ front r (drop u s) → Stored t r s u (shelved.At n (u + length r)) s′
     unfolding shelveAnswer shelvedBytes
-    stored-new s′ p = let t = is-new in record { answered = rw (t .0, t .1, t .2); bytes = p ∙ rw (t .0, t .1) }
+    stored-new s′ p = let q = is-new in record { answered = rw (past, q .0, q .1, q .2); bytes = p ∙ rw (past, q .0, q .1) }
 
     pub new-fits : u + length r ≤ length s
     new-fits =
-        let t = is-new in
-        let (head, fine, room) = shelve-none r s u (eqb-true _ 0 (t .0)) in
+        let q = is-new in
+        let (head, fine, room) = spot-none r s u (eqb-true _ 0 (q .0)) in
         let f = used-fine s u fine in
-        let l = room (t .1) in
+        let l = room (q .1) in
         omega arith
+
+-- ---- a table that loading never gives
+
+pub stored-no-table : (t : Table) (r s : List ℕ) (u : ℕ) → tableRefused t ≡ true → Stored t r s u (shelved.Refused 19) s
+unfolding shelveRefusal shelveAnswer shelvedBytes
+stored-no-table t r s u e = record { answered = rw (table-first t _ e); bytes = rw (table-first t _ e) }
 
 -- ---- putting
 

@@ -135,9 +135,13 @@ fn put(shelf: &mut [u8], at: usize, record: &[u8])
     }
 }
 
-pub fn shelve(record: &[u8], shelf: &mut [u8], used: usize) -> model::Shelved
-    ensures { λ r. ⌜ Stored (now («record» .entry)) (now (shelf .entry)) used r (now (shelf .exit)) ⌝ }
+// The table is tested; the bytes are shelved as they are.
+pub fn shelve(table: model::Table, record: &[u8], shelf: &mut [u8], used: usize) -> model::Shelved
+    ensures { λ r. ⌜ Stored table (now («record» .entry)) (now (shelf .entry)) used r (now (shelf .exit)) ⌝ }
 {
+    if !tables::is_loaded(&table.bytes, &table.inverse) {
+        return model::Shelved::Refused(19);
+    }
     match spot_of(record, shelf, used) {
         Spot::Refused(number) => model::Shelved::Refused(number),
         Spot::There(n) => model::Shelved::At(n, used),

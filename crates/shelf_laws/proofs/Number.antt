@@ -16,7 +16,7 @@ use native.Mathlib.Omega.{arith}
 use lib.ListN.{length, getD, take}
 use lib.Seq.{take-suc, take-all}
 use Rattle.model.specs.Shelf.{same, firstEqual, met}
-use Rattle.searching.proofs.Equality.{same-refl, same-eq}
+use Rattle.model.proofs.Same.{same-refl, same-eq}
 
 pub first-bound : (r : List ℕ) (rs : List (List ℕ)) → firstEqual r rs ≤ length rs
 unfolding firstEqual

@@ -15,11 +15,12 @@ use lib.Dec.{eqb}
 use lib.ListN.{length, getD, take, drop, length-append, List·getD-append}
 use lib.Seq.{length-take-le, take-append-add, take-append-seam}
 use borrow.Author.Tests.{lt-ltb, le-ltb, eq-eqb, ne-eqb, eqb-true, eqb-false}
+use Rattle.model.specs.declared.Table.{Table}
 use Rattle.model.specs.declared.Shelved.{Shelved}
 use Rattle.model.specs.declared.Shelved.the-variants.{At, Refused}
 use Rattle.model.specs.Numbers.{firstRefusal}
 use Rattle.model.specs.Shelf.{headRefusal, passes, recordsIn, endToEnd, firstEqual, shelfRefused}
-use Rattle.model.specs.Calls.{front, shelveRefusal, shelveAnswer, shelvedBytes, Stored, fetchRefusal, fetched, Fetched}
+use Rattle.model.specs.Calls.{front, tableRefused, shelveRefusal, shelveAnswer, shelvedBytes, Stored, fetchRefusal, fetched, Fetched}
 use Rattle.model.proofs.Heads.{head-first}
 use Rattle.shelf.proofs.Refusals.{fetch-none, shelve-none}
 use Rattle.shelf.proofs.Walking.{used-fine}
@@ -55,10 +56,10 @@ pub record Accepted (r s : List ℕ) (u n u′ : ℕ) (s′ : List ℕ) : Type 0
       → (k < length (records s′ u′)) × (getD (records s′ u′) k [] ≡ getD (records s u) k [])
 
 -- nothing was stored: the record is there
-module _ (r s : List ℕ) (u : ℕ) (e : shelveRefusal r s u ≡ 0) (d : unlike r s u ≡ false) where
+module _ (t : Table) (r s : List ℕ) (u : ℕ) (e : shelveRefusal t r s u ≡ 0) (d : unlike r s u ≡ false) where
   found : Accepted r s u (firstEqual r (records s u)) u s
   found =
-      let (head, fine, room) = shelve-none r s u e in
+      let (head, fine, room) = shelve-none t r s u e in
       let b = first-bound r (records s u) in
       let n = eqb-false _ _ d in
       record {
@@ -73,13 +74,13 @@ module _ (r s : List ℕ) (u : ℕ) (e : shelveRefusal r s u ≡ 0) (d : unlike 
       lt-of-ne a b h n = omega arith
 
 -- the record was put just past the used bytes
-module _ (r s : List ℕ) (u : ℕ) (e : shelveRefusal r s u ≡ 0) (d : unlike r s u ≡ true) where
+module _ (t : Table) (r s : List ℕ) (u : ℕ) (e : shelveRefusal t r s u ≡ 0) (d : unlike r s u ≡ true) where
   abbrev after : List ℕ
   after = take u s ++ front r (drop u s)
 
   room : (u ≤ length s) × (u + length r ≤ length s)
   room =
-      let (head, fine, space) = shelve-none r s u e in
+      let (head, fine, space) = shelve-none t r s u e in
       let f = used-fine s u fine in
       let l = space d in
       (f .0, omega arith)
@@ -94,11 +95,11 @@ module _ (r s : List ℕ) (u : ℕ) (e : shelveRefusal r s u ≡ 0) (d : unlike 
 
   record-passes : passes r ≡ true
   unfolding passes
-  record-passes = eq-eqb _ _ (shelve-none r s u e .0)
+  record-passes = eq-eqb _ _ (shelve-none t r s u e .0)
 
   behind : (endToEnd (take (u + length r) after) ≡ true) × (recordsIn (take (u + length r) after) ≡ records s u ++ (r ∷ []))
   behind =
-      let m = one-more (take u s) r (used-fine s u (shelve-none r s u e .1) .1) record-passes in
+      let m = one-more (take u s) r (used-fine s u (shelve-none t r s u e .1) .1) record-passes in
       (ap endToEnd used-after ∙ m .0, ap recordsIn used-after ∙ m .1)
 
   length-after : u + length r ≤ length after
@@ -118,36 +119,36 @@ module _ (r s : List ℕ) (u : ℕ) (e : shelveRefusal r s u ≡ 0) (d : unlike 
       let l = ap length (behind .1) ∙ length-append (records s u) (r ∷ []) in
       let n = all-unlike in
       record {
-        head-fine = shelve-none r s u e .0;
+        head-fine = shelve-none t r s u e .0;
         after-fine = rw (le-ltb _ _ length-after, behind .0);
         number-first = ap (firstEqual r) (behind .1) ∙ (first-behind r (records s u) n ∙ sym n);
         number-there = omega arith;
         earlier = λ k h. (omega arith, ap (λ (rs : List (List ℕ)). getD rs k []) (behind .1) ∙ List·getD-append (records s u) (r ∷ []) [] k h);
       }
 
-pub accepted : (r s : List ℕ) (u n u′ : ℕ) (s′ : List ℕ) → Stored r s u (At n u′) s′ → Accepted r s u n u′ s′
+pub accepted : (t : Table) (r s : List ℕ) (u n u′ : ℕ) (s′ : List ℕ) → Stored t r s u (At n u′) s′ → Accepted r s u n u′ s′
 unfolding shelveAnswer shelvedBytes
-accepted r s u n u′ s′ c =
-    go (eqb (shelveRefusal r s u) 0) (unlike r s u) refl refl (c .answered) (c .bytes)
+accepted t r s u n u′ s′ c =
+    go (eqb (shelveRefusal t r s u) 0) (unlike r s u) refl refl (c .answered) (c .bytes)
   where
-    go : (a b : Bool) → eqb (shelveRefusal r s u) 0 ≡ a → unlike r s u ≡ b
-        → At n u′ ≡ cond a (At (firstEqual r (records s u)) (cond b (u + length r) u)) (Refused (shelveRefusal r s u))
+    go : (a b : Bool) → eqb (shelveRefusal t r s u) 0 ≡ a → unlike r s u ≡ b
+        → At n u′ ≡ cond a (At (firstEqual r (records s u)) (cond b (u + length r) u)) (Refused (shelveRefusal t r s u))
         → s′ ≡ cond (a && b) (take u s ++ front r (drop u s)) s → Accepted r s u n u′ s′
     go true true p q e f =
         let n-is : n ≡ firstEqual r (records s u) = cc e in
         let u-is : u′ ≡ u + length r = cc e in
-        rw (n-is, u-is, f) (stored r s u (eqb-true _ _ p) q)
+        rw (n-is, u-is, f) (stored t r s u (eqb-true _ _ p) q)
     go true false p q e f =
         let n-is : n ≡ firstEqual r (records s u) = cc e in
         let u-is : u′ ≡ u = cc e in
-        rw (n-is, u-is, f) (found r s u (eqb-true _ _ p) q)
+        rw (n-is, u-is, f) (found t r s u (eqb-true _ _ p) q)
     go false b p q e f = let z : true ≡ false = cc e in absurd (true≢false z)
 
 -- ---- the theorems
 
-module _ (r s : List ℕ) (u n u′ : ℕ) (s′ : List ℕ) (c : Stored r s u (At n u′) s′) where
+module _ (t : Table) (r s : List ℕ) (u n u′ : ℕ) (s′ : List ℕ) (c : Stored t r s u (At n u′) s′) where
   here : Accepted r s u n u′ s′
-  here = accepted r s u n u′ s′ c
+  here = accepted t r s u n u′ s′ c
 
   -- what was shelved is fetched back under its number
   pub fetched-back : (part : List ℕ) (number : ℕ) → Fetched s′ u′ n part number → (part ≡ r) × (number ≡ 0)
@@ -172,22 +173,23 @@ module _ (r s : List ℕ) (u n u′ : ℕ) (s′ : List ℕ) (c : Stored r s u (
         fetched-record s′ u′ k (a .after-fine) (b .0) ∙ (b .1 ∙ sym (fetched-record s u k fine there)),
       )
 
-  -- a second shelving of the same bytes gives the same number and used length, and changes nothing
-  pub again : (answer : Shelved) (s″ : List ℕ) → Stored r s′ u′ answer s″ → (answer ≡ At n u′) × (s″ ≡ s′)
+  -- a second shelving of the same bytes, under any table that loading gives, gives the same number and used length, and changes nothing
+  pub again : (again-under : Table) → tableRefused again-under ≡ false → (answer : Shelved) (s″ : List ℕ) → Stored again-under r s′ u′ answer s″
+      → (answer ≡ At n u′) × (s″ ≡ s′)
   unfolding shelveAnswer shelvedBytes shelveRefusal firstRefusal
-  again answer s″ d =
+  again again-under stands answer s″ d =
       let a = here in
       let first = a .number-first in
       let there = a .number-there in
       let new : eqb n (length (records s′ u′)) ≡ false = ne-eqb n (length (records s′ u′)) (λ e. omega arith) in
-      (d .answered ∙ rw (head-first r, a .head-fine, a .after-fine, first, new), d .bytes ∙ rw (head-first r, a .head-fine, a .after-fine, first, new))
+      (d .answered ∙ rw (stands, head-first r, a .head-fine, a .after-fine, first, new), d .bytes ∙ rw (stands, head-first r, a .head-fine, a .after-fine, first, new))
 
-pub refused-kept : (r s : List ℕ) (u x : ℕ) (s′ : List ℕ) → Stored r s u (Refused x) s′ → (s′ ≡ s) × (x ≡ shelveRefusal r s u)
+pub refused-kept : (t : Table) (r s : List ℕ) (u x : ℕ) (s′ : List ℕ) → Stored t r s u (Refused x) s′ → (s′ ≡ s) × (x ≡ shelveRefusal t r s u)
 unfolding shelveAnswer shelvedBytes
-refused-kept r s u x s′ c =
-    go (eqb (shelveRefusal r s u) 0) (unlike r s u) (c .answered) (c .bytes)
+refused-kept t r s u x s′ c =
+    go (eqb (shelveRefusal t r s u) 0) (unlike r s u) (c .answered) (c .bytes)
   where
-    go : (a b : Bool) → Refused x ≡ cond a (At (firstEqual r (records s u)) (cond b (u + length r) u)) (Refused (shelveRefusal r s u))
-        → s′ ≡ cond (a && b) (take u s ++ front r (drop u s)) s → (s′ ≡ s) × (x ≡ shelveRefusal r s u)
+    go : (a b : Bool) → Refused x ≡ cond a (At (firstEqual r (records s u)) (cond b (u + length r) u)) (Refused (shelveRefusal t r s u))
+        → s′ ≡ cond (a && b) (take u s ++ front r (drop u s)) s → (s′ ≡ s) × (x ≡ shelveRefusal t r s u)
     go true b e f = let z : true ≡ false = cc e in absurd (true≢false z)
     go false b e f = (f, cc e)

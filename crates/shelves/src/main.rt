@@ -65,7 +65,7 @@ fn shelve(record: &[u8], shelf: &mut [u8], used: usize) -> usize {
     show_bytes(record);
     show(b", used ", used);
     show(b" of ", shelf.len());
-    match shelf::shelve(record, shelf, used) {
+    match shelf::shelve(tables::standard(), record, shelf, used) {
         Shelved::At(n, end) => {
             show(b": record ", n);
             show(b", used ", end);

@@ -2,39 +2,45 @@
 --
 --   letters-asked, letters-packed   family 4: what packing the letters asks, and what it leaves
 --   word-asked, bytes-asked, bytes-packed   another: what the pass over the word and the packing ask, and what they leave
+--   untabled, table-asked, tabled   what the table makes of it: nothing, or what that asks and leaves
 --   small                the plan and its record are small
 --   mapped               where the outside is stored, its number can be found
 --   head-room, payload-asked   what the head and the payload ask
 --   recorded             what they leave
-use Prim.Native.Nat.{ℕ, _+_, _*_, _/_, _%_, _≤_, _<_}
+use Prim.Native.Nat.{ℕ, _+_, _*_, _/_, _%_, _^_, _≤_, _<_}
 use native.Mathlib.Omega.{arith}
-use mathlib.Core.Path.{_≡_, refl, sym, ap, subst, _∙_}
+use mathlib.Core.Path.{_≡_, refl, sym, ap, ap₂, subst, _∙_}
 use mathlib.Core.Logic.{_≢_}
 use mathlib.Core.Bool.{Bool, true, false, cond, false≢true}
 use mathlib.Core.List.{List, [], _++_, map}
-use lib.ListN.{length}
+use lib.ListN.{length, getD, take, drop, length-map, length-drop, take-append-drop}
+use lib.Seq.{length-take-le}
 use borrow.Author.Tests.{ne-eqb}
+use Rattle.model.specs.declared.Table.{Table}
 use Rattle.model.specs.Numbers.{elem, allBelow}
 use Rattle.model.specs.Map.{Plan, darts, edges, isFamily, storesOutside, family}
 use Rattle.model.specs.Traversal.{Letter, code, word, standardFace}
-use Rattle.model.specs.Record.{bytesFor, le16, headLength, recordLength, labelBase, payload, headed, payloadOf, outsideBytes, recordOf}
+use Rattle.model.specs.Groups.{standardTable}
+use Rattle.model.specs.Record.{bytesFor, le16, headLength, payloadLength, recordLength, labelBase, headed, payloadOf, outsideBytes, recordOf}
 use Rattle.model.specs.Calls.{front}
 use Rattle.model.proofs.Fitness.{fit-parts, count-parts}
 use Rattle.model.proofs.Outside.{fit-widest}
-use Rattle.model.proofs.Heads.{family-four, kind-family, headLength-range, recordLength-range}
+use Rattle.model.proofs.Heads.{family-two, family-four, kind-family, headLength-range, recordLength-range}
 use Rattle.words.specs.Word.{valid}
 use Rattle.words.proofs.Validity.{valid-fits, valid-strict, valid-plain, valid-of}
 use Rattle.machine.proofs.Sizes.{labels-bound}
 use Rattle.machine.proofs.Bounds.{bits-below}
-use Rattle.packing.specs.Payload.{hasLabels, Sized, extraBytes}
+use Rattle.packing.specs.Payload.{hasLabels, valuePayload, Sized, extraBytes}
+use Rattle.packing.proofs.Groups.{relabelled-other, relabelled-two}
 use Rattle.packing.proofs.Labelled.{labelled-strict, labelled-other}
 use Rattle.packing.proofs.Payload.{payload-length}
 use Rattle.lists.proofs.Records.{record-sized}
 use Rattle.coding.specs.Payloads.{encodeLabelled, encodePayload}
 use Rattle.coding.proofs.FitPlans.{fit-valid}
-use Rattle.coding.proofs.Coders.{payload-of-word}
+use Rattle.coding.proofs.Coders.{encode-sized, encode-values, payload-of-word}
 use Rattle.coding.proofs.Records.{coderOf}
-use Rattle.work.specs.Area.{placed}
+use Rattle.work.specs.Area.{region, placed}
+use Rattle.work.proofs.Regions.{region-placed, length-placed, placed-placed, placed-next}
 use Rattle.work.specs.Letters.{lettersIn, Coded, workBits, workLabels}
 use Rattle.work.proofs.Letters.{length-letters, letters-code}
 use Rattle.outside.specs.Numbered.{Mapped}
@@ -42,7 +48,7 @@ use Rattle.encoder.specs.Encoded.{Encoded}
 use Rattle.packer.specs.Packed.{Headed}
 use Rattle.packer.proofs.Heads.{head-payload}
 use Rattle.packing.specs.Letters.{lettersPayload}
-use Rattle.writing.specs.Laid.{Ready, Packed, ToLay, Recorded}
+use Rattle.writing.specs.Laid.{Ready, Packed, Tabled, ToLay, Recorded}
 
 -- ---- the payload
 
@@ -93,7 +99,7 @@ module _ (n f at : ℕ) (w out : List ℕ) (r : Ready n f at w out) where
     abbrev labels : List ℕ
     labels = workLabels (2 * (n / 2)) w₁
 
-    pub bytes-asked : (hasLabels f ≡ true) × (n / 2 ≤ 4096) × (32 * (n / 2) ≤ length w₁) × (at ≤ 65536) × (at + length (payload f (n / 2) bits labels) ≤ length out)
+    pub bytes-asked : (hasLabels f ≡ true) × (n / 2 ≤ 4096) × (32 * (n / 2) ≤ length w₁) × (at ≤ 65536) × (at + length (valuePayload f (n / 2) bits labels) ≤ length out)
         × (allBelow 2 bits ≡ true) × (allBelow (labelBase f) labels ≡ true)
     bytes-asked =
         let c = counts in
@@ -111,12 +117,120 @@ module _ (n f at : ℕ) (w out : List ℕ) (r : Ready n f at w out) where
               ∙ labels-bound f (lettersIn n w) (valid-plain f (lettersIn n w) (r .proper)),
         )
 
-    pub bytes-packed : (out′ : List ℕ) → out′ ≡ placed at (payload f (n / 2) bits labels) out → Packed n f at w out w₁ out′
+    pub bytes-packed : (out′ : List ℕ) → out′ ≡ placed at (valuePayload f (n / 2) bits labels) out → Packed n f at w out w₁ out′
     unfolding encodePayload encodeLabelled
     bytes-packed out′ e = record {
-      filled = e ∙ ap (λ (m : ℕ). placed at (payload f (n / 2) (workBits m w₁) (workLabels m w₁)) out) half ∙ rw (ne-eqb f 4 d, t .bits, t .labels, size);
+      filled = e ∙ ap (λ (m : ℕ). placed at (valuePayload f (n / 2) (workBits m w₁) (workLabels m w₁)) out) half ∙ rw (ne-eqb f 4 d, t .bits, t .labels, size);
       kept = t .kept;
     }
+
+-- ---- the table
+
+module _ (bs : List ℕ) (n f at : ℕ) (w out : List ℕ) (r : Ready n f at w out) (w₁ out₁ : List ℕ) (q : Packed n f at w out w₁ out₁) where
+  -- the payload of values
+  abbrev ps : List ℕ
+  ps = encodePayload f (lettersIn n w)
+
+  pub untabled : f ≢ 2 → Tabled bs n f at w out w₁ out₁
+  untabled d = record { filled = q .filled ∙ ap (λ (xs : List ℕ). placed at xs out) (sym (relabelled-other f (n / 2) ps bs d)); kept = q .kept }
+
+  module _ (two : f ≡ 2) where
+    -- where the groups begin, and how many there are
+    abbrev front-bytes : ℕ
+    front-bytes = (n + 7) / 8
+
+    abbrev count : ℕ
+    count = (n / 2 + 4) / 5
+
+    begins : front-bytes ≡ bytesFor (2 * (n / 2)) 8
+    begins = ap (λ (j : ℕ). (j + 7) / 8) (sym (half n f at w out r))
+
+    halves : length (lettersIn n w) / 2 ≡ n / 2
+    halves = ap (λ (j : ℕ). j / 2) (size n f at w out r)
+
+    whole : length ps ≡ front-bytes + count
+    unfolding payloadLength
+    whole =
+        let l = encode-sized f (lettersIn n w) (r .proper) .long in
+        let e = begins in
+        let s = ap (payloadLength f) halves in
+        let d = family-two f (n / 2) two in
+        omega arith
+
+    values : allBelow 243 (drop front-bytes ps) ≡ true
+    values =
+        ap (λ (j : ℕ). allBelow 243 (drop j ps)) (begins ∙ ap (λ (j : ℕ). bytesFor (2 * j) 8) (sym halves))
+        ∙ encode-values f (lettersIn n w) (r .proper) two
+
+    fs : List ℕ
+    fs = take front-bytes ps
+
+    gs : List ℕ
+    gs = drop front-bytes ps
+
+    parts : (length fs ≡ front-bytes) × (length gs ≡ count) × (fs ++ gs ≡ ps)
+    unfolding fs gs
+    parts = let l = whole in
+        (length-take-le front-bytes ps (omega arith), length-drop front-bytes ps ∙ omega arith, take-append-drop front-bytes ps)
+
+    fits : at + length ps ≤ length out
+    fits =
+        let l = encode-sized f (lettersIn n w) (r .proper) .long in
+        let s = ap (payloadLength f) halves in
+        let z = r .space in
+        omega arith
+
+    -- the groups in the output
+    laid-groups : out₁ ≡ placed (at + front-bytes) gs (placed at fs out)
+    laid-groups =
+        let (lf, lg, e) = parts in
+        let z = fits in
+        let l = whole in
+        q .filled ∙ ap (λ (xs : List ℕ). placed at xs out) (sym e)
+        ∙ sym (rw lf at (placed-next at fs gs out (omega arith)))
+
+    room : at + front-bytes + count ≤ length (placed at fs out)
+    room =
+        let (lf, lg, e) = parts in
+        let z = fits in
+        let l = whole in
+        let k = length-placed at fs out (omega arith) in
+        omega arith
+
+    groups-there : region (at + front-bytes) count out₁ ≡ gs
+    groups-there =
+        let (lf, lg, e) = parts in
+        let z = room in
+        ap (region (at + front-bytes) count) laid-groups ∙ region-placed (at + front-bytes) gs (placed at fs out) (omega arith) count (sym lg)
+
+    pub table-asked : length bs ≡ 243 → (length bs ≡ 243) × (at + front-bytes + count ≤ length out₁) × (at + front-bytes ≤ 2 ^ 20) × (count ≤ 2 ^ 20)
+        × (allBelow 243 (region (at + front-bytes) count out₁) ≡ true)
+    unfolding gs
+    table-asked long =
+        let c = counts n f at w out r in
+        let (lf, lg, e) = parts in
+        let b = r .begins in
+        let z = room in
+        let k = ap length laid-groups ∙ length-placed (at + front-bytes) gs (placed at fs out) (omega arith) in
+        (long, omega arith, omega arith, omega arith, ap (allBelow 243) groups-there ∙ values)
+
+    pub tabled : (out₂ : List ℕ) → out₂ ≡ placed (at + front-bytes) (map (λ v. getD bs v 0) (region (at + front-bytes) count out₁)) out₁
+        → Tabled bs n f at w out w₁ out₂
+    unfolding fs gs
+    tabled out₂ e =
+        let (lf, lg, same) = parts in
+        let z = fits in
+        let l = whole in
+        let g = map (λ v. getD bs v 0) gs in
+        let lm : length g ≡ length gs = length-map gs (λ v. getD bs v 0) in
+        record {
+          filled = e ∙ ap₂ (λ (xs ys : List ℕ). placed (at + front-bytes) (map (λ v. getD bs v 0) xs) ys) groups-there laid-groups
+              ∙ placed-placed (at + front-bytes) gs (placed at fs out) (let k = room in omega arith) g lm
+              ∙ (rw lf at (placed-next at fs g out (omega arith)))
+              ∙ ap (λ (xs : List ℕ). placed at xs out)
+              (sym (relabelled-two f (n / 2) ps bs two ∙ ap (λ (j : ℕ). take j ps ++ map (λ v. getD bs v 0) (drop j ps)) (sym begins)));
+          kept = q .kept;
+        }
 
 -- ---- the record
 
@@ -127,11 +241,11 @@ module _ (k : ℕ) (p : Plan) (w out : List ℕ) (r : ToLay k p w out) where
   letters : lettersIn (darts p) w ≡ word p
   letters = letters-code (darts p) w (word p) (r .letters)
 
-  sized : Sized (family k) m (payloadOf (family k) p)
-  sized = record-sized k (coderOf k p (r .fits)) p (r .fits)
+  sized : (t : Table) → Sized (family k) m (payloadOf t (family k) p)
+  sized t = record-sized t k (coderOf k p (r .fits)) p (r .fits)
 
   range : (7 ≤ recordLength k m) × (recordLength k m ≤ 2056)
-  range = recordLength-range k m (sized .some-edge) (sized .few-edges)
+  range = let s = sized standardTable in recordLength-range k m (s .some-edge) (s .few-edges)
 
   pub small : (darts p ≤ 8192) × (recordLength k m < 65536)
   small = let z = range in (count-parts (darts p) (fit-parts k p (r .fits) .count) .2, omega arith)
@@ -166,16 +280,16 @@ module _ (k : ℕ) (p : Plan) (w out : List ℕ) (r : ToLay k p w out) where
         go true s = ap le16 (s refl)
         go false s = refl
 
-    pub recorded : (total f at : ℕ) (out₁ w₂ out₂ : List ℕ) → total ≡ recordLength k m → f ≡ family k
-        → Headed total k m x out at out₁ → Packed (darts p) f at w out₁ w₂ out₂ → Recorded k p w out total w₂ out₂
-    unfolding recordOf recordLength
-    recorded total f at out₁ w₂ out₂ t of h q =
-        let whole = payload-of-word k p (r .fits) in
-        let l = sized .long in
+    pub recorded : (t : Table) (bs : List ℕ) → t .bytes ≡ bs → (total f at : ℕ) (out₁ w₂ out₂ : List ℕ) → total ≡ recordLength k m → f ≡ family k
+        → Headed total k m x out at out₁ → Tabled bs (darts p) f at w out₁ w₂ out₂ → Recorded t k p w out total w₂ out₂
+    unfolding recordOf recordLength edges
+    recorded t bs same total f at out₁ w₂ out₂ e of h q =
+        let whole = payload-of-word k t p (r .fits) in
+        let l = sized t .long in
         let z = r .space in
         record {
-          answered = t;
-          filled = head-payload k m x total at (payloadOf (family k) p) out out₁ out₂ (omega arith) (omega arith) h (q .filled ∙ rw (of, letters, sym whole))
-              ∙ ap (λ (bs : List ℕ). front (headed k m (bs ++ payloadOf (family k) p)) out) extra;
+          answered = e;
+          filled = head-payload k m x total at (payloadOf t (family k) p) out out₁ out₂ (omega arith) (omega arith) h (q .filled ∙ rw (of, letters, ← same, sym whole))
+              ∙ ap (λ (xs : List ℕ). front (headed k m (xs ++ payloadOf t (family k) p)) out) extra;
           kept = q .kept;
         }

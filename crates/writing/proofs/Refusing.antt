@@ -1,6 +1,7 @@
 -- Writing's refusals, the early ones before those of the plan itself.
 --
---   refusal-split        writing's refusal is the early one, else the late one
+--   refusal-table        writing's refusal is 19 where loading never gives the table
+--   refusal-split        else it is the early one, else the late one
 --   early-not-ten        an early refusal is not 10
 --   not-below            a dart that is none of n
 --   two, three, four, seventeen, six, seven, eight, passed   the early refusals, test by test
@@ -12,20 +13,26 @@ use mathlib.Core.Bool.{true, false, not, cond}
 use mathlib.Core.List.{[], _∷_}
 use lib.Dec.{eqb, ltb, leb}
 use borrow.Author.Tests.{lt-ltb, le-ltb, le-leb, ltb-true, ltb-false, leb-true, not-false}
+use Rattle.model.specs.declared.Table.{Table}
 use Rattle.model.specs.Numbers.{firstRefusal, refuse, isPermutation}
 use Rattle.model.specs.Map.{Plan, darts, edges, isKind, family, dartCountFits, outsideRefused}
 use Rattle.model.specs.Record.{recordLength}
-use Rattle.model.specs.Calls.{earlyRefusals, lateRefusals, writeRefusal}
+use Rattle.model.specs.Calls.{tableRefused, earlyRefusals, lateRefusals, writeRefusal}
 use Rattle.model.proofs.Booleans.{not-intro}
 use Rattle.model.proofs.Fitness.{even-darts}
-use Rattle.model.proofs.Refusals.{none-holds, first-lacks, first-append}
+use Rattle.model.proofs.Refusals.{none-holds, first-lacks, first-append, table-stands, table-first}
 use Rattle.orbits.proofs.Order.{lt-or-le}
 use Rattle.fitting.specs.Judged.{lateRefusal}
 use Rattle.writing.specs.Early.{earlyRefusal}
 
-pub refusal-split : (k : ℕ) (p : Plan) (wl ol : ℕ) → writeRefusal k p wl ol ≡ cond (eqb (earlyRefusal k p wl ol) 0) (lateRefusal (family k) p) (earlyRefusal k p wl ol)
+pub refusal-table : (t : Table) (k : ℕ) (p : Plan) (wl ol : ℕ) → tableRefused t ≡ true → writeRefusal t k p wl ol ≡ 19
+unfolding writeRefusal
+refusal-table t k p wl ol e = table-first t _ e
+
+pub refusal-split : (t : Table) (k : ℕ) (p : Plan) (wl ol : ℕ) → tableRefused t ≡ false
+    → writeRefusal t k p wl ol ≡ cond (eqb (earlyRefusal k p wl ol) 0) (lateRefusal (family k) p) (earlyRefusal k p wl ol)
 unfolding writeRefusal earlyRefusal earlyRefusals lateRefusal
-refusal-split k p wl ol = first-append (earlyRefusals k p wl ol) (lateRefusals (family k) p) refl
+refusal-split t k p wl ol stands = table-stands t _ stands ∙ first-append (earlyRefusals k p wl ol) (lateRefusals (family k) p) refl
 
 pub early-not-ten : (k : ℕ) (p : Plan) (wl ol : ℕ) → eqb (earlyRefusal k p wl ol) 10 ≡ false
 unfolding earlyRefusal earlyRefusals

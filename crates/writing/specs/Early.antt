@@ -6,6 +6,7 @@ use Prim.Native.Nat.{ℕ}
 use mathlib.Core.Path.{_≡_}
 use mathlib.Core.List.{List}
 use lib.ListN.{length}
+use Rattle.model.specs.declared.Table.{Table}
 use Rattle.model.specs.declared.Written.{Written}
 use Rattle.model.specs.Numbers.{firstRefusal}
 use Rattle.model.specs.Map.{Plan}
@@ -14,7 +15,7 @@ use Rattle.model.specs.Calls.{earlyRefusals, writeAnswer, writtenOutput}
 unfoldable pub earlyRefusal : ℕ → Plan → ℕ → ℕ → ℕ
 earlyRefusal k p workLength outLength = firstRefusal (earlyRefusals k p workLength outLength)
 
-pub record Made (k : ℕ) (p : Plan) (work out : List ℕ) (answer : Written) (work′ out′ : List ℕ) : Type 0 where
-  pub answered : answer ≡ writeAnswer k p (length work) (length out)
-  pub filled : out′ ≡ writtenOutput k p (length work) out
+pub record Made (t : Table) (k : ℕ) (p : Plan) (work out : List ℕ) (answer : Written) (work′ out′ : List ℕ) : Type 0 where
+  pub answered : answer ≡ writeAnswer t k p (length work) (length out)
+  pub filled : out′ ≡ writtenOutput t k p (length work) out
   pub kept : length work′ ≡ length work

@@ -1,19 +1,23 @@
 -- The record of a plan that fits, from what is in the work area.
 --
 --   Ready                a valid word in the work area, and room for its payload
---   Packed               that payload in the output
+--   Packed               that payload in the output, with group values for their bytes
+--   Tabled               that payload in the output, under the bytes of a table
 --   ToLay                a fit plan, its word and the names of its faces in the work area, and room for its record
 --   Recorded             that record in the output
+--   RecordedUnder        it is there under every table with these bytes
 use Prim.Native.Nat.{ℕ, _+_, _*_, _/_, _≤_}
 use mathlib.Core.Path.{_≡_}
 use mathlib.Core.Bool.{true}
 use mathlib.Core.List.{List, map}
 use lib.ListN.{length}
+use Rattle.model.specs.declared.Table.{Table}
 use Rattle.model.specs.Map.{Plan, darts, edges, isFamily, fit}
 use Rattle.model.specs.Traversal.{code, word}
 use Rattle.model.specs.Record.{payloadLength, recordLength, recordOf}
 use Rattle.model.specs.Calls.{front}
 use Rattle.words.specs.Word.{valid}
+use Rattle.packing.specs.Groups.{relabelled}
 use Rattle.coding.specs.Payloads.{encodePayload}
 use Rattle.work.specs.Map.{LETTERS}
 use Rattle.work.specs.Area.{region, placed}
@@ -32,6 +36,10 @@ pub record Packed (n f at : ℕ) (w out w′ out′ : List ℕ) : Type 0 where
   pub filled : out′ ≡ placed at (encodePayload f (lettersIn n w)) out
   pub kept : length w′ ≡ length w
 
+pub record Tabled (bs : List ℕ) (n f at : ℕ) (w out w′ out′ : List ℕ) : Type 0 where
+  pub filled : out′ ≡ placed at (relabelled bs f (n / 2) (encodePayload f (lettersIn n w))) out
+  pub kept : length w′ ≡ length w
+
 pub record ToLay (k : ℕ) (p : Plan) (w out : List ℕ) : Type 0 where
   pub fits : fit k p ≡ true
   pub letters : region (LETTERS * darts p) (darts p) w ≡ map code (word p)
@@ -39,7 +47,10 @@ pub record ToLay (k : ℕ) (p : Plan) (w out : List ℕ) : Type 0 where
   pub room : 16 * darts p ≤ length w
   pub space : recordLength k (edges (p .rotation)) ≤ length out
 
-pub record Recorded (k : ℕ) (p : Plan) (w out : List ℕ) (answer : ℕ) (w′ out′ : List ℕ) : Type 0 where
+pub record Recorded (t : Table) (k : ℕ) (p : Plan) (w out : List ℕ) (answer : ℕ) (w′ out′ : List ℕ) : Type 0 where
   pub answered : answer ≡ recordLength k (edges (p .rotation))
-  pub filled : out′ ≡ front (recordOf k p) out
+  pub filled : out′ ≡ front (recordOf t k p) out
   pub kept : length w′ ≡ length w
+
+abbrev pub RecordedUnder : List ℕ → ℕ → Plan → List ℕ → List ℕ → ℕ → List ℕ → List ℕ → Type 0
+RecordedUnder bs k p w out answer w′ out′ = (t : Table) → t .bytes ≡ bs → Recorded t k p w out answer w′ out′

@@ -8,13 +8,13 @@ returns : tie.Need-returns
 returns c =
     let call = c .before .before .before .before .before .before .before .read in
     let answer = c .before .answer in
-    read-out _ _ _ _ (readback.Edges (answer .given .0 .0) (answer .given .0 .1 .0)) _ _ (call .ensures) (answer .given .1)
+    read-out _ _ _ _ _ (readback.Edges (answer .given .0 .0) (answer .given .0 .1 .0)) _ _ (call .ensures) (answer .given .1)
 
 returns-2 : tie.Need-returns-2
 returns-2 c =
     let call = c .before .before .before .before .before .before .before .read in
     let answer = c .before .answer2 in
-    read-out _ _ _ _ (readback.Refused (answer .given .0 .0)) _ _ (call .ensures) (answer .given .1)
+    read-out _ _ _ _ _ (readback.Refused (answer .given .0 .0)) _ _ (call .ensures) (answer .given .1)
 
 pub jurnadel-read-spec : {M : Type 1} → statement M
 jurnadel-read-spec =

@@ -10,18 +10,18 @@ use Rattle.jurnadel.proofs.jurnadel_write.Tie as tie
 returns : tie.Need-returns
 returns c = let call = c .before .before .before .before .before .before .before .write in
     let answer = c .before .answer in
-    write-out _ _ _ _ _ (written.Length (answer .given .0 .0)) _ _ (call .ensures) (answer .given .1)
+    write-out _ _ _ _ _ _ (written.Length (answer .given .0 .0)) _ _ (call .ensures) (answer .given .1)
 
 returns-2 : tie.Need-returns-2
 returns-2 c = let call = c .before .before .before .before .before .before .before .write in
     let answer = c .before .answer2 in
-    write-out _ _ _ _ _ (written.Refused (answer .given .0 .0)) _ _ (call .ensures) (answer .given .1)
+    write-out _ _ _ _ _ _ (written.Refused (answer .given .0 .0)) _ _ (call .ensures) (answer .given .1)
 
 returns-3 : tie.Need-returns-3
 returns-3 c = let call = c .before .before .before .before .before .before .before .write in
     let answer = c .before .answer3 in
     let fits : SFits w32 (answer .given .0 .0) = record { sfits = c .known-told3 .given .0 .1 } in
-    rw (toZ-ofZ fits) (write-out _ _ _ _ _ (written.NotPlanar (answer .given .0 .0)) _ _ (call .ensures) (answer .given .1))
+    rw (toZ-ofZ fits) (write-out _ _ _ _ _ _ (written.NotPlanar (answer .given .0 .0)) _ _ (call .ensures) (answer .given .1))
 
 pub jurnadel-write-spec : {M : Type 1} → statement M
 jurnadel-write-spec =

@@ -4,16 +4,23 @@ use Rattle.reading.proofs.decode.Statement.{statement}
 use Rattle.reading.proofs.decode.Tie as tie
 
 decode-requires : tie.Need-decode-requires
-decode-requires c κs = let p = c .before .before .before .before .pre in (letters-asked _ _ _ (p .0) (c .before .if1 .taken), p .1)
+decode-requires c κs = let p = c .before .before .before .before .before .pre in (letters-asked _ _ _ (p .0 .0) (c .before .if1 .taken), p .1)
 
 returns : tie.Need-returns
-returns c = letters-answered _ _ _ _ _ (c .before .before .before .before .if1 .taken) (c .before .before .decode .ensures)
+returns c =
+    let a = c .before .before .before .before .before .before .before .before .args in
+    letters-answered (a .inverse .now) _ _ (a .payload .now) _ _ (c .before .before .before .before .if1 .taken) (c .before .before .decode .ensures)
 
 decode-requires-2 : tie.Need-decode-requires-2
-decode-requires-2 c κs = let p = c .before .before .before .before .pre in (labels-asked _ _ _ (p .0) (c .before .if1 .left), p .1)
+decode-requires-2 c κs =
+    let st = c .before .before .before .before .before in
+    let p = st .pre in
+    (labels-asked _ _ _ (p .0 .0) (st .args .inverse .now) (p .0 .1) (c .before .if1 .left), p .1)
 
 returns-2 : tie.Need-returns-2
-returns-2 c = labels-answered _ _ _ _ _ (c .before .before .before .before .if1 .left) (c .before .before .decode2 .ensures)
+returns-2 c =
+    let a = c .before .before .before .before .before .before .before .before .args in
+    labels-answered (a .inverse .now) _ _ (a .payload .now) _ _ (c .before .before .before .before .if1 .left) (c .before .before .decode2 .ensures)
 
 pub decode-spec : {M : Type 1} → statement M
 decode-spec =

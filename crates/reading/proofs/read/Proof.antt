@@ -10,7 +10,7 @@ returns : tie.Need-returns
 unfolding zeros
 returns c =
     let r = c .before .before .before .before .before .before .before .before .read-out in
-    record { outcome = r .ensures; cleared = c .before .before .clear .ensures ∙ ap (λ (n : ℕ). replicate n 0) (r .kept .1 .0) }
+    record { outcome = r .ensures; cleared = c .before .before .clear .ensures ∙ ap (λ (n : ℕ). replicate n 0) (r .kept .1 .1 .1 .0) }
 
 pub read-spec : {M : Type 1} → statement M
 read-spec =

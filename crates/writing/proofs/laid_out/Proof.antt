@@ -6,23 +6,23 @@ use Rattle.writing.proofs.laid_out.Statement.{statement}
 use Rattle.writing.proofs.laid_out.Tie as tie
 
 cast-m : tie.Need-cast-m
-cast-m c = let s = small _ _ _ _ (c .before .before .before .pre) in omega arith
+cast-m c = let s = small _ _ _ _ (c .before .before .before .before .pre .1) in omega arith
 
 stored-requires : tie.Need-stored-requires
-stored-requires c κs = mapped _ _ _ _ (c .before .before .before .before .pre)
+stored-requires c κs = mapped _ _ _ _ (c .before .before .before .before .before .pre .1)
 
 cast-length : tie.Need-cast-length
 unfolding edges
-cast-length c = let s = small _ _ _ _ (c .before .before .before .before .before .before .pre) in omega (arith, c .record-length .ensures)
+cast-length c = let s = small _ _ _ _ (c .before .before .before .before .before .before .before .pre .1) in omega (arith, c .record-length .ensures)
 
 put-head-requires : tie.Need-put-head-requires
-put-head-requires c κs = head-room _ _ _ _ (c .before .before .before .before .before .before .before .pre)
+put-head-requires c κs = head-room _ _ _ _ (c .before .before .before .before .before .before .before .before .pre .1)
 
 put-payload-requires : tie.Need-put-payload-requires
 put-payload-requires c κs =
     let h = c .before .before .before .before .before in
-    let st = h .before .before .before .before .before .before .before .before in
-    payload-asked _ _ _ _ (st .pre) _ _ _ (c .before .family .ensures) (h .put-head .ensures .begins) (h .put-head .kept .0)
+    let st = h .before .before .before .before .before .before .before .before .before in
+    (st .pre .0, payload-asked _ _ _ _ (st .pre .1) _ _ _ (c .before .family .ensures) (h .put-head .ensures .begins) (h .put-head .kept .0))
 
 returns : tie.Need-returns
 unfolding edges
@@ -30,8 +30,9 @@ returns c =
     let q = c .before .before .before .before in
     let h = q .before .before .before .before .before .before in
     let x = h .before .before .before in
-    let st = x .before .before .before .before .before in
-    recorded _ _ _ _ (st .pre) _ (x .stored .ensures) _ _ _ _ _ _ (h .before .before .record-length .ensures) (q .before .before .family .ensures)
+    let st = x .before .before .before .before .before .before in
+    λ t same.
+    recorded _ _ _ _ (st .pre .1) _ (x .stored .ensures) t _ same _ _ _ _ _ _ (h .before .before .record-length .ensures) (q .before .before .family .ensures)
     (h .put-head .ensures) (q .put-payload .ensures)
 
 pub laid-out-spec : {M : Type 1} → statement M

@@ -1,40 +1,33 @@
-use Rattle.writing.proofs.Laying.{letters-asked, letters-packed, word-asked, bytes-asked, bytes-packed}
+use Rattle.writing.proofs.Laying.{untabled, table-asked, tabled}
 use borrow.Author.Needs.{needs}
 use Rattle.writing.proofs.put_payload.Statement.{statement}
 use Rattle.writing.proofs.put_payload.Tie as tie
 
-put-payload-requires : tie.Need-put-payload-requires
-put-payload-requires c κs = letters-asked _ _ _ _ _ (c .before .before .before .before .before .pre) (c .before .before .if1 .taken)
-
 returns : tie.Need-returns
-returns c =
-    letters-packed _ _ _ _ _ (c .before .before .before .before .before .before .before .before .pre) (c .before .before .before .before .before .if1 .taken) _
-    (c .before .before .put-payload .ensures)
+returns c = untabled _ _ _ _ _ _ (c .before .before .before .before .before .before .before .before .before .before .before .pre .1) _ _ (c .before .before .before .before .before .put-values .ensures) (c .if1 .taken)
 
-encode-requires : tie.Need-encode-requires
-encode-requires c κs = word-asked _ _ _ _ _ (c .before .before .before .before .pre) (c .before .if1 .left)
-
-put-payload-requires-2 : tie.Need-put-payload-requires-2
-put-payload-requires-2 c κs =
-    let e = c .before .before .before .before in
-    bytes-asked _ _ _ _ _ (e .before .before .before .before .before .pre) (e .before .before .if1 .left) _ (e .encode .ensures)
+apply-requires : tie.Need-apply-requires
+apply-requires c κs =
+    let st = c .before .before .before .before .before .before .before .before .before .before .before .before in
+    table-asked (st .args .bytes .now) _ _ _ _ _ (st .pre .1) _ _ (c .before .before .before .before .before .before .put-values .ensures) (c .before .if1 .left) (st .pre .0)
 
 returns-2 : tie.Need-returns-2
 returns-2 c =
-    let e = c .before .before .before .before .before .before .before in
-    bytes-packed _ _ _ _ _ (e .before .before .before .before .before .pre) (e .before .before .if1 .left) _ (e .encode .ensures) _
-    (c .before .before .put-payload2 .ensures)
+    let a = c .before .before .before .before .before .before .before .before .before .before .before .before .before .before .before in
+    tabled (a .args .bytes .now) _ _ _ _ _ (a .pre .1) _ _ (c .before .before .before .before .before .before .before .before .before .put-values .ensures) (c .before .before .before .before .if1 .left) _ (c .before .before .apply .ensures)
 
 pub put-payload-spec : {M : Type 1} → statement M
 put-payload-spec =
     tie.close
     (tie.spec
-    put-payload-requires
+    (λ c κs. search needs)
     (λ c. search needs)
     (λ c. search needs)
     returns
-    encode-requires
-    put-payload-requires-2
+    (λ c. search needs)
+    (λ c. search needs)
+    (λ c. search needs)
+    apply-requires
     (λ c. search needs)
     (λ c. search needs)
     returns-2)
