@@ -5,9 +5,10 @@
  * convention, no instruction beyond SSE2, which every x86-64 processor has. The Rattle kit
  * builds no other target today, so there is no library for ARM.
  *
- * The library has no state and no heap, and calls nothing but memset, which the compiler
- * makes of loops: it is re-entrant and can be linked into firmware that supplies this one
- * function. A call takes less than 2 KiB of stack, beside memset's.
+ * The library has no state and no heap, and calls nothing but memset and memcpy, which the
+ * compiler makes of loops and copies: it is re-entrant and can be linked into firmware that
+ * supplies these two functions. A call takes less than 2 KiB of stack, beside theirs and the
+ * 499 bytes of a table that its caller hands over.
  *
  * Documents, installed in share/doc/jurnadel: FORMAT.md has the record to the bit, PROOF.md
  * the argument and its theorems, TRACE.md the way from each demand to theorem and test;
@@ -28,13 +29,14 @@
  *   - each out-number's pointer is valid;
  *   - no buffer or out-number that a call writes overlaps another one of that call;
  *   - nothing else writes any of them while the call runs.
- * The content of buffers is free: every call is total, on any content and any lengths.
+ * The content of buffers and tables is free: every call is total, on any content and any
+ * lengths.
  *
- * Answers. Each call but the sizes and jurnadel_walk_step returns 0 (done) or the number
- * of one refusal: the first of its list whose condition holds. A refused call leaves
- * its output and its shelf untouched and sets its out-numbers as said there. Only the
- * entries that a call says it fills are changed; the work area is zeros on every return,
- * refused or not.
+ * Answers. Each call but the sizes, the two that give a table and jurnadel_walk_step returns
+ * 0 (done) or the number of one refusal: the first of its list whose condition holds. A
+ * refused call leaves its output and its shelf untouched and sets its out-numbers as said
+ * there. Only the entries that a call says it fills are changed; the work area is zeros on
+ * every return, refused or not.
  *
  * What is proved. For each exported function, machine-checked: it ends, stays within what
  * is lent, and its returned number, out-numbers, output, shelf and work area are those of
@@ -55,9 +57,9 @@ extern "C" {
 /* ---- Version ---------------------------------------------------------------------- */
 
 #define JURNADEL_VERSION_MAJOR 0
-#define JURNADEL_VERSION_MINOR 6
+#define JURNADEL_VERSION_MINOR 7
 #define JURNADEL_VERSION_PATCH 0
-#define JURNADEL_VERSION "0.6.0"
+#define JURNADEL_VERSION "0.7.0"
 
 /* ---- Sizes ------------------------------------------------------------------------ */
 
@@ -119,14 +121,50 @@ enum {
     JURNADEL_SHELF_BROKEN = 14,   /* The used length exceeds the shelf, or the used bytes are not records end to end that each pass 1, 2, 3 and 5. */
     JURNADEL_NO_SUCH_RECORD = 15, /* The shelf holds no record with this number, counting from 0. */
     JURNADEL_SHELF_FULL = 16,     /* The record isn't on the shelf and exceeds the bytes past the used length. */
-    JURNADEL_BAD_OUTSIDE = 17     /* Kind 101h, 102h or 104h, and the outside dart is not below the dart count. */
+    JURNADEL_BAD_OUTSIDE = 17,    /* Kind 101h, 102h or 104h, and the outside dart is not below the dart count. */
+    JURNADEL_BAD_TABLE = 19       /* The group table is not 243 bytes, or two of them are equal, or a call is handed a table that loading never gives. */
 };
+
+/* ---- Group tables ----------------------------------------------------------------- */
+
+/*
+ * Kinds 2 and 0x102 store labels in groups of five; a group has a value from 0 to 242. A group
+ * table says which byte stands for each value. The standard table has byte v for value v; a
+ * maker who stores groups under other bytes loads a table of its own.
+ *
+ * A table is plain data, handed over by value. It may be copied, kept in ROM, or filled in by the
+ * caller: each call that is handed one tests all of it, in every kind, and refuses by 19, before
+ * all else, a table that loading never gives. Such a table has two equal bytes, or an entry of
+ * inverse that is not the one below.
+ *
+ * A record is read under the table that it was written under. Nothing is promised across two
+ * tables: equal bytes under two tables may be different plans. The other kinds have no groups,
+ * and the same records under every table.
+ */
+typedef struct jurnadel_table {
+    uint8_t bytes[243];   /* entry v: the byte for group value v; all different */
+    uint8_t inverse[256]; /* entry b: the group value whose byte is b; 243 if there is none */
+} jurnadel_table;
+
+/*
+ * Loads a maker's table.
+ *
+ *   bytes, bytes_len     243 bytes, all different: entry v is the byte for group value v
+ *   refusal              0, or 19: they are not 243, or two of them are equal
+ *
+ * If refused, the table is all zeros, which every call refuses by 19.
+ */
+jurnadel_table jurnadel_load_table(const uint8_t *bytes, size_t bytes_len, uint16_t *refusal);
+
+/* The standard table: what loading 0, 1, .., 242 gives. */
+jurnadel_table jurnadel_standard_table(void);
 
 /* ---- Plans and records ------------------------------------------------------------ */
 
 /*
  * Writes the record of a plan.
  *
+ *   table                the group table; kinds 2 and 0x102 have its bytes
  *   order, darts         the turning order, darts = 2m entries
  *   start                the start dart
  *   outside              the outside dart, any of its area; kinds 1, 2 and 4 ignore it
@@ -138,18 +176,20 @@ enum {
  *   length               the record's length; 0 if refused
  *   characteristic       of refusal 10: junctions minus trails plus areas; else 0
  *
- * Refusals: 2, 3, 4, 17 in kinds 101h, 102h and 104h, 6, 7, 8, 9, 10, then 11 in kinds 1, 2, 101h
- * and 102h and 12 in kinds 1 and 101h. Two plans that are not refused get equal bytes in one kind
- * exactly when one is the other with its darts renumbered: start to start, opposite ends to opposite
- * ends, turning order to turning order; in kinds 101h, 102h and 104h outside area to outside area too.
+ * Refusals: 19, 2, 3, 4, 17 in kinds 101h, 102h and 104h, 6, 7, 8, 9, 10, then 11 in kinds 1, 2, 101h
+ * and 102h and 12 in kinds 1 and 101h. Two plans that are not refused get equal bytes in one kind, under
+ * one table, exactly when one is the other with its darts renumbered: start to start, opposite ends to
+ * opposite ends, turning order to turning order; in kinds 101h, 102h and 104h outside area to outside
+ * area too.
  */
-uint16_t jurnadel_write(const uint16_t *order, size_t darts, uint16_t start, uint16_t outside, uint16_t kind,
-                        uint16_t *work, size_t work_len, uint8_t *output, size_t output_len,
+uint16_t jurnadel_write(jurnadel_table table, const uint16_t *order, size_t darts, uint16_t start, uint16_t outside,
+                        uint16_t kind, uint16_t *work, size_t work_len, uint8_t *output, size_t output_len,
                         uint16_t *length, int32_t *characteristic);
 
 /*
  * Reads the plan of a record, in standard numbering: its start is 0.
  *
+ *   table                the group table that the record was written under
  *   record, record_len   the record, all of it and no more
  *   work, work_len       JURNADEL_WORK_LEN(m) numbers or more, any content; zeros on return
  *   order, order_len     JURNADEL_ORDER_LEN(m) numbers or more; the first 2m are filled with the turning order
@@ -157,10 +197,11 @@ uint16_t jurnadel_write(const uint16_t *order, size_t darts, uint16_t start, uin
  *   outside              the lowest dart of the outside area, which in kinds 1, 2 and 4 is the
  *                        start's: 0; 0 if refused
  *
- * Refusals: 1, 2, 3, 5, 7, 8, 13. Writing the plan with this outside in the record's kind gives the
- * record; a stored outside that isn't the lowest dart of an area is 13.
+ * Refusals: 19, 1, 2, 3, 5, 7, 8, 13. Writing the plan with this outside in the record's kind, under
+ * the same table, gives the record; a stored outside that isn't the lowest dart of an area is 13, and
+ * so is a group's byte that is none of the table's.
  */
-uint16_t jurnadel_read(const uint8_t *record, size_t record_len,
+uint16_t jurnadel_read(jurnadel_table table, const uint8_t *record, size_t record_len,
                        uint16_t *work, size_t work_len, uint16_t *order, size_t order_len,
                        uint16_t *trails, uint16_t *outside);
 
@@ -187,7 +228,8 @@ uint16_t jurnadel_area_lengths(const uint16_t *order, size_t darts,
 /*
  * A shelf is a lent run of bytes with a used length; the used bytes are records end to
  * end, and records are numbered from 0. These calls look at heads and lengths only: they
- * take a record that cannot be read like any other.
+ * take a record that cannot be read like any other. Nothing on a shelf tells which table a
+ * record was written under.
  */
 
 /*
@@ -195,15 +237,16 @@ uint16_t jurnadel_area_lengths(const uint16_t *order, size_t darts,
  * and nothing is stored; else the record is put just past the used bytes. It goes over the
  * heads of all records once, and compares only those that are as long as the new one.
  *
+ *   table                a group table, which is tested; the bytes of records are compared as they are
  *   record, record_len   the record
  *   shelf, shelf_len     the whole shelf
  *   used                 its used length
  *   number               the record's number; 0 if refused
  *   new_used             the used length now; used if refused or already there
  *
- * Refusals: 1, 2, 3, 5, 14, 16.
+ * Refusals: 19, 1, 2, 3, 5, 14, 16.
  */
-uint16_t jurnadel_shelve(const uint8_t *record, size_t record_len, uint8_t *shelf, size_t shelf_len,
+uint16_t jurnadel_shelve(jurnadel_table table, const uint8_t *record, size_t record_len, uint8_t *shelf, size_t shelf_len,
                          size_t used, size_t *number, size_t *new_used);
 
 /*

@@ -1,5 +1,5 @@
-/* Writes plans, shelves them, fetches one, reads it back, measures its areas and walks the shelf.
-   Memory: four lent buffers, sized by the header's macros for plans of at most 8 trails. */
+/* Writes plans, shelves them, fetches one, reads it back, measures its areas and walks the shelf; then writes and reads
+   under a maker's own group table. Memory: the table, and buffers sized by the header's macros for plans of at most 8 trails. */
 #include "jurnadel.h"
 #include <stdio.h>
 
@@ -23,6 +23,34 @@ static void list(const uint16_t *numbers, size_t count) {
     printf("\n");
 }
 
+/* A plan in kind 2, stored by a maker whose bytes for groups are 13 more than their values. */
+static int makers_table(void) {
+    static const uint16_t dead_end[] = {4, 2, 1, 0, 3, 5};
+    uint8_t bytes[243];
+    uint16_t refusal, length, trails, outside;
+    int32_t characteristic;
+
+    for (size_t value = 0; value < sizeof bytes; value++)
+        bytes[value] = (uint8_t)(value + 13);
+    jurnadel_table table = jurnadel_load_table(bytes, sizeof bytes, &refusal);
+    if (refusal != 0)
+        return 1;
+    if (jurnadel_write(table, dead_end, 6, 0, 0, 2, work, sizeof work / sizeof work[0], record, sizeof record,
+                       &length, &characteristic) != 0)
+        return 1;
+    printf("dead end inside a pair, under a maker's table:");
+    show(record, length);
+    if (jurnadel_read(table, record, length, work, sizeof work / sizeof work[0], order, sizeof order / sizeof order[0],
+                      &trails, &outside) != 0)
+        return 1;
+    printf("read under that table: %d trails, order", (int)trails);
+    list(order, JURNADEL_ORDER_LEN(trails));
+    refusal = jurnadel_read(jurnadel_standard_table(), record, length, work, sizeof work / sizeof work[0],
+                            order, sizeof order / sizeof order[0], &trails, &outside);
+    printf("read under the standard table: refusal %d\n", (int)refusal);
+    return 0;
+}
+
 int main(void) {
     static const struct { const char *name; uint16_t kind, outside; size_t darts; uint16_t order[6]; } plans[] = {
         {"triangle", 1, 0, 6, {5, 2, 1, 4, 3, 0}},
@@ -37,16 +65,17 @@ int main(void) {
     size_t used = 0, number, at, length;
     uint16_t record_length, trails, outside, count;
     int32_t characteristic;
+    const jurnadel_table table = jurnadel_standard_table();
 
     for (size_t i = 0; i < sizeof plans / sizeof plans[0]; i++) {
-        uint16_t refusal = jurnadel_write(plans[i].order, plans[i].darts, 0, plans[i].outside, plans[i].kind,
+        uint16_t refusal = jurnadel_write(table, plans[i].order, plans[i].darts, 0, plans[i].outside, plans[i].kind,
                                           work, sizeof work / sizeof work[0], record, sizeof record, &record_length, &characteristic);
         if (refusal != 0) {
             printf("%s: refusal %d, characteristic %d\n", plans[i].name, (int)refusal, (int)characteristic);
             continue;
         }
         size_t before = used;
-        refusal = jurnadel_shelve(record, record_length, shelf, sizeof shelf, used, &number, &used);
+        refusal = jurnadel_shelve(table, record, record_length, shelf, sizeof shelf, used, &number, &used);
         if (refusal != 0) {
             printf("%s: refusal %d\n", plans[i].name, (int)refusal);
             return 1;
@@ -59,7 +88,7 @@ int main(void) {
         return 1;
     printf("fetched 1:");
     show(shelf + at, length);
-    if (jurnadel_read(shelf + at, length, work, sizeof work / sizeof work[0], order, sizeof order / sizeof order[0],
+    if (jurnadel_read(table, shelf + at, length, work, sizeof work / sizeof work[0], order, sizeof order / sizeof order[0],
                       &trails, &outside) != 0)
         return 1;
     printf("read 1: %d trails, outside %d, order", (int)trails, (int)outside);
@@ -77,5 +106,5 @@ int main(void) {
         show(shelf + at, length);
     }
     printf("none left; %d bytes used\n", (int)used);
-    return 0;
+    return makers_table();
 }

@@ -17,6 +17,8 @@ static uint16_t work[JURNADEL_MAX_WORK_LEN], order[JURNADEL_MAX_ORDER_LEN], list
 static uint8_t output[JURNADEL_MAX_RECORD_LEN];
 static uint16_t length, trails, outside, count;
 static int32_t characteristic;
+/* The group table that the calls are handed: the standard one where nothing else is said. */
+static jurnadel_table table;
 
 static void dirty(void) {
     memset(work, 0x5a, sizeof work);
@@ -45,7 +47,7 @@ static int untouched_from(size_t n) {
 static uint16_t refusal_with(uint16_t side, const uint16_t *rotation, size_t darts, uint16_t start, uint16_t kind, size_t work_len, size_t output_len) {
     uint16_t refusal;
     dirty();
-    refusal = jurnadel_write(rotation, darts, start, side, kind, work, work_len, output, output_len, &length, &characteristic);
+    refusal = jurnadel_write(table, rotation, darts, start, side, kind, work, work_len, output, output_len, &length, &characteristic);
     CHECK(cleared(work_len));
     CHECK(untouched_from(length));
     CHECK(refusal == 0 || length == 0);
@@ -60,7 +62,7 @@ static uint16_t refusal_of(const uint16_t *rotation, size_t darts, uint16_t star
 
 /* The starred table of document 01, and the lines of document 02. */
 static void records(void) {
-    static const struct { uint16_t kind, outside, m, order[6], length; uint8_t record[10]; } table[] = {
+    static const struct { uint16_t kind, outside, m, order[6], length; uint8_t record[10]; } cases[] = {
         {1, 99, 2, {3, 2, 1, 0}, 7, {0x07, 0, 1, 0, 2, 0, 0xC8}},
         {1, 99, 3, {5, 2, 1, 4, 3, 0}, 8, {0x08, 0, 1, 0, 3, 0, 0xE2, 0x00}},
         {1, 99, 3, {5, 2, 4, 0, 1, 3}, 8, {0x08, 0, 1, 0, 3, 0, 0xD2, 0x80}},
@@ -86,17 +88,17 @@ static void records(void) {
     };
     static uint8_t again[10];
     size_t i;
-    for (i = 0; i < sizeof table / sizeof table[0]; i++) {
-        size_t m = table[i].m;
-        CHECK(JURNADEL_RECORD_LEN(table[i].kind, m) == table[i].length);
-        CHECK(refusal_with(table[i].outside, table[i].order, 2 * m, 0, table[i].kind, JURNADEL_WORK_LEN(m), table[i].length) == JURNADEL_DONE);
-        CHECK(length == table[i].length && memcmp(output, table[i].record, length) == 0);
+    for (i = 0; i < sizeof cases / sizeof cases[0]; i++) {
+        size_t m = cases[i].m;
+        CHECK(JURNADEL_RECORD_LEN(cases[i].kind, m) == cases[i].length);
+        CHECK(refusal_with(cases[i].outside, cases[i].order, 2 * m, 0, cases[i].kind, JURNADEL_WORK_LEN(m), cases[i].length) == JURNADEL_DONE);
+        CHECK(length == cases[i].length && memcmp(output, cases[i].record, length) == 0);
         dirty();
-        CHECK(jurnadel_read(table[i].record, table[i].length, work, JURNADEL_WORK_LEN(m), order, JURNADEL_ORDER_LEN(m), &trails, &outside) == JURNADEL_DONE);
+        CHECK(jurnadel_read(table, cases[i].record, cases[i].length, work, JURNADEL_WORK_LEN(m), order, JURNADEL_ORDER_LEN(m), &trails, &outside) == JURNADEL_DONE);
         CHECK(trails == m && cleared(JURNADEL_WORK_LEN(m)) && order[2 * m] == 0x5a5a);
-        CHECK(outside == (table[i].kind & 0x100 ? table[i].record[6] : 0));
-        CHECK(jurnadel_write(order, 2 * m, 0, outside, table[i].kind, work, JURNADEL_WORK_LEN(m), again, sizeof again, &length, &characteristic) == 0);
-        CHECK(length == table[i].length && memcmp(again, table[i].record, length) == 0);
+        CHECK(outside == (cases[i].kind & 0x100 ? cases[i].record[6] : 0));
+        CHECK(jurnadel_write(table, order, 2 * m, 0, outside, cases[i].kind, work, JURNADEL_WORK_LEN(m), again, sizeof again, &length, &characteristic) == 0);
+        CHECK(length == cases[i].length && memcmp(again, cases[i].record, length) == 0);
     }
 }
 
@@ -183,14 +185,14 @@ static void longest(void) {
     CHECK(length == 1852);
     CHECK(refusal_with(8191, round, JURNADEL_MAX_DARTS, 8190, 0x104, JURNADEL_MAX_WORK_LEN, sizeof output) == JURNADEL_DONE);
     CHECK(length == 2056);
-    CHECK(jurnadel_read(output, length, work, JURNADEL_MAX_WORK_LEN, order, JURNADEL_MAX_ORDER_LEN, &trails, &outside) == JURNADEL_DONE);
+    CHECK(jurnadel_read(table, output, length, work, JURNADEL_MAX_WORK_LEN, order, JURNADEL_MAX_ORDER_LEN, &trails, &outside) == JURNADEL_DONE);
     CHECK(trails == JURNADEL_MAX_TRAILS && outside == 1 && cleared(JURNADEL_MAX_WORK_LEN));
 }
 
 static uint16_t reads(const uint8_t *record, size_t record_len, size_t work_len, size_t order_len) {
     uint16_t refusal;
     dirty();
-    refusal = jurnadel_read(record, record_len, work, work_len, order, order_len, &trails, &outside);
+    refusal = jurnadel_read(table, record, record_len, work, work_len, order, order_len, &trails, &outside);
     CHECK(cleared(work_len) && order[2 * trails] == 0x5a5a && (refusal == 0 || (trails == 0 && outside == 0)));
     return refusal;
 }
@@ -256,7 +258,7 @@ static uint16_t areas_of(const uint16_t *rotation, size_t darts, size_t work_len
 }
 
 static void areas(void) {
-    static const struct { size_t m; uint16_t order[6]; size_t count; uint16_t lengths[2]; } table[] = {
+    static const struct { size_t m; uint16_t order[6]; size_t count; uint16_t lengths[2]; } cases[] = {
         {3, {5, 2, 1, 4, 3, 0}, 2, {3, 3}},
         {1, {0, 1}, 1, {2}},
         {1, {1, 0}, 2, {1, 1}},
@@ -266,14 +268,14 @@ static void areas(void) {
     static const uint16_t apart[] = {0, 1, 2, 3}, crossing[] = {3, 2, 4, 5, 1, 0}, twice[] = {3, 3, 1, 0}, high[] = {4, 2, 1, 0};
     static uint16_t tree[JURNADEL_MAX_DARTS], loops[JURNADEL_MAX_DARTS];
     static const uint16_t whole = JURNADEL_MAX_DARTS;
-    const uint16_t *triangle = table[0].order;
+    const uint16_t *triangle = cases[0].order;
     size_t i, d;
-    for (i = 0; i < sizeof table / sizeof table[0]; i++) {
-        CHECK(areas_of(table[i].order, 2 * table[i].m, JURNADEL_WORK_LEN(table[i].m), JURNADEL_AREAS_LEN(table[i].m)) == JURNADEL_DONE);
-        CHECK(listed(table[i].lengths, table[i].count));
-        CHECK(areas_of(table[i].order, 2 * table[i].m, JURNADEL_MAX_WORK_LEN, table[i].count) == JURNADEL_DONE);
-        CHECK(listed(table[i].lengths, table[i].count));
-        CHECK(areas_of(table[i].order, 2 * table[i].m, JURNADEL_WORK_LEN(table[i].m), table[i].count - 1) == JURNADEL_SHORT_OUTPUT);
+    for (i = 0; i < sizeof cases / sizeof cases[0]; i++) {
+        CHECK(areas_of(cases[i].order, 2 * cases[i].m, JURNADEL_WORK_LEN(cases[i].m), JURNADEL_AREAS_LEN(cases[i].m)) == JURNADEL_DONE);
+        CHECK(listed(cases[i].lengths, cases[i].count));
+        CHECK(areas_of(cases[i].order, 2 * cases[i].m, JURNADEL_MAX_WORK_LEN, cases[i].count) == JURNADEL_DONE);
+        CHECK(listed(cases[i].lengths, cases[i].count));
+        CHECK(areas_of(cases[i].order, 2 * cases[i].m, JURNADEL_WORK_LEN(cases[i].m), cases[i].count - 1) == JURNADEL_SHORT_OUTPUT);
     }
     /* Each refusal before those that come after it. */
     CHECK(areas_of(twice, 3, 0, 0) == JURNADEL_BAD_COUNT);
@@ -303,13 +305,13 @@ static void shelves(void) {
     size_t number = 99, used = 0, at = 99, part = 99;
     memset(shelf, 0xEE, sizeof shelf);
     CHECK(jurnadel_walk_begin(shelf, sizeof shelf, 0, 0, &at) == JURNADEL_NO_SUCH_RECORD && at == 0);
-    CHECK(jurnadel_shelve(pair, sizeof pair, shelf, sizeof shelf, 0, &number, &used) == 0 && number == 0 && used == 7);
-    CHECK(jurnadel_shelve(stick, sizeof stick, shelf, sizeof shelf, used, &number, &used) == 0 && number == 1 && used == 15);
-    CHECK(jurnadel_shelve(pair, sizeof pair, shelf, sizeof shelf, used, &number, &used) == 0 && number == 0 && used == 15);
+    CHECK(jurnadel_shelve(table, pair, sizeof pair, shelf, sizeof shelf, 0, &number, &used) == 0 && number == 0 && used == 7);
+    CHECK(jurnadel_shelve(table, stick, sizeof stick, shelf, sizeof shelf, used, &number, &used) == 0 && number == 1 && used == 15);
+    CHECK(jurnadel_shelve(table, pair, sizeof pair, shelf, sizeof shelf, used, &number, &used) == 0 && number == 0 && used == 15);
     CHECK(memcmp(shelf, pair, 7) == 0 && memcmp(shelf + 7, stick, 8) == 0 && shelf[15] == 0xEE);
-    CHECK(jurnadel_shelve(odd, sizeof odd, shelf, sizeof shelf, used, &number, &used) == JURNADEL_SHELF_FULL && number == 0 && used == 15);
-    CHECK(jurnadel_shelve(odd, 6, shelf, sizeof shelf, used, &number, &used) == JURNADEL_RECORD_CUT && used == 15);
-    CHECK(jurnadel_shelve(odd, sizeof odd, shelf, 14, used, &number, &used) == JURNADEL_SHELF_BROKEN && used == 15);
+    CHECK(jurnadel_shelve(table, odd, sizeof odd, shelf, sizeof shelf, used, &number, &used) == JURNADEL_SHELF_FULL && number == 0 && used == 15);
+    CHECK(jurnadel_shelve(table, odd, 6, shelf, sizeof shelf, used, &number, &used) == JURNADEL_RECORD_CUT && used == 15);
+    CHECK(jurnadel_shelve(table, odd, sizeof odd, shelf, 14, used, &number, &used) == JURNADEL_SHELF_BROKEN && used == 15);
     CHECK(shelf[15] == 0xEE);
     CHECK(jurnadel_fetch(shelf, sizeof shelf, used, 1, &at, &part) == 0 && at == 7 && part == 8);
     CHECK(jurnadel_fetch(shelf, sizeof shelf, used, 2, &at, &part) == JURNADEL_NO_SUCH_RECORD && at == 0 && part == 0);
@@ -322,9 +324,135 @@ static void shelves(void) {
     CHECK(jurnadel_walk_step(shelf, sizeof shelf, used, (size_t)-1) == 0);
     CHECK(jurnadel_walk_begin(shelf, sizeof shelf, used, 2, &at) == JURNADEL_NO_SUCH_RECORD && at == 15);
     /* A shelf takes a stored outside as it is. */
-    CHECK(jurnadel_shelve(outer, sizeof outer, shelf, sizeof shelf, 7, &number, &used) == 0 && number == 1 && used == 16);
+    CHECK(jurnadel_shelve(table, outer, sizeof outer, shelf, sizeof shelf, 7, &number, &used) == 0 && number == 1 && used == 16);
     CHECK(jurnadel_walk_step(shelf, sizeof shelf, used, 7) == 9 && memcmp(shelf + 7, outer, 9) == 0);
-    CHECK(jurnadel_shelve(outer, 8, shelf, sizeof shelf, used, &number, &used) == JURNADEL_RECORD_CUT && used == 16);
+    CHECK(jurnadel_shelve(table, outer, 8, shelf, sizeof shelf, used, &number, &used) == JURNADEL_RECORD_CUT && used == 16);
+}
+
+/* A table between two guards, which a call that gives it must leave alone. */
+static struct { uint8_t before[16]; jurnadel_table table; uint8_t after[16]; } held;
+
+/* Whether loading gives 0 and a table of these bytes, or 19 and the table of zeros. */
+static uint16_t loads(const uint8_t *bytes, size_t n) {
+    static const jurnadel_table zeros;
+    uint16_t refusal = 0x5a5a;
+    size_t i;
+    memset(&held, 0xa5, sizeof held);
+    held.table = jurnadel_load_table(bytes, n, &refusal);
+    for (i = 0; i < 16; i++) CHECK(held.before[i] == 0xa5 && held.after[i] == 0xa5);
+    CHECK(memcmp(&held.table, refusal == 0 ? bytes : zeros.bytes, 243) == 0);
+    CHECK(refusal == 0 || memcmp(&held.table, &zeros, sizeof zeros) == 0);
+    table = held.table;
+    return refusal;
+}
+
+/* Whether writing, reading and shelving refuse the table first of all, in every kind, and touch nothing. */
+static void refuses(void) {
+    static const uint16_t kinds[] = {1, 2, 4, 0x101, 0x102, 0x104, 9}, pair[] = {3, 2, 1, 0};
+    static const uint8_t record[] = {8, 0, 2, 0, 2, 0, 0xC0, 0x51}, shelf[16] = {7, 0, 1, 0, 2, 0, 0xC8, 0xEE, 0xEE};
+    const jurnadel_table given = table;
+    uint8_t after[16];
+    size_t i, number = 99, used = 99;
+    for (i = 0; i < 7; i++) {
+        CHECK(refusal_of(pair, 4, 0, kinds[i], 64, 10) == JURNADEL_BAD_TABLE);
+        CHECK(refusal_of(pair, 0, 0, kinds[i], 64, 0) == JURNADEL_BAD_TABLE);
+    }
+    CHECK(reads(record, 8, 64, 4) == JURNADEL_BAD_TABLE && order[1] == 0x5a5a);
+    CHECK(reads(record, 0, 64, 4) == JURNADEL_BAD_TABLE);
+    CHECK(reads(shelf, 7, 0, 0) == JURNADEL_BAD_TABLE);
+    memcpy(after, shelf, sizeof shelf);
+    CHECK(jurnadel_shelve(table, record, 8, after, sizeof after, 7, &number, &used) == JURNADEL_BAD_TABLE && number == 0 && used == 7);
+    number = used = 99;
+    CHECK(jurnadel_shelve(table, record, 0, after, sizeof after, 99, &number, &used) == JURNADEL_BAD_TABLE && number == 0 && used == 99);
+    CHECK(memcmp(after, shelf, sizeof shelf) == 0 && memcmp(&table, &given, sizeof given) == 0);
+}
+
+/* Whether the plan has this last byte in kinds 2 and 0x102 under the table, and is read back from it. */
+static void written_as(const uint16_t *rotation, uint16_t m, uint8_t byte) {
+    const jurnadel_table given = table;
+    uint8_t record[10];
+    uint16_t kind;
+    for (kind = 2; kind <= 0x102; kind = (uint16_t)(kind + 0x100)) {
+        CHECK(refusal_of(rotation, 2 * m, 0, kind, JURNADEL_WORK_LEN(m), sizeof output) == JURNADEL_DONE);
+        CHECK(length == JURNADEL_RECORD_LEN(kind, m) && output[length - 1] == byte);
+        memcpy(record, output, length);
+        CHECK(reads(record, length, JURNADEL_WORK_LEN(m), JURNADEL_ORDER_LEN(m)) == JURNADEL_DONE && trails == m);
+        CHECK(memcmp(order, rotation, 4 * m) == 0);
+    }
+    CHECK(memcmp(&table, &given, sizeof given) == 0);
+}
+
+static void tables(void) {
+    static const uint16_t stick[] = {0, 1}, path[] = {0, 2, 1, 3}, pair[] = {3, 2, 1, 0};
+    static const uint8_t of_13_more[] = {8, 0, 2, 0, 1, 0, 0x80, 0xAF}, of_none[] = {8, 0, 2, 0, 1, 0, 0x80, 0x05},
+                         bits[] = {7, 0, 1, 0, 2, 0, 0xC8}, letters[] = {7, 0, 4, 0, 1, 0, 0xB0};
+    const jurnadel_table standard = jurnadel_standard_table();
+    uint8_t bytes[256], other[256], shelf[8];
+    size_t i, number, used;
+    CHECK(sizeof(jurnadel_table) == 499 && offsetof(jurnadel_table, inverse) == 243);
+    for (i = 0; i < 256; i++) {
+        bytes[i] = (uint8_t)i;
+        CHECK(standard.inverse[i] == (i < 243 ? i : 243) && (i >= 243 || standard.bytes[i] == i));
+    }
+    CHECK(loads(bytes, 243) == JURNADEL_DONE && memcmp(&table, &standard, sizeof standard) == 0);
+    written_as(stick, 1, 0xA2);
+    written_as(path, 2, 0x36);
+    written_as(pair, 2, 0x51);
+
+    /* Two entries exchanged. */
+    memcpy(other, bytes, sizeof other);
+    other[0x36] = 0x51, other[0x51] = 0x36;
+    CHECK(loads(other, 243) == JURNADEL_DONE && table.inverse[0x36] == 0x51 && table.inverse[0x51] == 0x36 && table.inverse[243] == 243);
+    written_as(path, 2, 0x51);
+    written_as(pair, 2, 0x36);
+
+    /* Each byte 13 more: the bytes below 13 stand for no value. */
+    CHECK(loads(bytes + 13, 243) == JURNADEL_DONE && table.inverse[12] == 243 && table.inverse[13] == 0 && table.inverse[255] == 242);
+    written_as(stick, 1, 0xAF);
+    written_as(path, 2, 0x43);
+    CHECK(reads(of_13_more, 8, 32, 2) == JURNADEL_DONE && trails == 1 && order[0] == 0 && order[1] == 1);
+    CHECK(reads(of_none, 8, 32, 2) == JURNADEL_NO_FIT_PLAN);
+    /* Kinds without groups, and the shelf, which takes bytes as they are. */
+    CHECK(refusal_of(pair, 4, 0, 1, 64, 7) == JURNADEL_DONE && memcmp(output, bits, 7) == 0);
+    CHECK(reads(bits, 7, 64, 4) == JURNADEL_DONE && trails == 2);
+    CHECK(reads(letters, 7, 32, 2) == JURNADEL_DONE && trails == 1);
+    CHECK(jurnadel_shelve(table, of_none, 8, shelf, 8, 0, &number, &used) == 0 && number == 0 && used == 8);
+    table = standard;
+    CHECK(reads(of_13_more, 8, 32, 2) == JURNADEL_NO_FIT_PLAN);
+    CHECK(jurnadel_shelve(table, of_none, 8, shelf, 8, 8, &number, &used) == 0 && number == 0 && used == 8);
+    CHECK(memcmp(shelf, of_none, 8) == 0);
+
+    /* Not 243 bytes, or two of them equal. */
+    CHECK(loads(bytes, 242) == JURNADEL_BAD_TABLE);
+    CHECK(loads(bytes, 244) == JURNADEL_BAD_TABLE);
+    CHECK(loads(bytes, 256) == JURNADEL_BAD_TABLE);
+    CHECK(loads(bytes, 0) == JURNADEL_BAD_TABLE);
+    memcpy(other, bytes, sizeof other);
+    other[242] = 0;
+    CHECK(loads(other, 243) == JURNADEL_BAD_TABLE);
+    other[242] = 241;
+    CHECK(loads(other, 243) == JURNADEL_BAD_TABLE);
+
+    /* The table of zeros, then tables that differ in one place from one that is loaded: a mark, an entry that no call on these
+       plans looks at, a byte that stands for none or for another value. */
+    refuses();
+    for (i = 0; i < 256; i++) {
+        table = standard, table.inverse[i]++;
+        refuses();
+        table = standard, table.inverse[i] = (uint8_t)(i < 243 ? 243 : 0);
+        refuses();
+        if (i >= 243) continue;
+        table = standard, table.bytes[i] = 250;
+        refuses();
+        table = standard, table.bytes[i] = (uint8_t)(i ? 0 : 1);
+        refuses();
+    }
+    /* Two values exchanged in the bytes alone, and in the inverse alone. */
+    table = standard, table.bytes[7] = 8, table.bytes[8] = 7;
+    refuses();
+    table = standard, table.inverse[7] = 8, table.inverse[8] = 7;
+    refuses();
+    table = standard;
 }
 
 static void sizes(void) {
@@ -356,6 +484,7 @@ static void version(void) {
 }
 
 int main(void) {
+    table = jurnadel_standard_table();
     records();
     writing();
     outsides();
@@ -363,6 +492,7 @@ int main(void) {
     reading();
     areas();
     shelves();
+    tables();
     sizes();
     version();
     printf("tests/c/interface.c: %d passed, %d failed\n", passed, failed);

@@ -1,11 +1,11 @@
-//! A program without std and without a heap, over the crate without its features: writes, reads, measures areas, shelves,
-//! fetches and walks in lent buffers, and prints a refusal's text. Its exit status is the number of the first step that fails,
+//! A program without std and without a heap, over the crate without its features: loads a table, writes, reads, measures
+//! areas, shelves, fetches and walks in lent buffers, and prints a refusal's text. Its exit status is the number of the first step that fails,
 //! or 0.
 #![no_std]
 #![no_main]
 
 use core::fmt::{self, Write};
-use jurnadel::{area_lengths, fetch, read, shelve, walk, write, Refusal};
+use jurnadel::{area_lengths, fetch, read, shelve, walk, write, Refusal, Table};
 
 #[panic_handler]
 fn panicked(_: &core::panic::PanicInfo) -> ! {
@@ -33,10 +33,11 @@ fn prints(refusal: Refusal, text: &str) -> bool {
 
 fn steps() -> Result<bool, Refusal> {
     let (mut work, mut record, mut order, mut shelf, mut list) = ([7; 96], [0; 10], [0; 6], [0; 16], [0; 2]);
-    let length = write(&[5, 2, 1, 4, 3, 0], 0, 5, 0x101, &mut work, &mut record)?;
-    let back = read(&record[..length], &mut work, &mut order)?;
+    let table = Table::load(&Table::standard().bytes)?;
+    let length = write(&table, &[5, 2, 1, 4, 3, 0], 0, 5, 0x101, &mut work, &mut record)?;
+    let back = read(&table, &record[..length], &mut work, &mut order)?;
     let areas = area_lengths(&order, &mut work, &mut list)?;
-    let shelved = shelve(&record, &mut shelf, 0)?;
+    let shelved = shelve(&table, &record, &mut shelf, 0)?;
     let fetched = fetch(&shelf, shelved.used, shelved.number)?;
     let walked = walk(&shelf, shelved.used, 0)?.count();
     let told = back.trails == 3 && back.outside == 1 && order == [5, 2, 1, 4, 3, 0] && areas == 2 && list == [3, 3];
@@ -45,7 +46,7 @@ fn steps() -> Result<bool, Refusal> {
 
 #[no_mangle]
 pub extern "C" fn main() -> i32 {
-    let crossing = write(&[3, 2, 4, 5, 1, 0], 0, 0, 2, &mut [0; 96], &mut [0; 8]);
+    let crossing = write(&Table::standard(), &[3, 2, 4, 5, 1, 0], 0, 0, 2, &mut [0; 96], &mut [0; 8]);
     let refused = crossing.is_err_and(|refusal| prints(refusal, "refusal 10: It is not planar. Its characteristic is 0."));
     match (steps(), refused) {
         (Ok(true), true) => 0,

@@ -1,7 +1,7 @@
-//! Writes plans, shelves them, fetches one, reads it back, measures its areas and walks the shelf; prints what
-//! `examples/c/plans.c` does.
+//! Writes plans, shelves them, fetches one, reads it back, measures its areas and walks the shelf; then writes and reads
+//! under a maker's own group table. Prints what `examples/c/plans.c` does.
 
-use jurnadel::{areas_of, fetch, plan_of, record_of, shelve, walk, Plan, Refusal};
+use jurnadel::{areas_of, fetch, plan_of, record_of, shelve, walk, Plan, Refusal, Table};
 
 fn hex(bytes: &[u8]) -> String {
     bytes.iter().map(|byte| format!(" {byte:02X}")).collect()
@@ -11,7 +11,21 @@ fn list(numbers: &[u16]) -> String {
     numbers.iter().map(|number| format!(" {number}")).collect()
 }
 
+/// A plan in kind 2, stored by a maker whose bytes for groups are 13 more than their values.
+fn makers_table() -> Result<(), Refusal> {
+    let bytes: [u8; 243] = std::array::from_fn(|value| value as u8 + 13);
+    let table = Table::load(&bytes)?;
+    let record = record_of(&table, &[4, 2, 1, 0, 3, 5], 0, 0, 2)?;
+    println!("dead end inside a pair, under a maker's table:{}", hex(&record));
+    let Plan { order, .. } = plan_of(&table, &record)?;
+    println!("read under that table: {} trails, order{}", order.len() / 2, list(&order));
+    let refusal = plan_of(&Table::standard(), &record).map_or_else(Refusal::number, |_| 0);
+    println!("read under the standard table: refusal {refusal}");
+    Ok(())
+}
+
 fn main() -> Result<(), Refusal> {
+    let table = Table::standard();
     // Name, kind, outside, turning order.
     let plans: [(&str, u16, u16, [u16; 6]); 8] = [
         ("triangle", 1, 0, [5, 2, 1, 4, 3, 0]),
@@ -27,7 +41,7 @@ fn main() -> Result<(), Refusal> {
     let mut used = 0;
 
     for (name, kind, outside, order) in plans {
-        let record = match record_of(&order, 0, outside, kind) {
+        let record = match record_of(&table, &order, 0, outside, kind) {
             Ok(record) => record,
             Err(refusal) => {
                 let characteristic = refusal.characteristic().unwrap_or(0);
@@ -35,7 +49,7 @@ fn main() -> Result<(), Refusal> {
                 continue;
             }
         };
-        let shelved = shelve(&record, &mut shelf, used)?;
+        let shelved = shelve(&table, &record, &mut shelf, used)?;
         let news = if shelved.used > used { "new" } else { "already there" };
         println!("{name}: record {}, {news}:{}", shelved.number, hex(&record));
         used = shelved.used;
@@ -43,7 +57,7 @@ fn main() -> Result<(), Refusal> {
 
     let record = fetch(&shelf, used, 1)?;
     println!("fetched 1:{}", hex(record));
-    let Plan { order, outside } = plan_of(record)?;
+    let Plan { order, outside } = plan_of(&table, record)?;
     println!("read 1: {} trails, outside {outside}, order{}", order.len() / 2, list(&order));
     let areas = areas_of(&order)?;
     println!("its {} areas, by trails walked along:{}", areas.len(), list(&areas));
@@ -52,5 +66,5 @@ fn main() -> Result<(), Refusal> {
         println!("walked to {number}:{}", hex(record));
     }
     println!("none left; {used} bytes used");
-    Ok(())
+    makers_table()
 }

@@ -9,28 +9,32 @@
 //! (kind 4: any connected planar plan). Kinds 0x101, 0x102 and 0x104 are the same with the outside area, in two bytes more.
 //! A shelf is records end to end, of any kinds.
 //!
+//! Kinds 2 and 0x102 store labels in groups of five, a byte each. Which byte stands for which group says a [`Table`]:
+//! [`Table::standard`], or a maker's own. A record is read under the table that it was written under.
+//!
 //! [`write()`], [`read()`], [`area_lengths()`], [`shelve()`], [`fetch()`] and [`walk()`] are the library's calls on lent
 //! buffers, one for one: no allocation, no state. `record_of`, `plan_of` and `areas_of` allocate what they need.
 //!
 //! ```
+//! let table = jurnadel::Table::standard();
 //! let (mut work, mut record, mut order) = ([0; 96], [0; 8], [0; 6]);
 //!
 //! // Three parallel trails.
-//! jurnadel::write(&[5, 2, 4, 0, 1, 3], 0, 0, 1, &mut work, &mut record)?;
+//! jurnadel::write(&table, &[5, 2, 4, 0, 1, 3], 0, 0, 1, &mut work, &mut record)?;
 //! assert_eq!(record, [0x08, 0, 0x01, 0, 0x03, 0, 0xD2, 0x80]);
 //!
 //! // The same plan, numbered in the order of the contour walk from start 0.
-//! jurnadel::read(&record, &mut work, &mut order)?;
+//! jurnadel::read(&table, &record, &mut work, &mut order)?;
 //! let mut again = [0; 8];
-//! jurnadel::write(&order, 0, 0, 1, &mut work, &mut again)?;
+//! jurnadel::write(&table, &order, 0, 0, 1, &mut work, &mut again)?;
 //! assert_eq!(again, record);
 //!
 //! // A triangle, and which of its two areas is outside.
 //! let mut record = [0; 10];
 //! for (dart, area) in [(0, 0), (4, 0), (1, 1), (5, 1)] {
-//!     jurnadel::write(&[5, 2, 1, 4, 3, 0], 0, dart, 0x101, &mut work, &mut record)?;
+//!     jurnadel::write(&table, &[5, 2, 1, 4, 3, 0], 0, dart, 0x101, &mut work, &mut record)?;
 //!     assert_eq!(record, [0x0A, 0, 0x01, 0x01, 0x03, 0, area, 0, 0xE2, 0]);
-//!     assert_eq!(jurnadel::read(&record, &mut work, &mut order)?.outside, u16::from(area));
+//!     assert_eq!(jurnadel::read(&table, &record, &mut work, &mut order)?.outside, u16::from(area));
 //! }
 //! # Ok::<(), jurnadel::Refusal>(())
 //! ```
@@ -53,10 +57,12 @@ extern crate alloc;
 mod owned;
 mod refusal;
 pub mod sys;
+mod table;
 
 #[cfg(feature = "alloc")]
 pub use owned::{areas_of, plan_of, record_of, Plan};
 pub use refusal::Refusal;
+pub use table::Table;
 
 /// The most trails that a plan has.
 pub const MAX_TRAILS: u16 = 4096;
@@ -111,33 +117,44 @@ pub fn record_length(kind: u16, trails: u16) -> Option<usize> {
     }
 }
 
-/// Writes the record of a plan into the first bytes of `output`, and returns its length. Kinds 1, 2 and 4 ignore `outside`.
+/// Writes the record of a plan into the first bytes of `output`, and returns its length. Kinds 1, 2 and 4 ignore `outside`;
+/// the bytes of kinds 2 and 0x102 are those of this table.
 ///
 /// `work` has [`work_length`] numbers or more, of any content; it is zeros on return.
 ///
 /// # Errors
 ///
-/// Refusals 2, 3, 4, 17 in kinds 101h, 102h and 104h, 6 to 10, then 11 in kinds 1, 2, 101h and 102h and 12 in kinds 1 and
-/// 101h. A refused call leaves `output` untouched.
+/// Refusals 19, 2, 3, 4, 17 in kinds 101h, 102h and 104h, 6 to 10, then 11 in kinds 1, 2, 101h and 102h and 12 in kinds 1
+/// and 101h. A refused call leaves `output` untouched.
 ///
 /// ```
+/// let table = jurnadel::Table::standard();
 /// let mut work = [0; 64];
 /// let mut output = [0; 7];
-/// assert_eq!(jurnadel::write(&[3, 2, 1, 0], 0, 0, 1, &mut work, &mut output), Ok(7));
+/// assert_eq!(jurnadel::write(&table, &[3, 2, 1, 0], 0, 0, 1, &mut work, &mut output), Ok(7));
 /// assert_eq!(output, [0x07, 0, 0x01, 0, 0x02, 0, 0xC8]);
 ///
 /// // A single loop, which kind 4 alone takes; then with its other area outside.
-/// assert_eq!(jurnadel::write(&[1, 0], 0, 0, 4, &mut work, &mut output), Ok(7));
+/// assert_eq!(jurnadel::write(&table, &[1, 0], 0, 0, 4, &mut work, &mut output), Ok(7));
 /// assert_eq!(output, [0x07, 0, 0x04, 0, 0x01, 0, 0xB0]);
 /// let mut output = [0; 9];
-/// assert_eq!(jurnadel::write(&[1, 0], 0, 1, 0x104, &mut work, &mut output), Ok(9));
+/// assert_eq!(jurnadel::write(&table, &[1, 0], 0, 1, 0x104, &mut work, &mut output), Ok(9));
 /// assert_eq!(output, [0x09, 0, 0x04, 0x01, 0x01, 0, 0x01, 0, 0xB0]);
 /// ```
-pub fn write(order: &[u16], start: u16, outside: u16, kind: u16, work: &mut [u16], output: &mut [u8]) -> Result<usize, Refusal> {
+pub fn write(
+    table: &Table,
+    order: &[u16],
+    start: u16,
+    outside: u16,
+    kind: u16,
+    work: &mut [u16],
+    output: &mut [u8],
+) -> Result<usize, Refusal> {
     let (mut length, mut characteristic) = (0, 0);
     // SAFETY: pointers and lengths are those of slices; what is written is borrowed by this call alone.
     let refusal = unsafe {
         sys::jurnadel_write(
+            *table,
             order.as_ptr(),
             order.len(),
             start,
@@ -163,28 +180,30 @@ pub struct ReadBack {
     pub outside: u16,
 }
 
-/// Reads a record's plan into the first 2m entries of `order`, in standard numbering with start 0, and returns m and the
-/// outside.
+/// Reads a record's plan, under the table that it was written under, into the first 2m entries of `order`, in standard
+/// numbering with start 0, and returns m and the outside.
 ///
 /// `work` has [`work_length`] numbers or more, of any content; it is zeros on return.
 ///
 /// # Errors
 ///
-/// Refusals 1, 2, 3, 5, 7, 8, 13. A refused call leaves `order` untouched.
+/// Refusals 19, 1, 2, 3, 5, 7, 8, 13. A refused call leaves `order` untouched.
 ///
 /// ```
+/// let table = jurnadel::Table::standard();
 /// let mut work = [0; 64];
 /// let mut order = [0; 4];
-/// let read = jurnadel::read(&[0x07, 0, 0x01, 0, 0x02, 0, 0xC8], &mut work, &mut order)?;
+/// let read = jurnadel::read(&table, &[0x07, 0, 0x01, 0, 0x02, 0, 0xC8], &mut work, &mut order)?;
 /// assert_eq!(read, jurnadel::ReadBack { trails: 2, outside: 0 });
 /// assert_eq!(order, [3, 2, 1, 0]);
 /// # Ok::<(), jurnadel::Refusal>(())
 /// ```
-pub fn read(record: &[u8], work: &mut [u16], order: &mut [u16]) -> Result<ReadBack, Refusal> {
+pub fn read(table: &Table, record: &[u8], work: &mut [u16], order: &mut [u16]) -> Result<ReadBack, Refusal> {
     let (mut trails, mut outside) = (0, 0);
     // SAFETY: as in `write`.
     let refusal = unsafe {
         sys::jurnadel_read(
+            *table,
             record.as_ptr(),
             record.len(),
             work.as_mut_ptr(),
@@ -247,23 +266,27 @@ pub struct Shelved {
 /// Shelves a record on the shelf whose first `used` bytes are used: finds the first equal one, or puts it just past the
 /// used bytes. It goes over the heads of all records once, and compares only those that are as long as the new one.
 ///
+/// The table is tested; which bytes are equal does not depend on it.
+///
 /// # Errors
 ///
-/// Refusals 1, 2, 3, 5, 14, 16. A refused call leaves the shelf untouched.
+/// Refusals 19, 1, 2, 3, 5, 14, 16. A refused call leaves the shelf untouched.
 ///
 /// ```
 /// let record = [0x08, 0, 0x02, 0, 0x01, 0, 0x80, 0xA2];
+/// let table = jurnadel::Table::standard();
 /// let mut shelf = [0; 20];
-/// let first = jurnadel::shelve(&record, &mut shelf, 0)?;
+/// let first = jurnadel::shelve(&table, &record, &mut shelf, 0)?;
 /// assert_eq!(first, jurnadel::Shelved { number: 0, used: 8 });
-/// assert_eq!(jurnadel::shelve(&record, &mut shelf, first.used)?, first);
+/// assert_eq!(jurnadel::shelve(&table, &record, &mut shelf, first.used)?, first);
 /// # Ok::<(), jurnadel::Refusal>(())
 /// ```
-pub fn shelve(record: &[u8], shelf: &mut [u8], used: usize) -> Result<Shelved, Refusal> {
+pub fn shelve(table: &Table, record: &[u8], shelf: &mut [u8], used: usize) -> Result<Shelved, Refusal> {
     let mut shelved = Shelved { number: 0, used };
     // SAFETY: as in `write`.
     let refusal = unsafe {
         sys::jurnadel_shelve(
+            *table,
             record.as_ptr(),
             record.len(),
             shelf.as_mut_ptr(),

@@ -41,13 +41,14 @@ refusals! {
     NO_SUCH_RECORD = 15: "The shelf holds no record with this number, counting from 0.",
     SHELF_FULL = 16: "The record isn't on the shelf and exceeds the bytes past the used length.",
     BAD_OUTSIDE = 17: "Kind 101h, 102h or 104h, and the outside dart is not below the dart count.",
+    BAD_TABLE = 19: "The group table is not 243 bytes, or two of them are equal, or a call is handed a table that loading never gives.",
 }
 
 /// A refusal: its number in documents 01 and 02 and, of refusal 10, the characteristic.
 ///
 /// ```
 /// let crossing = [3, 2, 4, 5, 1, 0];
-/// let refusal = jurnadel::write(&crossing, 0, 0, 2, &mut [0; 96], &mut [0; 8]).unwrap_err();
+/// let refusal = jurnadel::write(&jurnadel::Table::standard(), &crossing, 0, 0, 2, &mut [0; 96], &mut [0; 8]).unwrap_err();
 /// assert_eq!(refusal.number(), jurnadel::Refusal::NOT_PLANAR);
 /// assert_eq!(refusal.meaning(), "It is not planar.");
 /// assert_eq!(refusal.characteristic(), Some(0));
@@ -65,7 +66,7 @@ impl Refusal {
         Refusal { number, characteristic }
     }
 
-    /// Its number, 1 to 17.
+    /// Its number, 1 to 17 or 19.
     #[must_use]
     pub fn number(self) -> u16 {
         self.number

@@ -3,9 +3,15 @@
 //! The safe functions of this crate are made of these. They are public for callers who lend raw memory; the header says
 //! what each does and what a caller must see to.
 
+/// A group table as the header has it: the same as [`Table`](crate::Table).
+pub use crate::Table as jurnadel_table;
+
 #[allow(missing_docs)]
 extern "C" {
+    pub fn jurnadel_load_table(bytes: *const u8, bytes_len: usize, refusal: *mut u16) -> jurnadel_table;
+    pub fn jurnadel_standard_table() -> jurnadel_table;
     pub fn jurnadel_write(
+        table: jurnadel_table,
         order: *const u16,
         darts: usize,
         start: u16,
@@ -19,6 +25,7 @@ extern "C" {
         characteristic: *mut i32,
     ) -> u16;
     pub fn jurnadel_read(
+        table: jurnadel_table,
         record: *const u8,
         record_len: usize,
         work: *mut u16,
@@ -39,6 +46,7 @@ extern "C" {
         characteristic: *mut i32,
     ) -> u16;
     pub fn jurnadel_shelve(
+        table: jurnadel_table,
         record: *const u8,
         record_len: usize,
         shelf: *mut u8,

@@ -1,8 +1,8 @@
 //! Every safe function on arbitrary content and lengths: none panics, each meets the refusals of its list only, and what is
 //! not refused is as long as it says.
 
-use jurnadel::Refusal;
-use std::collections::HashMap;
+use jurnadel::{Refusal, Table};
+use std::collections::{HashMap, HashSet};
 
 /// The kinds of records.
 const KINDS: [u16; 6] = [1, 2, 4, 0x101, 0x102, 0x104];
@@ -37,6 +37,31 @@ impl Numbers {
         (0..length).map(|_| self.below(256) as u8).collect()
     }
 
+    /// All bytes, in some order.
+    fn all_bytes(&mut self) -> Vec<u8> {
+        let mut bytes: Vec<u8> = (0..=255).collect();
+        for last in (1..bytes.len()).rev() {
+            bytes.swap(last, self.below(last + 1));
+        }
+        bytes
+    }
+
+    /// Mostly a table that loading gives; sometimes one with another byte somewhere, or of any content.
+    fn table(&mut self) -> Table {
+        let mut table = match self.below(3) {
+            0 => Table::load(&self.all_bytes()[..243]).expect("243 different bytes"),
+            _ => Table::standard(),
+        };
+        match self.below(24) {
+            0 => table.bytes[self.below(243)] = self.below(256) as u8,
+            1 => table.inverse[self.below(256)] = self.below(256) as u8,
+            2 => table.bytes.fill_with(|| self.below(256) as u8),
+            3 => table.inverse.fill_with(|| self.below(256) as u8),
+            _ => {}
+        }
+        table
+    }
+
     /// A turning order, most often of all darts in some order.
     fn order(&mut self) -> Vec<u16> {
         let darts = 2 * self.below(5) + self.below(15) / 14;
@@ -50,8 +75,8 @@ impl Numbers {
         order
     }
 
-    /// A plan's record, or bytes with the head of one; now and then a bit is turned, or it is cut.
-    fn record(&mut self) -> Vec<u8> {
+    /// A plan's record under this table, or bytes with the head of one; now and then a bit is turned, or it is cut.
+    fn record(&mut self, table: &Table) -> Vec<u8> {
         let (kind, trails) = (KINDS[self.below(KINDS.len())], 1 + self.below(4) as u16);
         let length = jurnadel::record_length(kind, trails).unwrap_or(0);
         let mut record = self.bytes(length);
@@ -59,7 +84,7 @@ impl Numbers {
             record[2 * place..][..2].copy_from_slice(&field.to_le_bytes());
         }
         let (order, outside) = (self.order(), self.mostly(4) as u16);
-        record = jurnadel::record_of(&order, 0, outside, kind).unwrap_or(record);
+        record = jurnadel::record_of(table, &order, 0, outside, kind).unwrap_or(record);
         if self.below(5) == 0 {
             let place = self.below(record.len());
             record[place] ^= 1 << self.below(8);
@@ -71,37 +96,86 @@ impl Numbers {
     }
 }
 
+/// Whether loading gives this table: then no call refuses it.
+fn is_loaded(table: &Table) -> bool {
+    Table::load(&table.bytes) == Ok(*table)
+}
+
+/// Whether the answer is 19 exactly when loading never gives the table.
+fn tested<T>(answer: &Result<T, Refusal>, table: &Table) -> bool {
+    answer.as_ref().is_err_and(|refusal| refusal.number() == Refusal::BAD_TABLE) != is_loaded(table)
+}
+
 fn met<T>(answer: Result<T, Refusal>, list: &[u16]) -> Option<T> {
     answer.map_err(|refusal| assert!(list.contains(&refusal.number()), "{refusal} is not in {list:?}")).ok()
 }
 
 #[test]
+fn loading() {
+    let mut numbers = Numbers(1719);
+    let (mut loaded, mut refused) = (0, 0);
+    for _ in 0..2000 {
+        let mut bytes = numbers.all_bytes();
+        bytes.truncate(if numbers.below(2) == 0 { 243 } else { numbers.below(257) });
+        for _ in 0..numbers.below(3).min(bytes.len()) {
+            let place = numbers.below(bytes.len());
+            bytes[place] = numbers.below(256) as u8;
+        }
+        let different: HashSet<u8> = bytes.iter().copied().collect();
+        match Table::load(&bytes) {
+            Ok(table) => {
+                assert!(bytes.len() == 243 && different.len() == 243);
+                assert_eq!(table.bytes[..], bytes);
+                for byte in 0..=255 {
+                    let value = usize::from(table.inverse[usize::from(byte)]);
+                    assert_eq!(bytes.get(value), different.get(&byte), "byte {byte}: value {value}");
+                }
+                loaded += 1;
+            }
+            Err(refusal) => {
+                assert!(bytes.len() != 243 || different.len() < 243);
+                assert_eq!(refusal.number(), Refusal::BAD_TABLE);
+                refused += 1;
+            }
+        }
+    }
+    assert!(loaded > 100 && refused > 100, "{loaded} loaded, {refused} refused");
+}
+
+#[test]
 fn plans_and_records() {
     let mut numbers = Numbers(2026);
-    let (mut written, mut read) = (HashMap::new(), HashMap::new());
-    for _ in 0..40_000 {
+    let (mut written, mut read, mut refused) = (HashMap::new(), HashMap::new(), 0);
+    for _ in 0..60_000 {
+        let table = numbers.table();
+        refused += u32::from(!is_loaded(&table));
         let (order, start, outside) = (numbers.order(), numbers.mostly(4) as u16, numbers.mostly(4) as u16);
         let kind = numbers.kind();
         let (mut work, mut output) = (vec![7; numbers.below(200)], vec![7; numbers.below(14)]);
-        let answer = jurnadel::write(&order, start, outside, kind, &mut work, &mut output);
-        met(answer, &[2, 3, 4, 6, 7, 8, 9, 10, 11, 12, 17]);
+        let answer = jurnadel::write(&table, &order, start, outside, kind, &mut work, &mut output);
+        assert!(tested(&answer, &table));
+        met(answer, &[19, 2, 3, 4, 6, 7, 8, 9, 10, 11, 12, 17]);
         assert!(kind > 0x100 || answer.map_err(Refusal::number) != Err(Refusal::BAD_OUTSIDE));
         assert!(work.iter().all(|&number| number == 0));
         assert!(output[answer.unwrap_or(0)..].iter().all(|&byte| byte == 7));
-        let record = jurnadel::record_of(&order, start, outside, kind);
-        if let Some(record) = met(record, &[2, 3, 4, 6, 9, 10, 11, 12, 17]) {
-            let plan = jurnadel::plan_of(&record).expect("a record");
+        let record = jurnadel::record_of(&table, &order, start, outside, kind);
+        assert!(tested(&record, &table));
+        if let Some(record) = met(record, &[19, 2, 3, 4, 6, 9, 10, 11, 12, 17]) {
+            let plan = jurnadel::plan_of(&table, &record).expect("a record");
             assert_eq!(plan.order.len(), order.len());
             assert!(plan.outside == 0 || kind > 0x100);
             *written.entry(kind).or_insert(0) += 1;
         }
-        let (record, mut order) = (numbers.record(), vec![9; numbers.below(12)]);
-        let answer = jurnadel::read(&record, &mut work, &mut order);
-        met(answer, &[1, 2, 3, 5, 7, 8, 13]);
+        let (mut work, mut order) = (vec![7; numbers.below(200)], vec![9; numbers.below(12)]);
+        let record = numbers.record(&table);
+        let answer = jurnadel::read(&table, &record, &mut work, &mut order);
+        assert!(tested(&answer, &table));
+        assert!(work.iter().all(|&number| number == 0));
+        met(answer, &[19, 1, 2, 3, 5, 7, 8, 13]);
         assert!(order[answer.map_or(0, |read| 2 * read.trails)..].iter().all(|&entry| entry == 9));
-        if let Some(plan) = met(jurnadel::plan_of(&record), &[1, 2, 3, 5, 13]) {
+        if let Some(plan) = met(jurnadel::plan_of(&table, &record), &[19, 1, 2, 3, 5, 13]) {
             let kind = u16::from_le_bytes([record[2], record[3]]);
-            assert_eq!(jurnadel::record_of(&plan.order, 0, plan.outside, kind), Ok(record));
+            assert_eq!(jurnadel::record_of(&table, &plan.order, 0, plan.outside, kind), Ok(record));
             *read.entry(kind).or_insert(0) += 1;
         }
     }
@@ -109,6 +183,7 @@ fn plans_and_records() {
         let counts = [&written, &read].map(|count| count.get(&kind).copied().unwrap_or(0));
         assert!(counts.iter().all(|&count| count > 100), "kind {kind:X}h: {counts:?} written and read");
     }
+    assert!(refused > 100, "{refused} tables refused");
 }
 
 #[test]
@@ -142,12 +217,16 @@ fn shelves() {
     let mut numbers = Numbers(1105);
     let mut shelved = 0;
     for _ in 0..20_000 {
-        let record = numbers.record();
-        let mut shelf: Vec<u8> = (0..numbers.below(3)).flat_map(|_| numbers.record()).collect();
+        let table = numbers.table();
+        let record = numbers.record(&table);
+        let mut shelf: Vec<u8> = (0..numbers.below(3)).flat_map(|_| numbers.record(&table)).collect();
         let used = if numbers.below(4) == 0 { numbers.mostly(30) } else { shelf.len() };
         shelf.resize(shelf.len() + numbers.below(20), 7);
         let mut after = shelf.clone();
-        if let Some(answer) = met(jurnadel::shelve(&record, &mut after, used), &[1, 2, 3, 5, 14, 16]) {
+        let answer = jurnadel::shelve(&table, &record, &mut after, used);
+        assert!(tested(&answer, &table));
+        assert!(answer.is_ok() || after == shelf);
+        if let Some(answer) = met(answer, &[19, 1, 2, 3, 5, 14, 16]) {
             assert_eq!(jurnadel::fetch(&after, answer.used, answer.number), Ok(&record[..]));
             shelved += 1;
         }
