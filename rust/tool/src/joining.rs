@@ -20,7 +20,7 @@
 use crate::kinds::ANY;
 use crate::planar_code::Graph;
 use crate::report::in_words;
-use jurnadel::{Refusal, MAX_TRAILS};
+use jurnadel::{Refusal, Table, MAX_TRAILS};
 use std::collections::BTreeMap;
 use std::fmt;
 
@@ -101,7 +101,7 @@ pub fn is_mutual(graph: &Graph) -> bool {
 }
 
 fn record(order: &[u16]) -> Result<Vec<u8>, Untaken> {
-    jurnadel::record_of(order, 0, 0, ANY).map_err(Untaken::Refused)
+    jurnadel::record_of(&Table::standard(), order, 0, 0, ANY).map_err(Untaken::Refused)
 }
 
 /// The bundles of a graph but its loops, with turn 0.
@@ -396,7 +396,7 @@ mod tests {
     #[test]
     fn parallel_edges_nest() {
         let three = turning_order(&vec![vec![1, 1, 1], vec![0, 0, 0]]).unwrap();
-        assert_eq!(jurnadel::record_of(&three, 0, 0, 1).unwrap(), [8, 0, 1, 0, 3, 0, 0xD2, 0x80]);
+        assert_eq!(jurnadel::record_of(&Table::standard(), &three, 0, 0, 1).unwrap(), [8, 0, 1, 0, 3, 0, 0xD2, 0x80]);
     }
 
     #[test]
@@ -428,7 +428,7 @@ mod tests {
         assert_eq!(turning_order(&vec![vec![0, 1, 0, 0, 2, 0], vec![0], vec![0]]), Err(Untaken::OpenLoops(0)));
         // Two parallel edges between them tell.
         let around = turning_order(&vec![vec![1, 0, 0, 1, 0, 0], vec![0, 0]]).unwrap();
-        assert_eq!(jurnadel::record_of(&around, 0, 0, ANY).unwrap(), [8, 0, 4, 0, 4, 0, 0x26, 0xFB]);
+        assert_eq!(record(&around).unwrap(), [8, 0, 4, 0, 4, 0, 0x26, 0xFB]);
     }
 
     #[test]

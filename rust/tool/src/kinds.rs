@@ -23,6 +23,11 @@ pub fn has_outside(kind: u16) -> bool {
     group(true).contains(&kind)
 }
 
+/// Whether records of this kind have groups of labels, in the bytes of the group table.
+pub fn has_groups(kind: u16) -> bool {
+    matches!(kind, 2 | 0x102)
+}
+
 /// The kind of a record.
 pub fn of(record: &[u8]) -> u16 {
     u16::from_le_bytes([record[2], record[3]])

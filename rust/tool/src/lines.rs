@@ -6,7 +6,7 @@
 
 use crate::kinds::{self, in_kind};
 use crate::record_file::{from_hex, push_hex};
-use jurnadel::{ReadBack, Refusal, MAX_ORDER_LENGTH, MAX_RECORD_LENGTH, MAX_WORK_LENGTH};
+use jurnadel::{ReadBack, Refusal, Table, MAX_ORDER_LENGTH, MAX_RECORD_LENGTH, MAX_WORK_LENGTH};
 use std::io::Write as _;
 
 /// The most bytes of a line, its end not counted. The longest plan takes 49 kB; a longer line is malformed, so that memory
@@ -34,18 +34,20 @@ impl From<Refusal> for Untaken {
     }
 }
 
-/// Answers lines one way, with buffers that serve every plan.
+/// Answers lines one way, under one group table, with buffers that serve every plan.
+#[derive(Clone)]
 pub struct Coder {
     way: Way,
+    table: Table,
     work: Vec<u16>,
     numbers: Vec<u16>,
     record: Vec<u8>,
 }
 
 impl Coder {
-    pub fn new(way: Way) -> Coder {
+    pub fn new(way: Way, table: Table) -> Coder {
         let work = vec![0; MAX_WORK_LENGTH];
-        Coder { way, work, numbers: vec![0; MAX_ORDER_LENGTH], record: vec![0; MAX_RECORD_LENGTH] }
+        Coder { way, table, work, numbers: vec![0; MAX_ORDER_LENGTH], record: vec![0; MAX_RECORD_LENGTH] }
     }
 
     /// Adds the answer to a line, and says whether it is a plan or a record.
@@ -72,7 +74,7 @@ impl Coder {
         let (&first, order) = self.numbers.split_first().ok_or(Untaken::Malformed)?;
         let (start, outside) = (before.unwrap_or(first), first);
         let work = for_trails(&mut self.work, order.len() / 2);
-        let write = |kind| jurnadel::write(order, start, outside, kind, work, &mut self.record);
+        let write = |kind| jurnadel::write(&self.table, order, start, outside, kind, work, &mut self.record);
         let length = in_kind(kind, before.is_some(), write)?;
         push_hex(&self.record[..length], answers);
         Ok(())
@@ -83,7 +85,7 @@ impl Coder {
         from_hex(line, &mut self.record).filter(|()| !self.record.is_empty()).ok_or(Untaken::Malformed)?;
         let trails = self.record.get(4..6).map_or(0, |field| u16::from_le_bytes([field[0], field[1]]));
         let work = for_trails(&mut self.work, trails.into());
-        let ReadBack { trails, outside } = jurnadel::read(&self.record, work, &mut self.numbers)?;
+        let ReadBack { trails, outside } = jurnadel::read(&self.table, &self.record, work, &mut self.numbers)?;
         let outside = kinds::has_outside(kinds::of(&self.record)).then_some(outside);
         push_plan(0, outside, &self.numbers[..2 * trails], answers);
         Ok(())
@@ -177,7 +179,11 @@ mod tests {
     use super::*;
 
     fn answers(way: Way, lines: &[u8]) -> String {
-        let mut coder = Coder::new(way);
+        answers_under(Table::standard(), way, lines)
+    }
+
+    fn answers_under(table: Table, way: Way, lines: &[u8]) -> String {
+        let mut coder = Coder::new(way, table);
         let mut answers = Vec::new();
         for line in lines.split_inclusive(|&byte| byte == b'\n') {
             let before = answers.len();
@@ -261,6 +267,18 @@ mod tests {
         // As long as a length field can say, and longer.
         assert_eq!(read(format!("FFFF0100FFFF{}\n", "00".repeat(65_529)).as_bytes()), "refused 3\n");
         assert_eq!(read("00".repeat(65_536).as_bytes()), "refused 1\n");
+    }
+
+    #[test]
+    fn under_another_table() {
+        let bytes: Vec<u8> = (13..=255).collect();
+        let shifted = Table::load(&bytes).unwrap();
+        let record = b"08000200010080AF\n";
+        assert_eq!(answers_under(shifted, Way::Write(None), b"0 0 1\n").as_bytes(), record);
+        assert_eq!(answers_under(shifted, Way::Read, record), "0 0 1\n");
+        assert_eq!(answers(Way::Read, record), "refused 13\n");
+        assert_eq!(answers_under(shifted, Way::Read, b"08000200010080A2\n"), "refused 13\n");
+        assert_eq!(answers_under(shifted, Way::Write(None), b"0 3 2 1 0\n0 1 0\n"), "070001000200C8\n070004000100B0\n");
     }
 
     #[test]

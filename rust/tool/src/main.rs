@@ -5,7 +5,8 @@
 //! * `commands`: what each command does, with its help; `help`: the overview;
 //! * `options`: the words of the command line; `names`: names as a terminal can take them;
 //! * `files`: files read whole, and files that appear whole or not at all;
-//! * `kinds`: the kinds of records; `plan_file`, `record_file`: two kinds of file; `plan_folder`: folders of plan files; `source`: a plan in whatever file;
+//! * `kinds`: the kinds of records; `table`: the group table of some; `plan_file`, `record_file`: two kinds of file; `plan_folder`:
+//!   folders of plan files; `source`: a plan in whatever file;
 //! * `lines`: a plan or a record in one line, and its answer; `stream`: a stream of them, on several threads;
 //! * `shape`: junctions, areas and the contour walk of a turning order; `draw`: a plan as a picture;
 //! * `shelf`: a shelf in memory, with its `index`; `shelf_file`: its file, `lock` and `sums`; `survey`: what stands on a shelf
@@ -41,6 +42,7 @@ mod stdout;
 mod stream;
 mod sums;
 mod survey;
+mod table;
 
 use commands::{Command, COMMANDS};
 use options::Word;

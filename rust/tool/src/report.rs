@@ -1,6 +1,6 @@
 //! Messages, and the exit status that they lead to.
 
-use crate::stdout;
+use crate::{kinds, stdout};
 use jurnadel::Refusal;
 use std::fmt::Display;
 use std::io::{self, Write};
@@ -28,6 +28,17 @@ impl Problem {
     /// A refusal at a place: a file, and a line or record in it.
     pub fn refused(place: impl Display, refusal: Refusal) -> Problem {
         Problem::Refused(format!("{place}: {}", in_words(refusal)))
+    }
+
+    /// As [`Problem::refused`], of a record that cannot be read. Where its kind has groups, the group table may be another one.
+    pub fn unread(place: impl Display, record: &[u8], refusal: Refusal) -> Problem {
+        let words = match refusal.number() {
+            Refusal::NO_FIT_PLAN if kinds::has_groups(kinds::of(record)) => {
+                with_number("no plan has this record; it may have been damaged, or written under another group table", refusal)
+            }
+            _ => in_words(refusal),
+        };
+        Problem::Refused(format!("{place}: {words}"))
     }
 
     /// A file, or a place in one, and what is wrong with it.

@@ -5,7 +5,7 @@
 
 use crate::index::{Index, Place};
 use crate::sums;
-use jurnadel::Refusal;
+use jurnadel::{Refusal, Table};
 
 /// The last part of a shelf, which the library goes over for each new record, is begun anew past this many bytes.
 const LAST_PART: usize = 1 << 15;
@@ -49,8 +49,8 @@ impl Shelf {
         self.index.find(self.bytes(), record)
     }
 
-    /// Shelves a record: its number, and whether it is new.
-    pub fn shelve(&mut self, record: &[u8]) -> Result<(usize, bool), Refusal> {
+    /// Shelves a record under this group table: its number, and whether it is new.
+    pub fn shelve(&mut self, table: &Table, record: &[u8]) -> Result<(usize, bool), Refusal> {
         if let Some(number) = self.find(record) {
             return Ok((number, false));
         }
@@ -62,7 +62,7 @@ impl Shelf {
         let length = self.size.map_or(enough, |size| size.min(enough));
         self.bytes.resize(length, 0);
         let place = Place { number: self.sums.len(), at: self.used };
-        let shelved = jurnadel::shelve(record, &mut self.bytes[self.last.at..], self.used - self.last.at)?;
+        let shelved = jurnadel::shelve(table, record, &mut self.bytes[self.last.at..], self.used - self.last.at)?;
         self.used = self.last.at + shelved.used;
         self.index.add(&self.bytes, record, place);
         self.sums.push(sums::crc(record));
@@ -90,17 +90,17 @@ mod tests {
     /// Records of stars, each larger than the one before.
     fn star(trails: u16) -> Vec<u8> {
         let order: Vec<u16> = (0..2 * trails).map(|dart| if dart % 2 == 0 { (dart + 2) % (2 * trails) } else { dart }).collect();
-        jurnadel::record_of(&order, 0, 0, 2).unwrap()
+        jurnadel::record_of(&Table::standard(), &order, 0, 0, 2).unwrap()
     }
 
     #[test]
     fn the_same_as_calls_on_the_whole_shelf() {
-        let mut shelf = Shelf::new(Vec::new(), None).unwrap();
+        let (mut shelf, table) = (Shelf::new(Vec::new(), None).unwrap(), Table::standard());
         let (mut whole, mut used) = (vec![0; 1 << 20], 0);
         let sizes = (1..600).chain((1..600).step_by(7)).chain(600..700);
         for record in sizes.map(star) {
-            let wanted = jurnadel::shelve(&record, &mut whole, used).unwrap();
-            assert_eq!(shelf.shelve(&record), Ok((wanted.number, wanted.used > used)));
+            let wanted = jurnadel::shelve(&table, &record, &mut whole, used).unwrap();
+            assert_eq!(shelf.shelve(&table, &record), Ok((wanted.number, wanted.used > used)));
             used = wanted.used;
         }
         assert!(used > 2 * LAST_PART);
@@ -111,11 +111,11 @@ mod tests {
 
     #[test]
     fn a_shelf_of_one_size() {
-        let (one, two) = (star(1), star(2));
+        let (one, two, table) = (star(1), star(2), Table::standard());
         let mut shelf = Shelf::new(one.clone(), Some(15)).unwrap();
-        assert_eq!(shelf.shelve(&two).unwrap_err().number(), Refusal::SHELF_FULL);
-        assert_eq!(shelf.shelve(&one), Ok((0, false)));
-        assert_eq!(shelf.shelve(&one[..5]).unwrap_err().number(), Refusal::RECORD_CUT);
+        assert_eq!(shelf.shelve(&table, &two).unwrap_err().number(), Refusal::SHELF_FULL);
+        assert_eq!(shelf.shelve(&table, &one), Ok((0, false)));
+        assert_eq!(shelf.shelve(&table, &one[..5]).unwrap_err().number(), Refusal::RECORD_CUT);
         assert_eq!(shelf.bytes(), one);
         assert_eq!(Shelf::new(one, Some(7)).err().map(Refusal::number), Some(Refusal::SHELF_BROKEN));
     }

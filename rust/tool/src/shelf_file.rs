@@ -14,6 +14,7 @@ use crate::record_file;
 use crate::report::{in_words, Problem};
 use crate::shelf::{sound, Shelf};
 use crate::sums;
+use crate::table::is_table;
 use jurnadel::{Refusal, Walk};
 use std::fs::{self, File};
 use std::io::{self, ErrorKind, Read as _};
@@ -93,6 +94,8 @@ fn another_file(bytes: &[u8]) -> Option<&'static str> {
         return Some("planar_code");
     } else if sums::are_sums(bytes) {
         return Some("a file of checksums");
+    } else if is_table(bytes) {
+        return Some("a group table");
     }
     let text = text_of(bytes)?;
     if text.lines().any(|line| line.trim_start().starts_with("start:")) {

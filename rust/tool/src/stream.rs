@@ -5,7 +5,7 @@
 //! goes round, which bounds the memory.
 
 use crate::files::Source;
-use crate::lines::{Coder, Way, LONGEST};
+use crate::lines::{Coder, LONGEST};
 use crate::report::Report;
 use std::collections::BTreeMap;
 use std::io::{self, ErrorKind};
@@ -127,11 +127,12 @@ impl Iterator for InOrder {
     }
 }
 
-/// Answers every line of a source, `jobs` blocks at a time. Ends early, without an error, if nobody takes the answers.
-pub fn answer_all(source: Source, way: Way, jobs: usize, report: &mut Report) -> io::Result<()> {
+/// Answers every line of a source with copies of a coder, `jobs` blocks at a time. Ends early, without an error, if nobody takes the
+/// answers.
+pub fn answer_all(source: Source, coder: &Coder, jobs: usize, report: &mut Report) -> io::Result<()> {
     let (give_back, empty) = channel();
     (0..BLOCKS_EACH * jobs).try_for_each(|_| give_back.send(Block::default())).map_err(io::Error::other)?;
-    let answered = workers(Input::new(source, empty), way, jobs)?;
+    let answered = workers(Input::new(source, empty), coder, jobs)?;
     for mut block in (InOrder { answered, early: BTreeMap::new(), next: 0 }) {
         print(&block, report);
         if let Some(error) = block.error.take() {
@@ -155,14 +156,14 @@ fn print(block: &Block, report: &mut Report) {
 
 /// Begins the workers; the blocks that they have answered, in any order. They end with the input or with the program: one
 /// that waits for input doesn't keep the program from ending. Where the system has no more threads, fewer must do.
-fn workers(input: Input, way: Way, jobs: usize) -> io::Result<Receiver<Block>> {
+fn workers(input: Input, coder: &Coder, jobs: usize) -> io::Result<Receiver<Block>> {
     let input = Arc::new(Mutex::new(input));
     let (done, answered) = channel();
     for job in 0..jobs {
-        let (input, done) = (Arc::clone(&input), done.clone());
+        let (input, coder, done) = (Arc::clone(&input), coder.clone(), done.clone());
         let begun = thread::Builder::new().spawn(move || {
             // The others would wait for the lost block.
-            catch_unwind(AssertUnwindSafe(|| work(&input, way, &done))).unwrap_or_else(|_| std::process::exit(PANICKED));
+            catch_unwind(AssertUnwindSafe(|| work(&input, coder, &done))).unwrap_or_else(|_| std::process::exit(PANICKED));
         });
         match begun {
             Err(error) if job == 0 => return Err(error),
@@ -173,8 +174,7 @@ fn workers(input: Input, way: Way, jobs: usize) -> io::Result<Receiver<Block>> {
     Ok(answered)
 }
 
-fn work(input: &Mutex<Input>, way: Way, done: &Sender<Block>) {
-    let mut coder = Coder::new(way);
+fn work(input: &Mutex<Input>, mut coder: Coder, done: &Sender<Block>) {
     let next = || input.lock().ok()?.next();
     while let Some(mut block) = next() {
         block.answer(&mut coder);

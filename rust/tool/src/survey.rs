@@ -5,7 +5,7 @@
 //! many stand before it. Past it the checksums tell, if they are kept: a run of records stands where its checksums do.
 
 use crate::sums;
-use jurnadel::Refusal;
+use jurnadel::{Refusal, Table};
 use std::ops::Range;
 
 /// A part of a shelf file.
@@ -36,20 +36,20 @@ impl Found<'_> {
     }
 }
 
-/// The parts of a shelf file, with the checksums that are kept for it.
-pub fn parts<'a>(shelf: &'a [u8], kept: &[u32]) -> Vec<Part<'a>> {
+/// The parts of a shelf file of records under this group table, with the checksums that are kept for it.
+pub fn parts<'a>(table: &Table, shelf: &'a [u8], kept: &[u32]) -> Vec<Part<'a>> {
     let mut parts = Vec::new();
     let (mut at, mut least) = (0, 0);
     while at < shelf.len() {
-        let run = run_at(shelf, at);
+        let run = run_at(table, shelf, at);
         let first = if at == 0 { Some(0) } else { first_number(&run, kept, least) };
         least = first.map_or(least, |first| first + run.len());
         for (index, record) in run.into_iter().enumerate() {
-            parts.push(Part::Record(found(record, at, first.map(|first| first + index), kept)));
+            parts.push(Part::Record(found(table, record, at, first.map(|first| first + index), kept)));
             at += record.len();
         }
         if at < shelf.len() {
-            let end = next_record(shelf, at + 1);
+            let end = next_record(table, shelf, at + 1);
             parts.push(Part::Gap(at..end));
             at = end;
         }
@@ -58,12 +58,12 @@ pub fn parts<'a>(shelf: &'a [u8], kept: &[u32]) -> Vec<Part<'a>> {
 }
 
 /// The records that stand one after another from a place on.
-fn run_at(shelf: &[u8], at: usize) -> Vec<&[u8]> {
+fn run_at<'a>(table: &Table, shelf: &'a [u8], at: usize) -> Vec<&'a [u8]> {
     let mut walk = jurnadel::walk_from(shelf, shelf.len(), at);
     let mut run = Vec::new();
     while let Some(record) = walk.next() {
         let followed = walk.place() == shelf.len() || walk.clone().next().is_some();
-        if !followed && jurnadel::plan_of(record).is_err() {
+        if !followed && jurnadel::plan_of(table, record).is_err() {
             break;
         }
         run.push(record);
@@ -81,17 +81,17 @@ fn first_number(run: &[&[u8]], kept: &[u32], least: usize) -> Option<usize> {
     })
 }
 
-fn found<'a>(record: &'a [u8], at: usize, number: Option<usize>, kept: &[u32]) -> Found<'a> {
-    let unreadable = jurnadel::plan_of(record).err();
+fn found<'a>(table: &Table, record: &'a [u8], at: usize, number: Option<usize>, kept: &[u32]) -> Found<'a> {
+    let unreadable = jurnadel::plan_of(table, record).err();
     let sum_agrees = number.and_then(|number| kept.get(number)).map(|&kept| kept == sums::crc(record));
     Found { record, at, number, unreadable, sum_agrees }
 }
 
 /// The next place of a record that a plan has, or the end.
-fn next_record(shelf: &[u8], from: usize) -> usize {
+fn next_record(table: &Table, shelf: &[u8], from: usize) -> usize {
     let stands = |at: &usize| {
         let record = jurnadel::walk_from(shelf, shelf.len(), *at).next();
-        record.is_some_and(|record| jurnadel::plan_of(record).is_ok())
+        record.is_some_and(|record| jurnadel::plan_of(table, record).is_ok())
     };
     (from..shelf.len()).find(stands).unwrap_or(shelf.len())
 }
@@ -111,7 +111,7 @@ mod tests {
         let kept: Vec<u32> = if sums { records.map(sums::crc).to_vec() } else { Vec::new() };
         let mut shelf = records.concat();
         shelf[place] = value;
-        let words = parts(&shelf, &kept).into_iter().map(|part| match part {
+        let words = parts(&Table::standard(), &shelf, &kept).into_iter().map(|part| match part {
             Part::Gap(gap) => format!("{gap:?}"),
             Part::Record(found) => {
                 let number = found.number.map_or(String::from("?"), |number| number.to_string());
@@ -142,15 +142,18 @@ mod tests {
     fn a_turned_bit() {
         let valley =
             [26, 24, 15, 4, 3, 25, 29, 0, 7, 10, 28, 27, 22, 14, 16, 20, 13, 18, 17, 19, 1, 21, 11, 23, 2, 6, 8, 12, 9, 5];
-        let valley = jurnadel::record_of(&valley, 7, 7, 2).unwrap();
+        let valley = jurnadel::record_of(&Table::standard(), &valley, 7, 7, 2).unwrap();
         let shelf = [&PAIR[..], &TRIANGLE, &valley, &STICK].concat();
         let kept: Vec<u32> = jurnadel::walk_from(&shelf, shelf.len(), 0).map(sums::crc).collect();
         let mut unnoticed = 0;
         for bit in 0..8 * shelf.len() {
             let mut turned = shelf.clone();
             turned[bit / 8] ^= 1 << (bit % 8);
-            let whole =
-                |kept: &[u32]| parts(&turned, kept).iter().all(|part| matches!(part, Part::Record(found) if found.is_whole()));
+            let whole = |kept: &[u32]| {
+                parts(&Table::standard(), &turned, kept)
+                    .iter()
+                    .all(|part| matches!(part, Part::Record(found) if found.is_whole()))
+            };
             assert!(!whole(&kept), "bit {bit}");
             unnoticed += usize::from(whole(&[]));
         }
@@ -159,7 +162,8 @@ mod tests {
 
     #[test]
     fn no_shelf_at_all() {
-        assert!(parts(&[], &[]).is_empty());
-        assert!(matches!(&parts(&[1, 2, 3], &[])[..], [Part::Gap(gap)] if *gap == (0..3)));
+        let parts = |shelf| parts(&Table::standard(), shelf, &[]);
+        assert!(parts(&[]).is_empty());
+        assert!(matches!(&parts(&[1, 2, 3])[..], [Part::Gap(gap)] if *gap == (0..3)));
     }
 }

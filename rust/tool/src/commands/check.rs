@@ -6,12 +6,14 @@ use crate::kinds;
 use crate::options::{Options, Word};
 use crate::plan_file::Plan;
 use crate::report::{Problem, Report};
+use crate::table::{self, TABLE};
+use jurnadel::Table;
 
 pub const COMMAND: Command =
     Command { name: "check", summary: "say whether plan files are sound, and how long their records are", help: HELP, run };
 
 const HELP: &str = "\
-usage: jurnadel check [--kind KIND] [--files-from LIST] PLAN..
+usage: jurnadel check [--kind KIND] [--table FILE] [--files-from LIST] PLAN..
 
 Says of each plan file how many junctions, trails and areas it has, and the kind
 and length of its record: kind 1, or 2 for a plan with a dead end other than its
@@ -19,6 +21,8 @@ start, or 4 for one with a loop; of a plan that names an outside 101h, 102h or
 104h.
 
   --kind KIND         the record in this kind: 1, 2, 4, 101h, 102h or 104h
+  --table FILE        under this group table (jurnadel write --help), which
+                      changes neither kind nor length
   --files-from LIST   also the files that LIST names, a line each or
                       NUL-separated; - is standard input
 
@@ -28,10 +32,11 @@ Exit status 1 if some plan is refused.
 ";
 
 fn run(words: &[Word], report: &mut Report) -> Done {
-    let options = Options::parse(words, &[], &["--kind", FILES_FROM])?;
+    let options = Options::parse(words, &[], &["--kind", TABLE, FILES_FROM])?;
     let kind = options.kind()?;
+    let table = table::of(&options)?;
     for path in &inputs::files(&options, &options.words, "PLAN", "plan")? {
-        match check_one(path, kind) {
+        match check_one(path, &table, kind) {
             Ok(line) => report.line(line),
             Err(problem) => report.problem(&problem),
         }
@@ -40,9 +45,9 @@ fn run(words: &[Word], report: &mut Report) -> Done {
 }
 
 /// What there is to say of a plan.
-fn check_one(path: &Word, kind: Option<u16>) -> Result<String, Problem> {
+fn check_one(path: &Word, table: &Table, kind: Option<u16>) -> Result<String, Problem> {
     let plan = Plan::load(path)?;
-    let record = record_of(&plan, path, kind)?;
+    let record = record_of(&plan, path, table, kind)?;
     let taken = kinds::of(&record);
     let why = if kind.is_none() { why(taken) } else { "" };
     Ok(format!("{path}: {}; kind {}{why}, {} bytes", counts(&plan.order), kinds::name(taken), record.len()))

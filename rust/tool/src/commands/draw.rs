@@ -6,11 +6,12 @@ use crate::options::{Options, Word};
 use crate::plan_file::Plan;
 use crate::report::{Problem, Report};
 use crate::source;
+use crate::table::{self, TABLE};
 
 pub const COMMAND: Command = Command { name: "draw", summary: "draw a plan, as an SVG picture", help: HELP, run };
 
 const HELP: &str = "\
-usage: jurnadel draw [--outside AREA] [-o FILE [--force]]
+usage: jurnadel draw [--outside AREA] [--table FILE] [-o FILE [--force]]
                      PLAN | RECORD | SHELF NUMBER
 
 Draws a plan as an SVG picture, which any browser shows: no two trails cross,
@@ -25,14 +26,17 @@ trail 3 has darts 6 and 7. Loops, parallel trails and dead ends are drawn too.
                    trail as one leaves the junction, or 'JUNCTION TRAIL right'.
                    Without it, the outside that the plan names, or else the area
                    of the start dart
+  --table FILE     the group table of a record of kind 2 or 102h (jurnadel write
+                   --help)
   -o FILE          to this file, which must not be there; else to standard
                    output
   --force          replace the file if it is there
 ";
 
 fn run(words: &[Word], report: &mut Report) -> Done {
-    let options = Options::parse(words, &["--force"], &["--outside", "-o"])?;
-    let (plan, name) = source::load(&options.words)?;
+    let options = Options::parse(words, &["--force"], &["--outside", TABLE, "-o"])?;
+    let table = table::of(&options)?;
+    let (plan, name) = source::load(&table, &options.words)?;
     plan.sound().map_err(|refusal| plan.problem(name, refusal))?;
     let outside = options.value("--outside").map_or(Ok(plan.outer_dart()), |word| area(&plan, word))?;
     let picture = Picture {

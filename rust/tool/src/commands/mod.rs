@@ -18,12 +18,13 @@ mod write;
 
 use crate::files;
 use crate::kinds;
-use crate::lines::Way;
+use crate::lines::{Coder, Way};
 use crate::options::{Options, Word};
 use crate::plan_file::{self, Plan};
 use crate::report::{complain, Problem, Report};
+use crate::table::TABLE;
 use crate::{shape, stream};
-use jurnadel::Refusal;
+use jurnadel::{Refusal, Table};
 
 /// The most threads that `--jobs` may ask for.
 const MAX_JOBS: usize = 256;
@@ -61,8 +62,8 @@ pub const COMMANDS: [Command; 15] = [
 ];
 
 /// The record of the plan of a file. Where the kind asked for has no outside and the plan does, a line tells.
-pub fn record_of(plan: &Plan, path: &Word, kind: Option<u16>) -> Result<Vec<u8>, Problem> {
-    let record = plan.record(kind).map_err(|refusal| plan.problem(path, refusal))?;
+pub fn record_of(plan: &Plan, path: &Word, table: &Table, kind: Option<u16>) -> Result<Vec<u8>, Problem> {
+    let record = plan.record(table, kind).map_err(|refusal| plan.problem(path, refusal))?;
     let taken = kinds::of(&record);
     if plan.outside.is_some() && !kinds::has_outside(taken) {
         complain(format!("{path}: kind {} has no outside; the plan's is left out", kinds::name(taken)));
@@ -96,10 +97,13 @@ pub fn counts(order: &[u16]) -> String {
     [counted(junctions, "junction"), counted(order.len() / 2, "trail"), counted(areas, "area")].join(", ")
 }
 
-/// To the file of `-o`, which is none of the files that were read, or to standard output.
+/// To the file of `-o`, which is none of the files that were read, the table's included, or to standard output.
 pub fn put_out(options: &Options, inputs: &[Word], bytes: &[u8], report: &mut Report) -> Done {
     match options.value("-o") {
-        Some(path) => files::put_out(path, options.has("--force"), inputs, bytes),
+        Some(path) => {
+            let inputs: Vec<Word> = inputs.iter().chain(options.value(TABLE)).cloned().collect();
+            files::put_out(path, options.has("--force"), &inputs, bytes)
+        }
         None => {
             report.bytes(bytes);
             Ok(())
@@ -108,7 +112,7 @@ pub fn put_out(options: &Options, inputs: &[Word], bytes: &[u8], report: &mut Re
 }
 
 /// What `--lines` asks for: an answer to each line of FILE, or of standard input.
-pub fn answer_lines(options: &Options, way: Way, report: &mut Report) -> Done {
+pub fn answer_lines(options: &Options, way: Way, table: Table, report: &mut Report) -> Done {
     for other in ["--raw", "-o", "--force"] {
         options.not_both("--lines", other)?;
     }
@@ -117,7 +121,7 @@ pub fn answer_lines(options: &Options, way: Way, report: &mut Report) -> Done {
     let jobs = jobs(options)?;
     let source = files::source_of(path)?;
     let name = if path.is_input() { String::from("standard input") } else { path.to_string() };
-    stream::answer_all(source, way, jobs, report).map_err(|error| Problem::file(name, error))
+    stream::answer_all(source, &Coder::new(way, table), jobs, report).map_err(|error| Problem::file(name, error))
 }
 
 /// How many threads `--jobs` asks for; one for each core where it is left out or 0.

@@ -6,12 +6,13 @@ use crate::options::{Options, Word};
 use crate::report::{Problem, Report};
 use crate::shelf_file::{self, ShelfFile};
 use crate::survey::{self, Part};
+use crate::table::{self, TABLE};
 
 pub const COMMAND: Command =
     Command { name: "salvage", summary: "keep what is whole of a damaged shelf, in a new file", help: HELP, run };
 
 const HELP: &str = "\
-usage: jurnadel salvage OLD NEW
+usage: jurnadel salvage [--table FILE] OLD NEW
 
 Puts every record of shelf OLD that stands whole on a new shelf NEW, also past
 damage, and reports what it could not keep. A record is whole if it has the
@@ -19,24 +20,29 @@ checksum that is kept for it (OLD.sums) or, where none is, if a plan has it.
 Prints which numbers the records had and have now; OLD is not changed, and NEW
 must not be there.
 
+  --table FILE   the group table that the shelf was written under; under another
+                 one records of kinds 2 and 102h that have no checksum may be
+                 left out though they are whole
+
 Exit status 1 if something was not kept.
 ";
 
 fn run(words: &[Word], report: &mut Report) -> Done {
-    let options = Options::parse(words, &[], &[])?;
+    let options = Options::parse(words, &[], &[TABLE])?;
     let [old, new] = &options.words[..] else {
         return Err(Problem::Usage(String::from("OLD and NEW are needed")));
     };
+    let table = table::of(&options)?;
     let bytes = shelf_file::load(old)?;
     let kept = shelf_file::load_sums(old)?;
-    let parts = survey::parts(&bytes, &kept);
+    let parts = survey::parts(&table, &bytes, &kept);
     let mut shelf = ShelfFile::create(new)?;
     let mut runs = Vec::new();
     for part in &parts {
         report_fault(old, part, report);
         match part {
             Part::Record(found) if found.is_whole() => {
-                let (number, _) = shelf.shelf.shelve(found.record).map_err(|refusal| Problem::refused(new, refusal))?;
+                let (number, _) = shelf.shelf.shelve(&table, found.record).map_err(|refusal| Problem::refused(new, refusal))?;
                 Run::extend(&mut runs, number, found.number, found.at);
             }
             _ => {}

@@ -8,6 +8,8 @@ use crate::options::{Options, Word};
 use crate::plan_file::Plan;
 use crate::report::{complain, Problem, Report};
 use crate::shelf_file::ShelfFile;
+use crate::table::{self, TABLE};
+use jurnadel::Table;
 use std::io::IsTerminal as _;
 use std::time::{Duration, Instant};
 
@@ -15,8 +17,8 @@ pub const COMMAND: Command =
     Command { name: "shelve", summary: "put plans on a shelf, and print their numbers", help: HELP, run };
 
 const HELP: &str = "\
-usage: jurnadel shelve [--kind KIND | --raw] [--size BYTES] [--progress]
-                       [--files-from LIST] SHELF PLAN..
+usage: jurnadel shelve [--kind KIND | --raw] [--table FILE] [--size BYTES]
+                       [--progress] [--files-from LIST] SHELF PLAN..
 
 Shelves each plan file and prints its number, 'new' or 'already there', and its
 name. A plan that is refused is reported, and the others are shelved. A SHELF
@@ -27,6 +29,9 @@ it.
                       a dead end other than its start, or 4 for one with a loop;
                       for a plan that names an outside 101h, 102h or 104h, which
                       are the same with the outside; the others leave it out
+  --table FILE        the group table (jurnadel write --help), one for all of a
+                      shelf: the file doesn't say which it is, and under another
+                      one a plan in kind 2 or 102h isn't known again
   --size BYTES        the shelf's whole length; a record that exceeds it is
                       refused (16). Else the shelf grows
   --raw               the files are records, as bytes; of a folder, the .record
@@ -51,18 +56,22 @@ left as it is.
 const BETWEEN_SAVES: Duration = Duration::from_secs(1);
 
 fn run(words: &[Word], report: &mut Report) -> Done {
-    let options = Options::parse(words, &["--raw", "--progress"], &["--kind", "--size", FILES_FROM])?;
+    let options = Options::parse(words, &["--raw", "--progress"], &["--kind", TABLE, "--size", FILES_FROM])?;
     options.not_both("--kind", "--raw")?;
     let kind = options.kind()?;
     let size = options.number("--size")?;
     let (path, files) = options.first_and_rest("SHELF")?;
+    let table = table::of(&options)?;
     let files = inputs::files(&options, files, "PLAN", if options.has("--raw") { "record" } else { "plan" })?;
     let (asked, terminal) = (options.has("--progress"), std::io::stderr().is_terminal());
     let mut shelf = ShelfFile::open(path, size)?;
     let mut lines = Vec::new();
     let mut saved = Instant::now();
     for (count, file) in (1..).zip(&files) {
-        let shelved = if options.has("--raw") { shelve_record(&mut shelf, file) } else { shelve_plan(&mut shelf, file, kind) };
+        let shelved = match options.has("--raw") {
+            true => shelve_record(&mut shelf, file, &table),
+            false => shelve_plan(&mut shelf, file, &table, kind),
+        };
         match shelved {
             Ok((number, news)) => lines.push(format!("{number} {news} {file}")),
             Err(problem) => report.problem(&problem),
@@ -87,27 +96,27 @@ type Shelved = Result<(usize, &'static str), Problem>;
 const NEW: &str = "new";
 const THERE: &str = "already there";
 
-fn shelve_record(shelf: &mut ShelfFile, file: &Word) -> Shelved {
-    let shelved = shelf.shelf.shelve(&bytes_of(file)?);
+fn shelve_record(shelf: &mut ShelfFile, file: &Word, table: &Table) -> Shelved {
+    let shelved = shelf.shelf.shelve(table, &bytes_of(file)?);
     let (number, new) = shelved.map_err(|refusal| Problem::refused(file, refusal))?;
     Ok((number, if new { NEW } else { THERE }))
 }
 
-fn shelve_plan(shelf: &mut ShelfFile, file: &Word, kind: Option<u16>) -> Shelved {
+fn shelve_plan(shelf: &mut ShelfFile, file: &Word, table: &Table, kind: Option<u16>) -> Shelved {
     let plan = Plan::load(file)?;
-    let record = record_of(&plan, file, kind)?;
+    let record = record_of(&plan, file, table, kind)?;
     if let Some(number) = shelf.shelf.find(&record) {
         return Ok((number, THERE));
     }
     let taken = kinds::of(&record);
     let others = kinds::group(kinds::has_outside(taken)).into_iter().filter(|&other| other != taken);
-    let found = |other| Some((other, shelf.shelf.find(&plan.record(Some(other)).ok()?)?));
+    let found = |other| Some((other, shelf.shelf.find(&plan.record(table, Some(other)).ok()?)?));
     let elsewhere: Vec<(u16, usize)> = others.filter_map(found).collect();
     // The tool's own choice of a kind makes no plan new: an earlier version chose kind 2 for more plans.
     if let (None, Some(&(_, number))) = (kind, elsewhere.first()) {
         return Ok((number, THERE));
     }
-    let (number, _) = shelf.shelf.shelve(&record).map_err(|refusal| Problem::refused(file, refusal))?;
+    let (number, _) = shelf.shelf.shelve(table, &record).map_err(|refusal| Problem::refused(file, refusal))?;
     for (other, there) in elsewhere {
         complain(format!("{file}: on the shelf in kind {} too, as record {there}", kinds::name(other)));
     }

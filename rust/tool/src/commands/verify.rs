@@ -4,28 +4,33 @@ use super::{counted, Command, Done};
 use crate::options::{Options, Word};
 use crate::report::{in_words, Problem, Report};
 use crate::survey::{self, Found, Part};
+use crate::table::{self, TABLE};
 use crate::{shelf, shelf_file};
 use std::collections::HashMap;
 
 pub const COMMAND: Command = Command { name: "verify", summary: "check a shelf file and every record on it", help: HELP, run };
 
 const HELP: &str = "\
-usage: jurnadel verify SHELF
+usage: jurnadel verify [--table FILE] SHELF
 
 Checks that a shelf file is records end to end, that each record is a plan's and
 that it has the checksum that is kept for it (SHELF.sums). Says which are not,
 where bytes are no record, and which records stand there twice.
+
+  --table FILE   the group table that the shelf was written under; under another
+                 one its records of kinds 2 and 102h may be no plan's
 
 Exit status 1 if something is wrong; a record that stands there twice, or one
 without a checksum, is not.
 ";
 
 fn run(words: &[Word], report: &mut Report) -> Done {
-    let options = Options::parse(words, &[], &[])?;
+    let options = Options::parse(words, &[], &[TABLE])?;
     let path = options.only("SHELF")?;
+    let table = table::of(&options)?;
     let bytes = shelf_file::load(path)?;
     let kept = shelf_file::load_sums(path)?;
-    let parts = survey::parts(&bytes, &kept);
+    let parts = survey::parts(&table, &bytes, &kept);
     parts.iter().for_each(|part| report_fault(path, part, report));
     let records: Vec<&Found> = records(&parts).collect();
     report_doubles(path, &records, report);
@@ -59,7 +64,11 @@ pub fn report_fault(path: &Word, part: &Part, report: &mut Report) {
         Part::Record(found) => {
             let place = place_of(path, found);
             if let Some(refusal) = found.unreadable {
-                report.problem(&Problem::refused(&place, refusal));
+                report.problem(&match found.sum_agrees {
+                    // It is damage, whatever the group table.
+                    Some(false) => Problem::refused(&place, refusal),
+                    _ => Problem::unread(&place, found.record, refusal),
+                });
             }
             if found.sum_agrees == Some(false) {
                 report.problem(&Problem::Refused(format!("{place}: changed since it was shelved: its checksum is another")));

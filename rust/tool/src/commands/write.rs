@@ -7,13 +7,14 @@ use crate::options::{Options, Word};
 use crate::plan_file::Plan;
 use crate::record_file;
 use crate::report::Report;
+use crate::table::{self, TABLE};
 
 pub const COMMAND: Command = Command { name: "write", summary: "write the record of each plan file", help: HELP, run };
 
 const HELP: &str = "\
-usage: jurnadel write [--kind KIND] [--raw] [-o FILE [--force]]
+usage: jurnadel write [--kind KIND] [--table FILE] [--raw] [-o FILE [--force]]
                       [--files-from LIST] PLAN..
-       jurnadel write --lines [--kind KIND] [--jobs N] [FILE]
+       jurnadel write --lines [--kind KIND] [--table FILE] [--jobs N] [FILE]
 
 Writes the record of each plan file, a line of hexadecimal bytes each.
 
@@ -21,6 +22,11 @@ Writes the record of each plan file, a line of hexadecimal bytes each.
                       a dead end other than its start, or 4 for one with a loop;
                       for a plan that names an outside 101h, 102h or 104h, which
                       are the same with the outside; the others leave it out
+  --table FILE        a maker's own group table: 243 bytes, all different, byte
+                      n for group value n, from 0 on. Records of kinds 2 and
+                      102h have these bytes, and are read back under the same
+                      table only; other kinds don't depend on it. Else the
+                      standard table, bytes 0, 1, .., 242
   --raw               bytes in place of hexadecimal; several records stand end
                       to end
   -o FILE             to this file, which must not be there; not written if any
@@ -51,16 +57,17 @@ Without such a line the area of the start dart is outside.
 ";
 
 fn run(words: &[Word], report: &mut Report) -> Done {
-    let options = Options::parse(words, &["--raw", "--force", "--lines"], &["--kind", "-o", "--jobs", FILES_FROM])?;
+    let options = Options::parse(words, &["--raw", "--force", "--lines"], &["--kind", TABLE, "-o", "--jobs", FILES_FROM])?;
     options.only_with("--jobs", "--lines")?;
     let kind = options.kind()?;
+    let table = table::of(&options)?;
     if options.has("--lines") {
-        return answer_lines(&options, Way::Write(kind), report);
+        return answer_lines(&options, Way::Write(kind), table, report);
     }
     let files = inputs::files(&options, &options.words, "PLAN", "plan")?;
     let mut output = Vec::new();
     for path in &files {
-        match Plan::load(path).and_then(|plan| record_of(&plan, path, kind)) {
+        match Plan::load(path).and_then(|plan| record_of(&plan, path, &table, kind)) {
             Ok(record) if options.has("--raw") => output.extend(record),
             Ok(record) => output.extend(format!("{}\n", record_file::to_hex(&record)).as_bytes()),
             Err(problem) => report.problem(&problem),

@@ -17,7 +17,7 @@ use crate::kinds::{self, in_kind};
 use crate::names::beginning;
 use crate::options::Word;
 use crate::report::{in_words, Problem};
-use jurnadel::Refusal;
+use jurnadel::{Refusal, Table};
 use names::Names;
 use std::collections::BTreeMap;
 use std::fmt::Display;
@@ -75,9 +75,9 @@ impl Plan {
         Plan { order, start: 0, outside: None, written: Written::Elsewhere }
     }
 
-    /// The plan of a record, in standard numbering. It names an outside where the record's kind does.
-    pub fn of_record(record: &[u8]) -> Result<Plan, Refusal> {
-        let jurnadel::Plan { order, outside } = jurnadel::plan_of(record)?;
+    /// The plan of a record under this group table, in standard numbering. It names an outside where the record's kind does.
+    pub fn of_record(table: &Table, record: &[u8]) -> Result<Plan, Refusal> {
+        let jurnadel::Plan { order, outside } = jurnadel::plan_of(table, record)?;
         let outside = kinds::has_outside(kinds::of(record)).then_some(outside);
         Ok(Plan { outside, ..Plan::of_order(order) })
     }
@@ -87,20 +87,21 @@ impl Plan {
         self.outside.unwrap_or(self.start)
     }
 
-    /// The record in this kind; with none given see [`in_kind`].
-    pub fn record(&self, kind: Option<u16>) -> Result<Vec<u8>, Refusal> {
+    /// The record in this kind, under this group table; with no kind given see [`in_kind`].
+    pub fn record(&self, table: &Table, kind: Option<u16>) -> Result<Vec<u8>, Refusal> {
         // The library knows trail ends, so of a junction without one it is told by a plan that is in pieces as well.
         let (order, start, outside) = match self.has_lone_junction() {
             true => (&[0, 1, 2, 3][..], 0, 0),
             false => (&self.order[..], self.start, self.outer_dart()),
         };
-        in_kind(kind, self.outside.is_some(), |kind| jurnadel::record_of(order, start, outside, kind))
+        in_kind(kind, self.outside.is_some(), |kind| jurnadel::record_of(table, order, start, outside, kind))
     }
 
-    /// The record that tells it from other plans, in the kind that takes every plan: with the outside, if it names one.
+    /// The record that tells it from other plans, in the kind that takes every plan: with the outside, if it names one. It has no groups,
+    /// and so is the same under every table.
     pub fn key(&self) -> Result<Vec<u8>, Refusal> {
         let [.., any] = kinds::group(self.outside.is_some());
-        self.record(Some(any))
+        self.record(&Table::standard(), Some(any))
     }
 
     /// Whether it is a plan at all, connected and planar.

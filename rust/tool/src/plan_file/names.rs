@@ -112,7 +112,7 @@ mod tests {
     /// The refusal of a text in a kind, as it is told.
     fn refusal(kind: Option<u16>, text: &str) -> String {
         let plan = Plan::parse(text).unwrap();
-        match plan.problem("x", plan.record(kind).unwrap_err()) {
+        match plan.problem("x", plan.standard_record(kind).unwrap_err()) {
             Problem::Refused(text) => text,
             other => panic!("{other:?}"),
         }
@@ -146,7 +146,7 @@ mod tests {
             (0..trails)
                 .fold(String::from("start: 7 7\n"), |text, trail| text + &format!("{trail}: {trail} {}\n", (trail + 1) % trails))
         };
-        assert_eq!(Plan::parse(&ring(4096)).unwrap().record(None).unwrap().len(), 1542);
+        assert_eq!(Plan::parse(&ring(4096)).unwrap().standard_record(None).unwrap().len(), 1542);
         assert_eq!(refusal(None, &ring(4097)), count(4097));
         assert_eq!(refusal(None, &(ring(40_000) + "C:\n")), count(4097));
     }

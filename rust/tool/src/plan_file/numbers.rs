@@ -110,10 +110,11 @@ mod tests {
 
     #[test]
     fn large_numbers_are_refused_as_they_should_be() {
-        let number = |text: &str| Plan::parse(text).unwrap().record(Some(2)).unwrap_err().number();
+        let number = |text: &str| Plan::parse(text).unwrap().standard_record(Some(2)).unwrap_err().number();
         assert_eq!(number("start: 0\n0 65536\n"), 6);
         assert_eq!(number("start: 99999999999999999999999\n0 1\n"), 4);
-        let outside = |kind| Plan::parse("start: 0\noutside: 65536\n0 1\n").unwrap().record(kind).map_err(Refusal::number);
+        let outside =
+            |kind| Plan::parse("start: 0\noutside: 65536\n0 1\n").unwrap().standard_record(kind).map_err(Refusal::number);
         assert_eq!(outside(None), Err(17));
         assert_eq!(outside(Some(2)).map(|record| record.len()), Ok(8));
     }

@@ -5,6 +5,13 @@ use crate::growing::{self, Random, Shape};
 use crate::kinds::{group, has_outside};
 use crate::shape::{areas, junctions};
 
+impl Plan {
+    /// The record under the standard group table.
+    pub fn standard_record(&self, kind: Option<u16>) -> Result<Vec<u8>, Refusal> {
+        self.record(&Table::standard(), kind)
+    }
+}
+
 /// A random plan with this many trails, perhaps with loops.
 fn plan(random: &mut Random, trails: usize) -> Plan {
     let order = growing::random(trails, Shape { dead_ends: 3, corners: 6 }, random);
@@ -65,10 +72,10 @@ fn one_form_and_the_other() {
         let named = Plan::parse(&junctions_text(&plan)).unwrap();
         let again = Plan::parse(&text(&named)).unwrap();
         let kept = Plan::parse(&junctions_text(&named)).unwrap();
-        let read = Plan::of_record(&plan.record(None).unwrap()).unwrap();
+        let read = Plan::of_record(&Table::standard(), &plan.standard_record(None).unwrap()).unwrap();
         for other in [&named, &again, &kept, &read] {
             assert_eq!(renumbered(other), renumbered(&plan));
-            assert_eq!(other.record(None), plan.record(None));
+            assert_eq!(other.standard_record(None), plan.standard_record(None));
         }
         assert_eq!(text(&again), text(&named));
         assert_eq!(junctions_text(&kept), junctions_text(&plan));
@@ -101,7 +108,7 @@ fn random_plans_are_of_all_kinds() {
     let mut random = Random(2);
     let mut counts = [group(false), group(true)].concat().into_iter().map(|kind| (kind, 0)).collect::<Vec<_>>();
     for _ in 0..800 {
-        let kind = kinds::of(&plan_or_sheet(&mut random, 4).record(None).unwrap());
+        let kind = kinds::of(&plan_or_sheet(&mut random, 4).standard_record(None).unwrap());
         counts.iter_mut().filter(|(other, _)| *other == kind).for_each(|(_, count)| *count += 1);
     }
     assert!(counts.iter().all(|&(_, count)| count > 10), "{counts:?}");
@@ -122,7 +129,9 @@ fn damaged_plan_files() {
     for turn in 0..10_000 {
         let bytes = damage(&mut random, texts[turn % texts.len()]);
         let Some(text) = text_of(&bytes) else { continue };
-        let outcome = match Plan::parse(&text).map(|plan| plan.record(None).map_err(|refusal| plan.problem("file", refusal))) {
+        let outcome = match Plan::parse(&text)
+            .map(|plan| plan.standard_record(None).map_err(|refusal| plan.problem("file", refusal)))
+        {
             Ok(Ok(_)) => 0,
             Ok(Err(problem)) => 1 + usize::from(!matches!(problem, Problem::Refused(_))),
             Err((line, what)) => {
@@ -148,14 +157,14 @@ fn texts() {
     assert_eq!(text_of(b"\xFF\xFEs\0t\0"), None);
     // Six hundred loops, one of them around the sheet: a raw record without a NUL.
     let plan = Plan { outside: Some(257), ..Plan::of_order((1..1200).chain([0]).collect()) };
-    let record = plan.record(None).unwrap();
+    let record = plan.standard_record(None).unwrap();
     assert_eq!((record.contains(&0), text_of(&record)), (false, None));
     assert_eq!(text_of(b"# \x01\x02\n").as_deref(), Some("# \x01\x02\n"));
 }
 
 #[test]
 fn kinds() {
-    let kind = |text: &str| Plan::parse(text).unwrap().record(None).map(|record| kinds::of(&record));
+    let kind = |text: &str| Plan::parse(text).unwrap().standard_record(None).map(|record| kinds::of(&record));
     assert_eq!(kind("start: 0\n3 2 1 0\n"), Ok(1));
     assert_eq!(kind("start: 0\n0 1\n"), Ok(2));
     assert_eq!(kind("start: 0\n1 0\n"), Ok(4));
@@ -177,8 +186,8 @@ fn kinds_in_their_order() {
     for _ in 0..1000 {
         let trails = 1 + random.below(6);
         let plan = plan_or_sheet(&mut random, trails);
-        let mut records = group(plan.outside.is_some()).into_iter().filter_map(|kind| plan.record(Some(kind)).ok());
-        assert_eq!(records.next(), plan.record(None).ok());
+        let mut records = group(plan.outside.is_some()).into_iter().filter_map(|kind| plan.standard_record(Some(kind)).ok());
+        assert_eq!(records.next(), plan.standard_record(None).ok());
     }
 }
 
@@ -192,7 +201,7 @@ fn kinds_that_were_asked_for() {
         for kind in [group(false), group(true)].concat() {
             let other = Plan { outside: Some(plan.start).filter(|_| has_outside(kind) && plan.outside.is_none()), ..of(&plan) };
             let wanted = if has_outside(kind) && plan.outside.is_some() { &plan } else { &other };
-            assert_eq!(plan.record(Some(kind)), wanted.record(Some(kind)));
+            assert_eq!(plan.standard_record(Some(kind)), wanted.standard_record(Some(kind)));
         }
     }
 }
