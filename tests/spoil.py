@@ -10,6 +10,8 @@ WORDS = (
     "- / + +1 -1 1.0 1e1 0x1 007 a1 A 0g C8C8 c8 CG 65535 65536 99999 18446744073709551615 18446744073709551616 "
     "outside=0 outside=7 outside=65536 outside= outside=+1 Outside=0 table= table=00 work=0 work=131072 work=x ۱ é"
 ).split()
+STANDARD = "table=" + bytes(range(243)).hex()
+WORDS += [STANDARD, STANDARD + "f3", STANDARD + ":", STANDARD + ":" + bytes([*range(243), *[243] * 13]).hex()]
 # In place of a space, or at an end: some part words, some do not, one is no UTF-8.
 SPACES = [b"\t", b"  ", b"\x0c", b"\x0b", b"\r", b"\xc2\xa0", b"\xff", b","]
 

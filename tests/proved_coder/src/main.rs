@@ -6,11 +6,13 @@
 //! an out-number to something else than the header says.
 
 mod lent;
+mod tables;
 mod words;
 
-use jurnadel::sys;
+use jurnadel::{sys, Table};
 use lent::Lent;
 use std::io::{self, BufRead, BufReader, BufWriter, Write as _};
+use tables::with_inverse;
 use words::{spaced, to_hex, Words};
 
 /// What stands in work areas and outputs before a call.
@@ -44,6 +46,7 @@ fn answer_to(line: &str) -> Option<String> {
     let answer = match words.next()? {
         "write" => asked_write(words)?,
         "read" => asked_read(words)?,
+        "load" => asked_load(words)?,
         "areas" => asked_areas(words)?,
         "shelve" => asked_shelve(words)?,
         "fetch" => asked_of_shelf(fetch, words)?,
@@ -55,20 +58,28 @@ fn answer_to(line: &str) -> Option<String> {
 
 fn asked_write(words: &mut Words) -> Option<Answer> {
     let outside = words.outside()?;
+    let table = words.table()?;
     let kind = words.number()?;
     let start = words.number()?;
     let work = words.length()?;
     let output = words.length()?;
     let order = words.numbers_to_end()?;
-    Some(write(kind, start, outside, work, output, &order))
+    Some(write(&table, kind, start, outside, work, output, &order))
 }
 
 fn asked_read(words: &mut Words) -> Option<Answer> {
+    let table = words.table()?;
     let work = words.length()?;
     let output = words.length()?;
     let record = words.hex()?;
     words.end()?;
-    Some(read(work, output, &record))
+    Some(read(&table, work, output, &record))
+}
+
+fn asked_load(words: &mut Words) -> Option<Answer> {
+    let bytes = words.hex()?;
+    words.end()?;
+    Some(load(&bytes))
 }
 
 fn asked_areas(words: &mut Words) -> Option<Answer> {
@@ -79,13 +90,14 @@ fn asked_areas(words: &mut Words) -> Option<Answer> {
 }
 
 fn asked_shelve(words: &mut Words) -> Option<Answer> {
+    let table = words.table()?;
     let used = words.number()?;
     let length = words.length()?;
     let mut shelf = words.hex()?;
     let record = words.hex()?;
     words.end()?;
     shelf.resize(length, 0);
-    Some(shelve(used, &shelf, &record))
+    Some(shelve(&table, used, &shelf, &record))
 }
 
 /// A call that takes used length, number and shelf.
@@ -105,13 +117,22 @@ fn hold(holds: bool, what: &'static str) -> Result<(), &'static str> {
     holds.then_some(()).ok_or(what)
 }
 
-fn write(kind: u16, start: u16, outside: u16, work: usize, output: usize, order: &[u16]) -> Answer {
+fn write(
+    table: &Table,
+    kind: u16,
+    start: u16,
+    outside: u16,
+    work: usize,
+    output: usize,
+    order: &[u16],
+) -> Answer {
     let order = Lent::of(order, NUMBER);
     let mut work = Lent::filled(work, NUMBER);
     let mut output = Lent::filled(output, BYTE);
     let (mut length, mut characteristic) = (NUMBER, 0x5A5A_5A5A);
     let refusal = unsafe {
         sys::jurnadel_write(
+            *table,
             order.lend(),
             order.len(),
             start,
@@ -151,13 +172,14 @@ fn refused(number: u16, characteristic: i32) -> String {
     }
 }
 
-fn read(work: usize, output: usize, record: &[u8]) -> Answer {
+fn read(table: &Table, work: usize, output: usize, record: &[u8]) -> Answer {
     let record = Lent::of(record, BYTE);
     let mut work = Lent::filled(work, NUMBER);
     let mut order = Lent::filled(output, NUMBER);
     let (mut trails, mut outside) = (NUMBER, NUMBER);
     let refusal = unsafe {
         sys::jurnadel_read(
+            *table,
             record.lend(),
             record.len(),
             work.lend_mut(),
@@ -179,6 +201,26 @@ fn read(work: usize, output: usize, record: &[u8]) -> Answer {
     }
     let entries = spaced(&order.now()[..filled]);
     Ok(format!("ok {trails} {outside}{entries}"))
+}
+
+fn load(bytes: &[u8]) -> Answer {
+    let bytes = Lent::of(bytes, BYTE);
+    let mut refusal = NUMBER;
+    let table = unsafe { sys::jurnadel_load_table(bytes.lend(), bytes.len(), &mut refusal) };
+    hold(bytes.untouched(), "bytes")?;
+    if refusal != 0 {
+        let zeros = Table {
+            bytes: [0; 243],
+            inverse: [0; 256],
+        };
+        hold(table == zeros, "refused table")?;
+        return Ok(format!("refused {refusal}"));
+    }
+    hold(
+        table.bytes[..] == *bytes.now() && table == with_inverse(table.bytes),
+        "table",
+    )?;
+    Ok(String::from("ok"))
 }
 
 fn areas(work: usize, list: usize, order: &[u16]) -> Answer {
@@ -210,12 +252,13 @@ fn areas(work: usize, list: usize, order: &[u16]) -> Answer {
     })
 }
 
-fn shelve(used: usize, shelf: &[u8], record: &[u8]) -> Answer {
+fn shelve(table: &Table, used: usize, shelf: &[u8], record: &[u8]) -> Answer {
     let record = Lent::of(record, BYTE);
     let mut shelf = Lent::of(shelf, BYTE);
     let (mut number, mut new_used) = (usize::MAX, usize::MAX);
     let refusal = unsafe {
         sys::jurnadel_shelve(
+            *table,
             record.lend(),
             record.len(),
             shelf.lend_mut(),

@@ -1,5 +1,7 @@
 //! The words of a line.
 
+use crate::tables::loaded;
+use jurnadel::Table;
 use std::fmt::Write;
 use std::iter::Peekable;
 use std::str::{FromStr, SplitAsciiWhitespace};
@@ -36,16 +38,22 @@ impl<'a> Words<'a> {
         }
     }
 
+    /// What stands after the name and `=`, if that is the next word.
+    fn option(&mut self, name: &str) -> Option<&'a str> {
+        let value = self.0.peek()?.strip_prefix(name)?.strip_prefix('=')?;
+        self.0.next();
+        Some(value)
+    }
+
     /// The outside dart in `outside=N`, if that is the next word; else 0.
     pub fn outside(&mut self) -> Option<u16> {
-        let value = self.0.peek().and_then(|word| word.strip_prefix("outside="));
-        match value {
-            Some(value) => {
-                self.0.next();
-                number(value)
-            }
-            None => Some(0),
-        }
+        self.option("outside").map_or(Some(0), number)
+    }
+
+    /// The group table in `table=T`, if that is the next word; else the standard one.
+    pub fn table(&mut self) -> Option<Table> {
+        let standard = || Some(Table::standard());
+        self.option("table").map_or_else(standard, table)
     }
 
     pub fn numbers_to_end(&mut self) -> Option<Vec<u16>> {
@@ -64,6 +72,20 @@ fn number<T: FromStr>(word: &str) -> Option<T> {
         return None;
     }
     word.parse().ok()
+}
+
+/// A table: its 243 bytes with the inverse that loading gives them, or with an inverse as handed in.
+fn table(word: &str) -> Option<Table> {
+    let (bytes, inverse) = match word.split_once(':') {
+        Some((bytes, inverse)) => (bytes, Some(inverse)),
+        None => (word, None),
+    };
+    let bytes = from_hex(bytes.as_bytes())?.try_into().ok()?;
+    let Some(inverse) = inverse else {
+        return Some(loaded(bytes));
+    };
+    let inverse = from_hex(inverse.as_bytes())?.try_into().ok()?;
+    Some(Table { bytes, inverse })
 }
 
 fn from_hex(digits: &[u8]) -> Option<Vec<u8>> {
