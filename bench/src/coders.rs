@@ -1,15 +1,16 @@
 //! The three coders behind one face.
 
 use second_coder::area_list::area_lengths;
-use second_coder::{Landed, LentPlan, Table};
-use std::ffi::{c_int, c_uint, c_void};
+use second_coder::{Landed, LentPlan};
+use std::ffi::{c_int, c_uint};
 use std::ptr;
 use std::sync::LazyLock;
 
 extern "C" {
+    fn peer_load(bytes: *const u8, len: usize, table: *mut jurnadel::Table) -> c_int;
     fn peer_write(
         landed: c_uint,
-        table: *const c_void,
+        table: *const jurnadel::Table,
         kind: u16,
         start: u16,
         outside: u16,
@@ -24,7 +25,7 @@ extern "C" {
     ) -> c_int;
     fn peer_read(
         landed: c_uint,
-        table: *const c_void,
+        table: *const jurnadel::Table,
         record: *const u8,
         len: usize,
         work: *mut u16,
@@ -52,8 +53,32 @@ const LETTERS: &str = include_str!("../../tests/landed").trim_ascii();
 /// The same for the second coder.
 pub static LANDED: LazyLock<Landed> = LazyLock::new(|| Landed::of(LETTERS).expect("letters"));
 
-/// The group table of the second coder; the peer and the proved library have it without a word.
-pub static TABLE: LazyLock<Table> = LazyLock::new(Table::plain);
+/// A group table, as each coder is handed it.
+pub struct Table {
+    pub proved: jurnadel::Table,
+    pub second: second_coder::Table,
+    /// The peer's has the form of the proved library's; or the peer is handed none, and has the standard one.
+    peer: Option<jurnadel::Table>,
+}
+
+impl Table {
+    /// The table of these bytes, which are 243 and all different.
+    pub fn of(bytes: &[u8]) -> Table {
+        let proved = jurnadel::Table::load(bytes).expect("a table");
+        let second = second_coder::Table::load(bytes).expect("a table");
+        Table {
+            proved,
+            second,
+            peer: Some(proved),
+        }
+    }
+}
+
+/// The standard table, of which the peer is not told.
+pub static STANDARD: LazyLock<Table> = LazyLock::new(|| Table {
+    peer: None,
+    ..Table::of(&jurnadel::Table::standard().bytes)
+});
 
 /// The letters for the peer, a bit each.
 const PEER_LANDED: c_uint = {
@@ -65,16 +90,19 @@ const PEER_LANDED: c_uint = {
     bits
 };
 
-/// Writing: kind, start, outside, order, work area, output.
-type Write = fn(u16, u16, u16, &[u16], &mut [u16], &mut [u8]) -> usize;
-/// Reading: record, work area, order.
-type Read = fn(&[u8], &mut [u16], &mut [u16]) -> (usize, u16);
+/// Loading a table: its bytes.
+type Load = fn(&[u8]) -> bool;
+/// Writing: table, kind, start, outside, order, work area, output.
+type Write = fn(&Table, u16, u16, u16, &[u16], &mut [u16], &mut [u8]) -> usize;
+/// Reading: table, record, work area, order.
+type Read = fn(&Table, &[u8], &mut [u16], &mut [u16]) -> (usize, u16);
 /// Measuring areas: order, work area, list.
 type Areas = fn(&[u16], &mut [u16], &mut [u16]) -> usize;
 
-/// A coder: writing gives the record's length, reading m and the outside, measuring the number of
-/// areas; 0 if refused.
+/// A coder: loading tells whether it is done, writing gives the record's length, reading m and the outside, measuring the
+/// number of areas; 0 if refused.
 pub struct Coder {
+    pub load: Load,
     pub write: Write,
     pub read: Read,
     pub areas: Areas,
@@ -83,23 +111,27 @@ pub struct Coder {
 /// The proved library, the second coder, the peer.
 pub const CODERS: [Coder; 3] = [
     Coder {
-        write: |kind, start, outside, order, work, output| {
-            jurnadel::write(order, start, outside, kind, work, output).unwrap_or(0)
+        load: |bytes| jurnadel::Table::load(bytes).is_ok(),
+        write: |table, kind, start, outside, order, work, output| {
+            jurnadel::write(&table.proved, order, start, outside, kind, work, output).unwrap_or(0)
         },
-        read: |record, work, order| {
-            jurnadel::read(record, work, order).map_or((0, 0), |read| (read.trails, read.outside))
+        read: |table, record, work, order| {
+            jurnadel::read(&table.proved, record, work, order)
+                .map_or((0, 0), |read| (read.trails, read.outside))
         },
         areas: |order, work, list| jurnadel::area_lengths(order, work, list).unwrap_or(0),
     },
     Coder {
+        load: |bytes| second_coder::Table::load(bytes).is_ok(),
         write: write_by_second,
-        read: |record, work, order| {
-            second_coder::read(*LANDED, &TABLE, record, work, order)
+        read: |table, record, work, order| {
+            second_coder::read(*LANDED, &table.second, record, work, order)
                 .map_or((0, 0), |read| (read.m, read.outside as u16))
         },
         areas: |order, work, list| area_lengths(order, work, list).unwrap_or(0),
     },
     Coder {
+        load: load_by_peer,
         write: write_by_peer,
         read: read_by_peer,
         areas: areas_by_peer,
@@ -107,6 +139,7 @@ pub const CODERS: [Coder; 3] = [
 ];
 
 fn write_by_second(
+    table: &Table,
     kind: u16,
     start: u16,
     outside: u16,
@@ -119,10 +152,25 @@ fn write_by_second(
         start,
         outside,
     };
-    second_coder::write(*LANDED, &TABLE, kind, plan, work, output).unwrap_or(0)
+    second_coder::write(*LANDED, &table.second, kind, plan, work, output).unwrap_or(0)
+}
+
+/// What the peer is handed of a table.
+fn peer_table(table: &Table) -> *const jurnadel::Table {
+    table.peer.as_ref().map_or(ptr::null(), ptr::from_ref)
+}
+
+fn load_by_peer(bytes: &[u8]) -> bool {
+    let mut table = jurnadel::Table {
+        bytes: [0; 243],
+        inverse: [0; 256],
+    };
+    let refusal = unsafe { peer_load(bytes.as_ptr(), bytes.len(), &mut table) };
+    refusal == 0 && std::hint::black_box(&table).bytes == bytes
 }
 
 fn write_by_peer(
+    table: &Table,
     kind: u16,
     start: u16,
     outside: u16,
@@ -134,7 +182,7 @@ fn write_by_peer(
     let refusal = unsafe {
         peer_write(
             PEER_LANDED,
-            ptr::null(),
+            peer_table(table),
             kind,
             start,
             outside,
@@ -155,12 +203,12 @@ fn write_by_peer(
     }
 }
 
-fn read_by_peer(record: &[u8], work: &mut [u16], order: &mut [u16]) -> (usize, u16) {
+fn read_by_peer(table: &Table, record: &[u8], work: &mut [u16], order: &mut [u16]) -> (usize, u16) {
     let (mut m, mut outside) = (0, 0);
     let refusal = unsafe {
         peer_read(
             PEER_LANDED,
-            ptr::null(),
+            peer_table(table),
             record.as_ptr(),
             record.len(),
             work.as_mut_ptr(),

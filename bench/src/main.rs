@@ -7,7 +7,7 @@ mod coders;
 mod plain;
 mod plans;
 
-use coders::{Coder, CODERS, LANDED, TABLE};
+use coders::{Coder, Table, CODERS, LANDED, STANDARD};
 use plans::Plan;
 use second_coder::grow::{grow, Rng, Shape};
 use std::array::from_fn;
@@ -16,6 +16,8 @@ use std::hint::black_box;
 use std::time::Instant;
 
 const SIZES: [usize; 5] = [16, 64, 256, 1024, 4096];
+/// Sizes under group tables, which are tested in each call: short records show it.
+const TABLE_SIZES: [usize; 3] = [16, 40, 256];
 /// The kinds without the outside; with it a kind is `OUTSIDE` more.
 const KINDS: [u16; 3] = [1, 2, 4];
 const OUTSIDE: u16 = 0x100;
@@ -48,9 +50,10 @@ fn least<const N: usize>(mut calls: [&mut dyn FnMut(); N]) -> [f64; N] {
     least
 }
 
-/// A coder, and what is lent to it for one plan in one kind.
+/// A coder, and what is lent to it for one plan in one kind under one table.
 struct Lent<'a> {
     coder: Coder,
+    table: &'a Table,
     plan: &'a Plan,
     kind: u16,
     work: Vec<u16>,
@@ -60,11 +63,12 @@ struct Lent<'a> {
 }
 
 impl<'a> Lent<'a> {
-    fn new(coder: Coder, plan: &'a Plan, kind: u16) -> Self {
+    fn new(coder: Coder, table: &'a Table, plan: &'a Plan, kind: u16) -> Self {
         let m = plan.order.len() / 2;
         let length = jurnadel::record_length(kind, m as u16).expect("a kind and a size");
         Lent {
             coder,
+            table,
             plan,
             kind,
             work: vec![0; jurnadel::work_length(m as u16)],
@@ -76,6 +80,7 @@ impl<'a> Lent<'a> {
 
     fn write(&mut self) -> usize {
         black_box((self.coder.write)(
+            self.table,
             self.kind,
             self.plan.start,
             self.plan.outside,
@@ -87,6 +92,7 @@ impl<'a> Lent<'a> {
 
     fn read(&mut self) -> (usize, u16) {
         black_box((self.coder.read)(
+            self.table,
             black_box(&self.record),
             &mut self.work,
             &mut self.order,
@@ -132,9 +138,9 @@ fn hold_alike(lent: &mut [Lent; 3]) {
     );
 }
 
-/// Times of the three coders for one plan in one kind, in ns per edge: writing, reading.
-fn time_plan(plan: &Plan, kind: u16) -> [[f64; 3]; 2] {
-    let mut lent = CODERS.map(|coder| Lent::new(coder, plan, kind));
+/// Times of the three coders for one plan in one kind under one table, in ns per edge: writing, reading.
+fn time_plan(table: &Table, plan: &Plan, kind: u16) -> [[f64; 3]; 2] {
+    let mut lent = CODERS.map(|coder| Lent::new(coder, table, plan, kind));
     hold_alike(&mut lent);
     let [proved, second, peer] = &mut lent;
     let writing = least([
@@ -153,7 +159,7 @@ fn time_plan(plan: &Plan, kind: u16) -> [[f64; 3]; 2] {
 
 /// Times of the three coders for the areas of one plan, in ns per edge.
 fn time_areas(plan: &Plan) -> [f64; 3] {
-    let mut lent = CODERS.map(|coder| Lent::new(coder, plan, 4));
+    let mut lent = CODERS.map(|coder| Lent::new(coder, &STANDARD, plan, 4));
     hold_alike(&mut lent);
     let [proved, second, peer] = &mut lent;
     let times = least([
@@ -208,9 +214,10 @@ fn print_columns() {
     print!("{:>7}{:>7}", "/sec.", "/peer");
 }
 
-fn print_heading() {
+/// The heading over rows that begin with this.
+fn print_heading(first: &str) {
     println!("{:<27}  {:-^38}  {:-^38}", "", " write ", " read ");
-    print!("{:<16}{:>5}{:>6}", "shape", "kind", "m");
+    print!("{first:<16}{:>5}{:>6}", "kind", "m");
     print_columns();
     print_columns();
     println!();
@@ -243,11 +250,11 @@ fn worst<const N: usize>(ratios: &[[f64; N]]) -> [f64; N] {
     from_fn(|i| ratios.iter().map(|ratio| ratio[i]).fold(0.0, f64::max))
 }
 
-/// The proved library's times of one plan in one kind by those in another; the kinds take turns.
-fn time_kinds(plan: &Plan, kind: u16, other: u16) -> Ratios {
-    let [mut one, mut other] = [kind, other].map(|kind| {
+/// The proved library's times of one plan in one kind and under one table by those in another; they take turns.
+fn time_beside(plan: &Plan, choices: [(u16, &Table); 2]) -> Ratios {
+    let [mut one, mut other] = choices.map(|(kind, table)| {
         let [proved, ..] = CODERS;
-        Lent::new(proved, plan, kind)
+        Lent::new(proved, table, plan, kind)
     });
     let writing = least([&mut || _ = one.write(), &mut || _ = other.write()]);
     let reading = least([&mut || _ = one.read(), &mut || _ = other.read()]);
@@ -265,7 +272,7 @@ fn print_kinds(kind: u16, other: u16) {
     };
     for (name, m, plan) in all_plans().filter(|(_, _, plan)| takes(plan)) {
         names.push(format!("{name}, m = {m}"));
-        ratios.push(time_kinds(&plan, kind, other));
+        ratios.push(time_beside(&plan, [(kind, &STANDARD), (other, &STANDARD)]));
     }
     let (count, mean) = (ratios.len(), geometric_mean(&ratios));
     let [write, read] = [0, 1].map(|i| {
@@ -317,11 +324,11 @@ fn all_plans() -> impl Iterator<Item = (&'static str, usize, Plan)> {
 
 /// Times of the coders for all plans, in kinds without the outside (`more` 0) or with it (`OUTSIDE`).
 fn time_coders(more: u16) -> Vec<Row> {
-    print_heading();
+    print_heading("shape");
     let mut rows = Vec::new();
     for (name, m, plan) in all_plans() {
         for kind in plan.kinds.iter().map(|kind| more + kind) {
-            let times = time_plan(&plan, kind);
+            let times = time_plan(&STANDARD, &plan, kind);
             let row = Row {
                 name,
                 kind,
@@ -354,10 +361,65 @@ fn time_all_areas() -> Vec<[f64; 1]> {
     timed.collect()
 }
 
+/// Times of the three coders, in ns.
+fn print_calls(name: &str, [proved, second, peer]: [f64; 3]) {
+    println!("{name}: proved {proved:.0} ns, second coder {second:.0} ns, peer {peer:.0} ns");
+}
+
+/// What group tables cost: kind 2 under the standard table and under an own one, which all coders are handed here; loading a
+/// table; and a call that goes no further than the test of its table, since its kind is none.
+fn time_tables() {
+    let bytes: [u8; 243] = from_fn(|value| (5 * value + 7) as u8);
+    let [standard, own] = [STANDARD.proved.bytes, bytes].map(|bytes| Table::of(&bytes));
+    println!();
+    println!("kind 2 under group tables, which the peer is handed too; ns per edge, a mixed plan");
+    println!();
+    print_heading("table");
+    let mut ratios = Vec::new();
+    for m in TABLE_SIZES {
+        let mixed = |m, rng: &mut Rng| grow(Shape::Mixed, m, rng);
+        let plan = plans::plan(mixed, m, &mut Rng::new(m as u64));
+        for (name, table) in [("standard", &standard), ("own", &own)] {
+            let times = time_plan(table, &plan, 2);
+            let row = Row {
+                name,
+                kind: 2,
+                m,
+                times,
+            };
+            row.print();
+        }
+        ratios.push(time_beside(&plan, [(2, &own), (2, &standard)]));
+    }
+    println!();
+    for (m, [write, read]) in TABLE_SIZES.into_iter().zip(ratios) {
+        println!("own table by the standard one, m = {m}: write {write:.2}, read {read:.2}");
+    }
+    let [mut proved, mut second, mut peer] =
+        CODERS.map(|coder| move || assert!((coder.load)(black_box(&bytes))));
+    print_calls(
+        "loading a table",
+        least([&mut proved, &mut second, &mut peer]),
+    );
+    let [mut proved, mut second, mut peer] = CODERS.map(|coder| {
+        let own = &own;
+        move || {
+            assert_eq!(
+                (coder.write)(black_box(own), 9, 0, 0, &[], &mut [], &mut []),
+                0
+            )
+        }
+    });
+    print_calls(
+        "testing a table, with a call around it",
+        least([&mut proved, &mut second, &mut peer]),
+    );
+}
+
 /// The record of kind 2 of a random plan.
 fn random_record(edges: usize, rng: &mut Rng) -> Vec<u8> {
     let order = grow(Shape::Mixed, edges, rng).renumbered(rng);
-    jurnadel::record_of(&order, 0, 0, 2).expect("a fit plan")
+    jurnadel::record_of(&STANDARD.proved, &order, 0, 0, 2).expect("a fit plan")
 }
 
 /// So many different records.
@@ -387,9 +449,13 @@ fn print_shelf_row(name: &str, [proved, second]: [f64; 2]) {
 fn time_shelve(name: &str, record: &[u8], shelf: &[u8], used: usize) {
     let (mut shelf, mut other) = (shelf.to_vec(), shelf.to_vec());
     let times = least([
-        &mut || assert!(black_box(jurnadel::shelve(record, &mut shelf, used)).is_ok()),
         &mut || {
-            let shelved = second_coder::shelve(*LANDED, &TABLE, &mut other, used, record, &mut []);
+            let shelved = jurnadel::shelve(&STANDARD.proved, record, &mut shelf, used);
+            assert!(black_box(shelved).is_ok())
+        },
+        &mut || {
+            let table = &STANDARD.second;
+            let shelved = second_coder::shelve(*LANDED, table, &mut other, used, record, &mut []);
             assert!(black_box(shelved).is_ok())
         },
     ]);
@@ -464,7 +530,7 @@ fn time_shelving(records: &[Vec<u8>], length: usize) {
         begun.elapsed().as_secs_f64()
     };
     let proved = seconds(&mut |record, shelf, used| {
-        let stored = jurnadel::shelve(record, shelf, used).ok()?;
+        let stored = jurnadel::shelve(&STANDARD.proved, record, shelf, used).ok()?;
         Some((stored.number, stored.used))
     });
     let plain = seconds(&mut plain::shelve);
@@ -488,6 +554,7 @@ fn main() {
     println!();
     rows.extend(time_coders(OUTSIDE));
     let areas = time_all_areas();
+    time_tables();
     time_shelf();
     println!();
     print_kinds(4, 2);
