@@ -25,8 +25,8 @@ use Rattle.model.specs.declared.ReadBack.{ReadBack}
 use Rattle.model.specs.declared.ReadBack.the-variants as readback
 use Rattle.model.specs.declared.Measured.the-variants as measured
 use Rattle.model.specs.declared.Shelved.the-variants as shelved
-use Rattle.model.specs.Map.{Plan, edges, faceLengths, characteristic}
-use Rattle.model.specs.Record.{recordLength}
+use Rattle.model.specs.Map.{Plan, faceLengths, characteristic}
+use Rattle.model.specs.Record.{recordOf}
 use Rattle.model.specs.Shelf.{kindOf, edgesOf, recordsIn, firstEqual}
 use Rattle.model.specs.Calls.{writeRefusal, answerOf, writeAnswer, numberOfWritten, readRefusal, HasRecord, outsideRead, Reads, refused, read, unreadable, numberOfRead}
 use Rattle.model.specs.Calls.{measureRefusal, measureAnswer, numberOfMeasured}
@@ -39,14 +39,13 @@ unfolding writeAnswer answerOf
 number-of-written t k p w o = go (writeRefusal t k p w o) (eqb (writeRefusal t k p w o) 0) (eqb (writeRefusal t k p w o) 10) refl refl
   where
     go : (r : ℕ) (b c : Bool) → eqb r 0 ≡ b → eqb r 10 ≡ c
-        → numberOfWritten (cond b (written.Length (recordLength k (edges (p .rotation))))
-        (cond c (written.NotPlanar (characteristic (p .rotation))) (written.Refused r))) ≡ r
+        → numberOfWritten (cond b (written.Length (length (recordOf t k p))) (cond c (written.NotPlanar (characteristic (p .rotation))) (written.Refused r))) ≡ r
     go r true c e f = sym (eqb-true r 0 e)
     go r false true e f = sym (eqb-true r 10 f)
     go r false false e f = refl
 
 pub written-zero : (t : Table) (k : ℕ) (p : Plan) (w o : ℕ) → numberOfWritten (writeAnswer t k p w o) ≡ 0
-    → writeAnswer t k p w o ≡ written.Length (recordLength k (edges (p .rotation)))
+    → writeAnswer t k p w o ≡ written.Length (length (recordOf t k p))
 unfolding writeAnswer answerOf
 written-zero t k p w o z = let e = sym (number-of-written t k p w o) ∙ z in simp (eq-eqb (writeRefusal t k p w o) 0 e)
 

@@ -20,7 +20,7 @@ use lib.Dec.{eqb, ltb}
 use lib.ListN.{length, getD}
 use borrow.Author.Tests.{ltb-true, eqb-true, eqb-false, leb-true, lt-ltb, eq-eqb, ne-eqb, le-leb, not-true, not-false}
 use Rattle.model.specs.Numbers.{isPermutation}
-use Rattle.model.specs.Map.{Plan, darts, opposite, next, vertexOf, edges, isKind, edgeCountFits, dartCountFits, degreeOne, reached, connected, planar, hasLoop, hasDeadEnd, family, storesOutside, takesLoops, outsideRefused, loopRefused, degreeRefused, fit}
+use Rattle.model.specs.Map.{Plan, darts, opposite, next, vertexOf, edges, isKind, edgeCountFits, dartCountFits, degreeOne, reached, connected, planar, hasLoop, hasDeadEnd, family, storesOutside, takesLoops, outsideRefused, loopRefused, faceRefused, degreeRefused, fit}
 use Rattle.model.proofs.Booleans.{and-left, and-right, both, not-intro, some-at, some-in, some-no, no-some}
 pub use Rattle.model.proofs.Opposite.{opposite-opposite, opposite-ne, opposite-bound, opposite-edge}
 pub use Rattle.model.proofs.Permutations.{below-all, distinct-at, position-entry}
@@ -34,6 +34,7 @@ pub record Fit (k : ℕ) (p : Plan) : Type 0 where
   pub joined : connected (p .rotation) ≡ true
   pub flat : planar (p .rotation) ≡ true
   pub loops : loopRefused (family k) (p .rotation) ≡ false
+  pub triangles : faceRefused (family k) (p .rotation) ≡ false
   pub degrees : degreeRefused (family k) p ≡ false
 
 module _ (k : ℕ) (p : Plan) where
@@ -47,6 +48,7 @@ module _ (k : ℕ) (p : Plan) where
       let e9 = and-right (isPermutation (p .rotation)) _ e6 in
       let e10 = and-right (connected (p .rotation)) _ e9 in
       let e11 = and-right (planar (p .rotation)) _ e10 in
+      let e18 = and-right (not (loopRefused (family k) (p .rotation))) _ e11 in
       record {
         kind = and-left (isKind k) _ e;
         count = and-left (dartCountFits (darts p)) _ e3;
@@ -56,12 +58,13 @@ module _ (k : ℕ) (p : Plan) where
         joined = and-left (connected (p .rotation)) _ e9;
         flat = and-left (planar (p .rotation)) _ e10;
         loops = not-true (loopRefused (family k) (p .rotation)) (and-left (not (loopRefused (family k) (p .rotation))) _ e11);
-        degrees = not-true (degreeRefused (family k) p) (and-right (not (loopRefused (family k) (p .rotation))) _ e11);
+        triangles = not-true (faceRefused (family k) (p .rotation)) (and-left (not (faceRefused (family k) (p .rotation))) _ e18);
+        degrees = not-true (degreeRefused (family k) p) (and-right (not (faceRefused (family k) (p .rotation))) _ e18);
       }
 
   pub parts-fit : Fit k p → fit k p ≡ true
   unfolding fit
-  parts-fit f = rw (f .kind, f .count, lt-ltb (p .root) (darts p) (f .root), f .outside, f .entries, f .joined, f .flat, f .loops, f .degrees)
+  parts-fit f = rw (f .kind, f .count, lt-ltb (p .root) (darts p) (f .root), f .outside, f .entries, f .joined, f .flat, f .loops, f .triangles, f .degrees)
 
 -- ---- the outside, by kind
 

@@ -3,10 +3,12 @@
 --   le16-word16          two bytes are the field of their number
 --   le16-bytes           two bytes
 --   three-cases          what holds of three numbers holds of every entry of their list
---   family-cases, kind-cases   what holds of 1, 2 and 4 holds of every family, and of every kind if it holds of 101h, 102h and 104h too
+--   family-cases, kind-cases   what holds of 1, 2, 3 and 4 holds of every family, and of every kind if it holds of 101h, 102h and 104h too
+--   family-varies, stores-fixed   a kind's length varies with its family's, and is fixed where the outside is stored
+--   family-not-three, stores-not-three, stores-family-plain   only kind 3 has family 3, and it does not store the outside
 --   kind-family, kind-small   a kind's family is one; a kind is a 16-bit number
 --   family-one, family-two, family-four, family-other   the length of a payload of family 1, of 2, of 4, and of one that is not 1 or 2
---   headLength-range, recordLength-range   6 to 8 bytes stand before the payload, and a record has from 7 to 2056
+--   headLength-range, payloadLength-range, recordLength-range   6 to 8 bytes stand before the payload, and a record has from 7 to 2056
 --   Whole, Kinded, Counted        what the checks so far have shown: the length, and the kind, and the number of edges
 --   refuse-short, refuse-length, refuse-kind, refuse-count, refuse-size, refuse-nothing   the head refusal, check by check
 --   Passes               what passing says
@@ -18,17 +20,18 @@
 --   passes-head          passing is decided by the length and the first six bytes
 use Prim.Native.Nat.{ℕ, _+_, _*_, _/_, _%_, _≤_, _<_}
 use native.Mathlib.Omega.{arith}
-use mathlib.Core.Path.{_≡_, refl, sym, subst}
-use mathlib.Core.Bool.{Bool, true, false, cond, false≢true}
+use mathlib.Core.Path.{_≡_, refl, sym, ap, subst, _∙_}
+use mathlib.Core.Logic.{_≢_}
+use mathlib.Core.Bool.{Bool, true, false, not, _&&_, cond, false≢true}
 use mathlib.Core.List.{List, [], _∷_, _++_}
 use lib.Dec.{eqb, ltb}
 use lib.ListN.{length, getD}
 use borrow.Author.Tests.{lt-ltb, le-ltb, eq-eqb, ne-eqb, ltb-false, eqb-true, not-false}
 use Rattle.model.specs.Numbers.{elem, allBelow, Refusal, firstRefusal}
 use Rattle.model.specs.Map.{isFamily, storesOutside, isKind, family, edgeCountFits}
-use Rattle.model.specs.Record.{le16, headLength, payloadLength, recordLength}
+use Rattle.model.specs.Record.{le16, headLength, lengthVaries, payloadLength, recordLength}
 use Rattle.model.specs.Shelf.{word16, kindOf, edgesOf, headRefusals, headRefusal, passes}
-use Rattle.model.proofs.Booleans.{or-split, or-none}
+use Rattle.model.proofs.Booleans.{or-split, or-right, or-none}
 use Rattle.model.proofs.Below.{below-cons}
 use Rattle.model.proofs.Fitness.{edges-parts, parts-edges}
 use Rattle.model.proofs.Refusals.{none-holds, first-append, append-none}
@@ -57,20 +60,43 @@ three-cases a b c P p q s k e = go (eqb k a) (eqb k b) (eqb k c) refl refl refl 
     go false false true x y z e = subst P (sym (eqb-true k c z)) s
     go false false false x y z e = absurd (false≢true e)
 
-pub family-cases : (P : ℕ → Type 0) → P 1 → P 2 → P 4 → (f : ℕ) → isFamily f ≡ true → P f
-unfolding isFamily
-family-cases = three-cases 1 2 4
+pub family-cases : (P : ℕ → Type 0) → P 1 → P 2 → P 3 → P 4 → (f : ℕ) → isFamily f ≡ true → P f
+unfolding isFamily elem
+family-cases P p q s t f e = go (eqb f 1) refl e
+  where
+    go : (b : Bool) → eqb f 1 ≡ b → cond b true (elem f (2 ∷ 3 ∷ 4 ∷ [])) ≡ true → P f
+    go true z e = subst P (sym (eqb-true f 1 z)) p
+    go false z e = three-cases 2 3 4 P q s t f e
 
-pub kind-cases : (P : ℕ → Type 0) → P 1 → P 2 → P 4 → P 0x101 → P 0x102 → P 0x104 → (k : ℕ) → isKind k ≡ true → P k
+pub kind-cases : (P : ℕ → Type 0) → P 1 → P 2 → P 3 → P 4 → P 0x101 → P 0x102 → P 0x104 → (k : ℕ) → isKind k ≡ true → P k
 unfolding isKind storesOutside
-kind-cases P p q s t u v k e = or-split (isFamily k) (storesOutside k) e (family-cases P p q s k) (three-cases 0x101 0x102 0x104 P t u v k)
+kind-cases P p q s t u v w k e = or-split (isFamily k) (storesOutside k) e (family-cases P p q s t k) (three-cases 0x101 0x102 0x104 P u v w k)
 
 pub kind-family : (k : ℕ) → isKind k ≡ true → isFamily (family k) ≡ true
 unfolding isFamily family storesOutside elem
-kind-family = kind-cases (λ (x : ℕ). isFamily (family x) ≡ true) refl refl refl refl refl refl
+kind-family = kind-cases (λ (x : ℕ). isFamily (family x) ≡ true) refl refl refl refl refl refl refl
+
+pub family-varies : (k : ℕ) → isKind k ≡ true → lengthVaries (family k) ≡ lengthVaries k
+unfolding family storesOutside elem
+family-varies = kind-cases (λ (x : ℕ). lengthVaries (family x) ≡ lengthVaries x) refl refl refl refl refl refl refl
+
+pub stores-fixed : (k : ℕ) → storesOutside k ≡ true → lengthVaries k ≡ false
+unfolding storesOutside
+stores-fixed = three-cases 0x101 0x102 0x104 (λ (x : ℕ). lengthVaries x ≡ false) refl refl refl
+
+pub family-not-three : (k : ℕ) → isKind k ≡ true → k ≢ 3 → family k ≢ 3
+family-not-three k kind other e = other (eqb-true k 3 (sym (family-varies k kind) ∙ eq-eqb (family k) 3 e))
+
+pub stores-not-three : (k : ℕ) → storesOutside k ≡ true → k ≢ 3
+unfolding storesOutside
+stores-not-three = three-cases 0x101 0x102 0x104 (λ (x : ℕ). x ≢ 3) (λ e. omega (arith, e)) (λ e. omega (arith, e)) (λ e. omega (arith, e))
+
+pub stores-family-plain : (k : ℕ) → storesOutside k ≡ true → family k ≢ 3
+unfolding isKind
+stores-family-plain k s = family-not-three k (or-right (isFamily k) (storesOutside k) s) (stores-not-three k s)
 
 pub kind-small : (k : ℕ) → isKind k ≡ true → k < 65536
-kind-small = kind-cases (λ (x : ℕ). x < 65536) (omega arith) (omega arith) (omega arith) (omega arith) (omega arith) (omega arith)
+kind-small = kind-cases (λ (x : ℕ). x < 65536) (omega arith) (omega arith) (omega arith) (omega arith) (omega arith) (omega arith) (omega arith)
 
 pub family-one : (f m : ℕ) → f ≡ 1 → (3 * m + 7) / 8 ≡ payloadLength f m
 unfolding payloadLength
@@ -88,7 +114,7 @@ pub family-other : (f m : ℕ) → (f ≡ 1 → ⊥) → (f ≡ 2 → ⊥) → (
 unfolding payloadLength
 family-other f m d e = rw (ne-eqb _ _ d, ne-eqb _ _ e)
 
-payloadLength-range : (f m : ℕ) → 1 ≤ m → m ≤ 4096 → (1 ≤ payloadLength f m) × (payloadLength f m ≤ 2048)
+pub payloadLength-range : (f m : ℕ) → 1 ≤ m → m ≤ 4096 → (1 ≤ payloadLength f m) × (payloadLength f m ≤ 2048)
 unfolding payloadLength
 payloadLength-range f m h l = go (eqb f 1) (eqb f 2)
   where
@@ -113,6 +139,10 @@ recordLength-range k m h l =
     (omega arith, omega arith)
 
 -- ---- the head refusal, check by check
+
+sized-not-refused : (b : Bool) (n l : ℕ) → (b ≡ false → n ≡ l) → (not b && not (eqb n l)) ≡ false
+sized-not-refused true n l h = refl
+sized-not-refused false n l h = ap not (eq-eqb n l (h refl))
 
 module _ (r : List ℕ) where
   pub record Whole : Type 0 where
@@ -143,13 +173,16 @@ module _ (r : List ℕ) where
   unfolding headRefusal headRefusals firstRefusal
   refuse-count k e = rw (le-ltb _ _ (k .whole .long), eq-eqb _ _ (k .whole .field), k .kind, e)
 
-  pub refuse-size : Counted → (length r ≡ recordLength (kindOf r) (edgesOf r) → ⊥) → 5 ≡ headRefusal r
+  pub refuse-size : Counted → lengthVaries (kindOf r) ≡ false → (length r ≡ recordLength (kindOf r) (edgesOf r) → ⊥) → 5 ≡ headRefusal r
   unfolding headRefusal headRefusals firstRefusal
-  refuse-size c d = let k = c .kinded in rw (le-ltb _ _ (k .whole .long), eq-eqb _ _ (k .whole .field), k .kind, c .count, ne-eqb (length r) _ d)
+  refuse-size c v d = let k = c .kinded in rw (le-ltb _ _ (k .whole .long), eq-eqb _ _ (k .whole .field), k .kind, c .count, v, ne-eqb (length r) _ d)
 
-  pub refuse-nothing : Counted → length r ≡ recordLength (kindOf r) (edgesOf r) → 0 ≡ headRefusal r
+  pub refuse-nothing : Counted → (lengthVaries (kindOf r) ≡ false → length r ≡ recordLength (kindOf r) (edgesOf r)) → 0 ≡ headRefusal r
   unfolding headRefusal headRefusals firstRefusal
-  refuse-nothing c e = let k = c .kinded in rw (le-ltb _ _ (k .whole .long), eq-eqb _ _ (k .whole .field), k .kind, c .count, eq-eqb (length r) _ e)
+  refuse-nothing c e =
+      let k = c .kinded in
+      let none = sized-not-refused (lengthVaries (kindOf r)) (length r) _ e in
+      rw (le-ltb _ _ (k .whole .long), eq-eqb _ _ (k .whole .field), k .kind, c .count, none)
 
 -- ---- what passing says
 
@@ -159,7 +192,7 @@ pub record Passes (r : List ℕ) : Type 0 where
   pub kind : isKind (kindOf r) ≡ true
   pub some-edge : 1 ≤ edgesOf r
   pub few-edges : edgesOf r ≤ 4096
-  pub right-length : length r ≡ recordLength (kindOf r) (edgesOf r)
+  pub right-length : lengthVaries (kindOf r) ≡ false → length r ≡ recordLength (kindOf r) (edgesOf r)
 
 zero-facts : (r : List ℕ) → headRefusal r ≡ 0 → Passes r
 unfolding headRefusal headRefusals
@@ -173,7 +206,7 @@ zero-facts r e =
       kind = not-false _ (no 2);
       some-edge = some;
       few-edges = few;
-      right-length = eqb-true _ _ (not-false _ (no 5));
+      right-length = λ v. eqb-true _ _ (not-false (eqb (length r) (recordLength (kindOf r) (edgesOf r))) (rw v at (no 5)));
     }
 
 pub passes-facts : (r : List ℕ) → passes r ≡ true → Passes r

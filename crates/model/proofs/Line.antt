@@ -31,7 +31,7 @@ use Rattle.model.specs.Traversal.{standardPlan}
 use Rattle.model.specs.Groups.{standardTable}
 use Rattle.model.specs.Record.{recordOf}
 use Rattle.model.specs.Shelf.{edgesOf, same}
-use Rattle.model.specs.Calls.{front, tableRefused, earlyRefusals, lateRefusals, writeRefusal, answerOf, writeAnswer, writtenOutput, Reads}
+use Rattle.model.specs.Calls.{front, tableRefused, earlyRefusals, lateRefusals, lastRefusals, writeRefusal, answerOf, writeAnswer, writtenOutput, Reads}
 use Rattle.model.specs.Calls.{numberOfWritten, lengthOfWritten, characteristicOfWritten}
 use Rattle.model.proofs.Refusals.{table-stands}
 
@@ -82,7 +82,7 @@ abbrev planOf : Writes → Plan
 planOf l = record { rotation = l .rotation; root = l .root; outside = l .outside }
 
 unfoldable pub holds : Table → Writes → Bool
-holds t l = agrees (writeAnswer t (l .kind) (planOf l) 160 (length lent)) (writtenOutput t (l .kind) (planOf l) 160 lent) (planOf l) (l .says)
+holds t l = agrees (writeAnswer t (l .kind) (planOf l) 192 (length lent)) (writtenOutput t (l .kind) (planOf l) 192 lent) (planOf l) (l .says)
 
 unfoldable pub allHold : Table → List Writes → Bool
 allHold t [] = true
@@ -90,10 +90,11 @@ allHold t (l ∷ ls) = holds t l && allHold t ls
 
 -- r is the first refusal
 unfoldable pub heldBy : ℕ → Table → Writes → Bool
-heldBy r t l = agrees (answerOf r (l .kind) (planOf l)) (cond (eqb r 0) (front (recordOf t (l .kind) (planOf l)) lent) lent) (planOf l) (l .says)
+heldBy r t l = agrees (answerOf r t (l .kind) (planOf l)) (cond (eqb r 0) (front (recordOf t (l .kind) (planOf l)) lent) lent) (planOf l) (l .says)
 
 unfoldable pub held : Table → Writes → Bool
-held t l = heldBy (firstRefusal (earlyRefusals (l .kind) (planOf l) 160 12 ++ lateRefusals (family (l .kind)) (planOf l))) t l
+held t l =
+    heldBy (firstRefusal (earlyRefusals (l .kind) (planOf l) 192 12 ++ (lateRefusals (family (l .kind)) (planOf l) ++ lastRefusals t (l .kind) (planOf l) 12))) t l
 
 unfoldable pub allHeld : Table → List Writes → Bool
 allHeld t [] = true

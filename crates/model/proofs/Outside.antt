@@ -8,7 +8,7 @@ use Prim.Native.Nat.{ℕ, _<_}
 use mathlib.Core.Path.{_≡_, refl}
 use mathlib.Core.Bool.{true}
 use Rattle.model.specs.Numbers.{elem}
-use Rattle.model.specs.Map.{Plan, darts, hasDeadEnd, isFamily, storesOutside, isKind, family, loopRefused, degreeRefused, fit}
+use Rattle.model.specs.Map.{Plan, darts, hasDeadEnd, isFamily, storesOutside, isKind, family, loopRefused, faceRefused, degreeRefused, fit}
 use Rattle.model.specs.Traversal.{visits, word}
 use Rattle.model.proofs.Fitness.{fit-parts, parts-fit, outside-dart, dart-outside}
 
@@ -37,11 +37,12 @@ module _ (p : Plan) (o : ℕ) where
         joined = a .joined;
         flat = a .flat;
         loops = a .loops;
+        triangles = a .triangles;
         degrees = rw same-dead-ends (a .degrees);
       })
 
 pub fit-widest : (k : ℕ) (p : Plan) → fit k p ≡ true → storesOutside k ≡ true → fit 0x104 p ≡ true
-unfolding isKind isFamily storesOutside family elem loopRefused degreeRefused
+unfolding isKind isFamily storesOutside family elem loopRefused faceRefused degreeRefused
 fit-widest k p e s =
     let a = fit-parts k p e in
     parts-fit 0x104 p (record {
@@ -53,5 +54,6 @@ fit-widest k p e s =
       joined = a .joined;
       flat = a .flat;
       loops = refl;
+      triangles = refl;
       degrees = refl;
     })

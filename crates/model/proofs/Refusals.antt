@@ -6,6 +6,7 @@
 --   first-append         the first of two lists, one after the other
 --   append-none          if it is 0, it is 0 in both
 --   table-stands, table-first, none-stands   a refusal of the table comes before all others, or is none
+--   passed-fit           where none of the early and the late refusals of writing holds, the plan is fit
 --   not-refused          where no refusal of writing holds, the table is one that loading gives and the plan is fit
 use Prim.Native.Nat.{ℕ}
 use native.Mathlib.Nat.{suc-ne-zero}
@@ -17,7 +18,7 @@ use borrow.Author.Tests.{eqb-true, eqb-false, ltb-true, not-true, not-false}
 use Rattle.model.specs.declared.Table.{Table}
 use Rattle.model.specs.Numbers.{Refusal, firstRefusal, refuse}
 use Rattle.model.specs.Map.{Plan, family, fit}
-use Rattle.model.specs.Calls.{tableRefused, earlyRefusals, lateRefusals, writeRefusal}
+use Rattle.model.specs.Calls.{tableRefused, earlyRefusals, lateRefusals, lastRefusals, writeRefusal}
 use Rattle.model.proofs.Booleans.{and-left, and-right}
 use Rattle.model.proofs.Fitness.{parts-fit}
 
@@ -93,20 +94,29 @@ module _ (t : Table) (rs : List Refusal) where
 
 -- ---- writing
 
+-- where none of the plan's own holds either
+pub passed-fit : (k : ℕ) (p : Plan) (w o : ℕ) → firstRefusal (earlyRefusals k p w o) ≡ 0 → firstRefusal (lateRefusals (family k) p) ≡ 0 → fit k p ≡ true
+unfolding earlyRefusals lateRefusals
+passed-fit k p w o e l =
+    let early = none-holds (earlyRefusals k p w o) refl e in
+    let late = none-holds (lateRefusals (family k) p) refl l in
+    parts-fit k p (record {
+      kind = not-false _ (early 2);
+      count = not-false _ (early 3);
+      root = ltb-true _ _ (not-false _ (early 4));
+      outside = early 17;
+      entries = not-false _ (early 6);
+      joined = not-false _ (late 9);
+      flat = not-false _ (late 10);
+      loops = late 11;
+      triangles = late 18;
+      degrees = late 12;
+    })
+
 pub not-refused : (t : Table) (k : ℕ) (p : Plan) (w o : ℕ) → writeRefusal t k p w o ≡ 0 → (tableRefused t ≡ false) × (fit k p ≡ true)
 unfolding writeRefusal earlyRefusals lateRefusals
 not-refused t k p w o e =
-    let no = none-holds (refuse 19 (tableRefused t) ∷ (earlyRefusals k p w o ++ lateRefusals (family k) p)) refl e in (
-      no 19,
-      parts-fit k p (record {
-        kind = not-false _ (no 2);
-        count = not-false _ (no 3);
-        root = ltb-true _ _ (not-false _ (no 4));
-        outside = no 17;
-        entries = not-false _ (no 6);
-        joined = not-false _ (no 9);
-        flat = not-false _ (no 10);
-        loops = no 11;
-        degrees = no 12;
-      }),
-    )
+    let late = lateRefusals (family k) p in
+    let stands = none-stands t (earlyRefusals k p w o ++ (late ++ lastRefusals t k p o)) e in
+    let (first, rest) = append-none (earlyRefusals k p w o) (late ++ lastRefusals t k p o) refl (sym (table-stands t _ stands) ∙ e) in
+    (stands, passed-fit k p w o first (append-none late (lastRefusals t k p o) refl rest .0))

@@ -2,6 +2,8 @@
 --
 --   requested            the lines, request by request
 --   requested-hold       the definitions yield every line
+--   last-refusals-hold   in kind 3, 8 is given after all others
+--   mesh-heads-hold      and 5 is not given
 --   tables-hold          lines under two tables of a maker's own
 --   loading-hold         what loading refuses
 --   table-refusals-hold  tables that loading never gives
@@ -11,7 +13,7 @@
 --   measured-hold        what measuring refuses
 use mathlib.Core.Path.{_≡_, refl}
 use mathlib.Core.Bool.{true}
-use mathlib.Core.List.{List, [], _∷_}
+use mathlib.Core.List.{List, [], _∷_, _++_}
 use Prim.Native.Nat.{ℕ, _+_, _%_}
 use lib.Dec.{T}
 use lib.IntN.{pos}
@@ -19,11 +21,12 @@ use lib.ListN.{getD, set, take}
 use Rattle.model.specs.declared.Measured.the-variants.{Count, Refused, NotPlanar}
 use Rattle.model.specs.Numbers.{elem, distinct, allBelow, position, tabulate, firstRefusal}
 use Rattle.model.specs.Groups.{isTable, inverseOf, loaded, standardTable, noTable}
-use Rattle.model.specs.Shelf.{same, firstEqual, met, asLong, compared}
-use Rattle.model.specs.Map.{Plan, faceLengths}
-use Rattle.model.specs.Calls.{tableRefused, loadRefusal, writeRefusal, readRefusal, shelveRefusal, measureAnswer, measuredList}
-use Rattle.model.proofs.Line.{Writes, record-is, refused, not-planar, allHold, allHeld, all-held}
+use Rattle.model.specs.Shelf.{word16, headRefusals, headRefusal, same, firstEqual, met, asLong, compared}
+use Rattle.model.specs.Map.{Plan, family, faceLengths}
+use Rattle.model.specs.Calls.{tableRefused, loadRefusal, earlyRefusals, lateRefusals, lastRefusals, writeRefusal, readRefusal, shelveRefusal, measureAnswer, measuredList}
+use Rattle.model.proofs.Line.{Writes, record-is, standard-is, refused, not-planar, allHold, allHeld, all-held}
 use Rattle.model.proofs.Opened.{writing-opened, measuring-opened}
+use Rattle.model.proofs.Refusals.{table-stands}
 use Rattle.model.proofs.Tables.{standard-stands, loaded-stands, no-table-refused}
 
 -- (a) "Order 0 2 5 4 3 1, start 0, is then 08 00 01 00 03 00 E1 00": from any other start its dead end is not the start's. One trail has two dead ends.
@@ -37,7 +40,7 @@ requested =
     ∷ record { kind = 1; root = 5; outside = 0; rotation = 0 ∷ 2 ∷ 5 ∷ 4 ∷ 3 ∷ 1 ∷ []; says = refused 12 }
     ∷ record { kind = 1; root = 0; outside = 0; rotation = 0 ∷ 1 ∷ []; says = refused 12 }
     ∷ record { kind = 1; root = 1; outside = 0; rotation = 0 ∷ 1 ∷ []; says = refused 12 }
-    -- (c) "A single loop gives 07 00 04 00 01 00 B0." One trail, the triangle, three parallel trails, the spur, a loop around a dead end. 9 and 10 are given as in any kind; 11 in the others; 3 and 5 are no kinds.
+    -- (c) "A single loop gives 07 00 04 00 01 00 B0." One trail, the triangle, three parallel trails, the spur, a loop around a dead end. 9 and 10 are given as in any kind; 11 in the others; 0 and 5 are no kinds.
     ∷ record { kind = 4; root = 0; outside = 0; rotation = 1 ∷ 0 ∷ []; says = record-is (0x07 ∷ 0x00 ∷ 0x04 ∷ 0x00 ∷ 0x01 ∷ 0x00 ∷ 0xB0 ∷ []) }
     ∷ record { kind = 4; root = 0; outside = 0; rotation = 0 ∷ 1 ∷ []; says = record-is (0x07 ∷ 0x00 ∷ 0x04 ∷ 0x00 ∷ 0x01 ∷ 0x00 ∷ 0x10 ∷ []) }
     ∷ record { kind = 4; root = 0; outside = 0; rotation = 5 ∷ 2 ∷ 1 ∷ 4 ∷ 3 ∷ 0 ∷ []; says = record-is (0x08 ∷ 0x00 ∷ 0x04 ∷ 0x00 ∷ 0x03 ∷ 0x00 ∷ 0x09 ∷ 0x70 ∷ []) }
@@ -48,7 +51,7 @@ requested =
     ∷ record { kind = 4; root = 0; outside = 0; rotation = 3 ∷ 2 ∷ 4 ∷ 5 ∷ 1 ∷ 0 ∷ []; says = not-planar (pos 0) }
     ∷ record { kind = 1; root = 0; outside = 0; rotation = 1 ∷ 0 ∷ []; says = refused 11 }
     ∷ record { kind = 2; root = 0; outside = 0; rotation = 1 ∷ 0 ∷ []; says = refused 11 }
-    ∷ record { kind = 3; root = 0; outside = 0; rotation = 1 ∷ 0 ∷ []; says = refused 2 }
+    ∷ record { kind = 0; root = 0; outside = 0; rotation = 1 ∷ 0 ∷ []; says = refused 2 }
     ∷ record { kind = 5; root = 0; outside = 0; rotation = 1 ∷ 0 ∷ []; says = refused 2 }
     -- (e) "the lowest standard dart of the outside area"; "17, outside dart not below the dart count, right after 4"; a kind without the bytes "ignores the outside in writing"
     ∷ record { kind = 0x101; root = 0; outside = 0; rotation = 5 ∷ 2 ∷ 1 ∷ 4 ∷ 3 ∷ 0 ∷ []; says = record-is (0x0A ∷ 0x00 ∷ 0x01 ∷ 0x01 ∷ 0x03 ∷ 0x00 ∷ 0x00 ∷ 0x00 ∷ 0xE2 ∷ 0x00 ∷ []) }
@@ -69,7 +72,46 @@ requested =
     ∷ record { kind = 0x104; root = 0; outside = 1; rotation = 1 ∷ 1 ∷ []; says = refused 6 }
     ∷ record { kind = 0x102; root = 0; outside = 0; rotation = 1 ∷ 0 ∷ []; says = refused 11 }
     ∷ record { kind = 0x103; root = 0; outside = 0; rotation = 1 ∷ 0 ∷ []; says = refused 2 }
+    -- (f) "The triangle is 08 00 03 00 03 00 80 A2", from any start, whatever the outside. "A loop is 11 here too"; "18, an area that is not three darts of three different
+    -- trails": a single trail; three parallel trails
+    ∷ record { kind = 3; root = 0; outside = 0; rotation = 5 ∷ 2 ∷ 1 ∷ 4 ∷ 3 ∷ 0 ∷ []; says = standard-is (0x08 ∷ 0x00 ∷ 0x03 ∷ 0x00 ∷ 0x03 ∷ 0x00 ∷ 0x80 ∷ 0xA2 ∷ []) (5 ∷ 2 ∷ 1 ∷ 4 ∷ 3 ∷ 0 ∷ []) }
+    ∷ record { kind = 3; root = 3; outside = 6; rotation = 5 ∷ 2 ∷ 1 ∷ 4 ∷ 3 ∷ 0 ∷ []; says = record-is (0x08 ∷ 0x00 ∷ 0x03 ∷ 0x00 ∷ 0x03 ∷ 0x00 ∷ 0x80 ∷ 0xA2 ∷ []) }
+    -- the meshes of six trails
+    ∷ record { kind = 3; root = 0; outside = 0; rotation = 11 ∷ 2 ∷ 6 ∷ 4 ∷ 3 ∷ 0 ∷ 8 ∷ 5 ∷ 1 ∷ 10 ∷ 9 ∷ 7 ∷ []; says = standard-is (0x08 ∷ 0x00 ∷ 0x03 ∷ 0x00 ∷ 0x06 ∷ 0x00 ∷ 0x70 ∷ 0x36 ∷ []) (11 ∷ 2 ∷ 6 ∷ 4 ∷ 3 ∷ 0 ∷ 8 ∷ 5 ∷ 1 ∷ 10 ∷ 9 ∷ 7 ∷ []) }
+    ∷ record { kind = 3; root = 0; outside = 0; rotation = 9 ∷ 2 ∷ 11 ∷ 4 ∷ 6 ∷ 0 ∷ 3 ∷ 8 ∷ 10 ∷ 5 ∷ 7 ∷ 1 ∷ []; says = standard-is (0x08 ∷ 0x00 ∷ 0x03 ∷ 0x00 ∷ 0x06 ∷ 0x00 ∷ 0x70 ∷ 0x87 ∷ []) (9 ∷ 2 ∷ 11 ∷ 4 ∷ 6 ∷ 0 ∷ 3 ∷ 8 ∷ 10 ∷ 5 ∷ 7 ∷ 1 ∷ []) }
+    ∷ record { kind = 3; root = 0; outside = 0; rotation = 11 ∷ 2 ∷ 1 ∷ 4 ∷ 6 ∷ 0 ∷ 10 ∷ 8 ∷ 7 ∷ 5 ∷ 3 ∷ 9 ∷ []; says = standard-is (0x08 ∷ 0x00 ∷ 0x03 ∷ 0x00 ∷ 0x06 ∷ 0x00 ∷ 0xB0 ∷ 0x36 ∷ []) (11 ∷ 2 ∷ 1 ∷ 4 ∷ 6 ∷ 0 ∷ 10 ∷ 8 ∷ 7 ∷ 5 ∷ 3 ∷ 9 ∷ []) }
+    ∷ record { kind = 3; root = 0; outside = 0; rotation = 5 ∷ 2 ∷ 11 ∷ 4 ∷ 6 ∷ 0 ∷ 8 ∷ 1 ∷ 3 ∷ 10 ∷ 9 ∷ 7 ∷ []; says = standard-is (0x08 ∷ 0x00 ∷ 0x03 ∷ 0x00 ∷ 0x06 ∷ 0x00 ∷ 0xB0 ∷ 0x87 ∷ []) (5 ∷ 2 ∷ 11 ∷ 4 ∷ 6 ∷ 0 ∷ 8 ∷ 1 ∷ 3 ∷ 10 ∷ 9 ∷ 7 ∷ []) }
+    ∷ record { kind = 3; root = 0; outside = 0; rotation = 0 ∷ 1 ∷ []; says = refused 18 }
+    ∷ record { kind = 3; root = 0; outside = 0; rotation = 1 ∷ 0 ∷ []; says = refused 11 }
+    ∷ record { kind = 3; root = 0; outside = 0; rotation = 5 ∷ 2 ∷ 4 ∷ 0 ∷ 1 ∷ 3 ∷ []; says = refused 18 }
+    ∷ record { kind = 3; root = 0; outside = 0; rotation = 0 ∷ 1 ∷ 2 ∷ 3 ∷ []; says = refused 9 }
+    ∷ record { kind = 3; root = 0; outside = 0; rotation = 3 ∷ 2 ∷ 4 ∷ 5 ∷ 1 ∷ 0 ∷ []; says = not-planar (pos 0) }
     ∷ []
+
+-- (f) "8 comes last in writing": three parallel trails with no output at all, the triangle with 7 bytes and with 8
+abbrev rooted : List ℕ → Plan
+rooted rot = record { rotation = rot; root = 0; outside = 0 }
+
+mesh-refusal : (p : Plan) (o : ℕ) → writeRefusal standardTable 3 p 96 o
+    ≡ firstRefusal (earlyRefusals 3 p 96 o ++ (lateRefusals (family 3) p ++ lastRefusals standardTable 3 p o))
+unfolding writeRefusal
+mesh-refusal p o = table-stands standardTable (earlyRefusals 3 p 96 o ++ (lateRefusals (family 3) p ++ lastRefusals standardTable 3 p o)) standard-stands
+
+pub last-refusals-hold : (writeRefusal standardTable 3 (rooted (5 ∷ 2 ∷ 4 ∷ 0 ∷ 1 ∷ 3 ∷ [])) 96 0 ≡ 18)
+    × (writeRefusal standardTable 3 (rooted (5 ∷ 2 ∷ 1 ∷ 4 ∷ 3 ∷ 0 ∷ [])) 96 7 ≡ 8) × (writeRefusal standardTable 3 (rooted (5 ∷ 2 ∷ 1 ∷ 4 ∷ 3 ∷ 0 ∷ [])) 96 8 ≡ 0)
+unfolding writing-opened
+last-refusals-hold = (
+  mesh-refusal (rooted (5 ∷ 2 ∷ 4 ∷ 0 ∷ 1 ∷ 3 ∷ [])) 0,
+  mesh-refusal (rooted (5 ∷ 2 ∷ 1 ∷ 4 ∷ 3 ∷ 0 ∷ [])) 7,
+  mesh-refusal (rooted (5 ∷ 2 ∷ 1 ∷ 4 ∷ 3 ∷ 0 ∷ [])) 8,
+)
+
+-- (f) "5 isn't given": a head of kind 3 passes with any length from 6 on; 1, 2 and 3 are given as in any kind
+pub mesh-heads-hold : (headRefusal (0x06 ∷ 0x00 ∷ 0x03 ∷ 0x00 ∷ 0x03 ∷ 0x00 ∷ []) ≡ 0) × (headRefusal (0x08 ∷ 0x00 ∷ 0x03 ∷ 0x00 ∷ 0x04 ∷ 0x00 ∷ 0x80 ∷ 0xA2 ∷ []) ≡ 0)
+    × (headRefusal (0x07 ∷ 0x00 ∷ 0x03 ∷ 0x00 ∷ 0x03 ∷ 0x00 ∷ []) ≡ 1) × (headRefusal (0x06 ∷ 0x00 ∷ 0x03 ∷ 0x01 ∷ 0x03 ∷ 0x00 ∷ []) ≡ 2)
+    × (headRefusal (0x06 ∷ 0x00 ∷ 0x03 ∷ 0x00 ∷ 0x00 ∷ 0x00 ∷ []) ≡ 3)
+unfolding headRefusal headRefusals writing-opened word16
+mesh-heads-hold = (refl, refl, refl, refl, refl)
 
 pub requested-hold : T (allHold standardTable requested)
 unfolding requested allHeld writing-opened

@@ -5,9 +5,9 @@
 --   tableRefused t        loading never gives the table t
 --   loadRefusal, loadedTable   loading: the refusal, 0 if none, and the table that is returned
 --   Loads                 all that loading promises
---   earlyRefusals, lateRefusals   the refusals of writing: those that need no work area, and those of the plan itself
+--   earlyRefusals, lateRefusals, lastRefusals   the refusals of writing: those that need no work area, those of the plan itself, and that of its record
 --   writeRefusal          the first of all, 19 before them; 0 if none
---   answerOf r k p        the answer of writing p where r is its first refusal
+--   answerOf r t k p      the answer of writing p where r is its first refusal
 --   writeAnswer           the answer of writing
 --   writtenOutput         the output after writing
 --   Wrote                 all that writing promises
@@ -47,10 +47,11 @@ use Rattle.model.specs.declared.Measured.the-variants as measured
 use Rattle.model.specs.declared.Shelved.{Shelved}
 use Rattle.model.specs.declared.Shelved.the-variants as shelved
 use Rattle.model.specs.Numbers.{Refusal, firstRefusal, refuse, isPermutation}
-use Rattle.model.specs.Map.{Plan, darts, edges, faceLengths, isKind, storesOutside, family, dartCountFits, connected, planar, characteristic, outsideRefused, loopRefused, degreeRefused, fit}
+use Rattle.model.specs.Map.{Plan, darts, edges, faceLengths, isKind, storesOutside, family, dartCountFits}
+use Rattle.model.specs.Map.{connected, planar, characteristic, outsideRefused, loopRefused, faceRefused, degreeRefused, fit}
 use Rattle.model.specs.Traversal.{standardFace, standardPlan}
 use Rattle.model.specs.Groups.{isTable, inverseOf, loaded, noTable}
-use Rattle.model.specs.Record.{recordLength, recordOf}
+use Rattle.model.specs.Record.{lengthVaries, recordLength, recordOf}
 use Rattle.model.specs.Shelf.{kindOf, edgesOf, headRefusals, recordsIn, same, firstEqual, shelfRefused}
 
 -- "The work area, short or not, is zeros on every return."
@@ -80,7 +81,8 @@ pub record Loads (bs : List ℕ) (t : Table) (number : ℕ) : Type 0 where
 
 -- ---- writing
 
--- "Writing meets 2, 3, 4, 6 to 12", by document 02 (e) 17 "right after 4", for a work area and an output of these lengths
+-- "Writing meets 2, 3, 4, 6 to 12", by document 02 (e) 17 "right after 4", by (f) 18 "right after 11" and of kind 3 "8 comes last in writing", for a work area and an
+-- output of these lengths
 unfoldable pub earlyRefusals : ℕ → Plan → ℕ → ℕ → List Refusal
 earlyRefusals k p workLength outLength =
     refuse 2 (not (isKind k))
@@ -89,7 +91,7 @@ earlyRefusals k p workLength outLength =
     ∷ refuse 17 (outsideRefused k p)
     ∷ refuse 6 (not (isPermutation (p .rotation)))
     ∷ refuse 7 (ltb workLength (32 * edges (p .rotation)))
-    ∷ refuse 8 (ltb outLength (recordLength k (edges (p .rotation))))
+    ∷ refuse 8 (not (lengthVaries k) && ltb outLength (recordLength k (edges (p .rotation))))
     ∷ []
 
 unfoldable pub lateRefusals : ℕ → Plan → List Refusal
@@ -97,22 +99,26 @@ lateRefusals f p =
     refuse 9 (not (connected (p .rotation)))
     ∷ refuse 10 (not (planar (p .rotation)))
     ∷ refuse 11 (loopRefused f (p .rotation))
+    ∷ refuse 18 (faceRefused f (p .rotation))
     ∷ refuse 12 (degreeRefused f p)
     ∷ []
+
+unfoldable pub lastRefusals : Table → ℕ → Plan → ℕ → List Refusal
+lastRefusals t k p outLength = refuse 8 (lengthVaries k && ltb outLength (length (recordOf t k p))) ∷ []
 
 -- 19 is refused "before all others"
 unfoldable pub writeRefusal : Table → ℕ → Plan → ℕ → ℕ → ℕ
 writeRefusal t k p workLength outLength =
-    firstRefusal (refuse 19 (tableRefused t) ∷ (earlyRefusals k p workLength outLength ++ lateRefusals (family k) p))
+    firstRefusal (refuse 19 (tableRefused t) ∷ (earlyRefusals k p workLength outLength ++ (lateRefusals (family k) p ++ lastRefusals t k p outLength)))
 
 -- "Writing returns the record's length"; refusal 10 "also gives the characteristic"
-unfoldable pub answerOf : ℕ → ℕ → Plan → Written
-answerOf r k p =
-    cond (eqb r 0) (written.Length (recordLength k (edges (p .rotation))))
+unfoldable pub answerOf : ℕ → Table → ℕ → Plan → Written
+answerOf r t k p =
+    cond (eqb r 0) (written.Length (length (recordOf t k p)))
     (cond (eqb r 10) (written.NotPlanar (characteristic (p .rotation))) (written.Refused r))
 
 unfoldable pub writeAnswer : Table → ℕ → Plan → ℕ → ℕ → Written
-writeAnswer t k p workLength outLength = answerOf (writeRefusal t k p workLength outLength) k p
+writeAnswer t k p workLength outLength = answerOf (writeRefusal t k p workLength outLength) t k p
 
 -- "and fills that many output bytes"
 unfoldable pub writtenOutput : Table → ℕ → Plan → ℕ → List ℕ → List ℕ

@@ -1,6 +1,6 @@
 -- What the exported functions answer, in numbers: an enum cannot cross to C, so each of its values goes out by itself.
 --
---   lengthFor             the length of a record; 0 if there is none of this kind and size
+--   lengthFor             the length of a record; 0 if there is none of this kind and size, or they do not fix it
 --   WriteExport           all that jurnadel_write promises
 --   ReadExport            all that jurnadel_read promises
 --   MeasureExport         all that jurnadel_area_lengths promises
@@ -8,14 +8,14 @@
 --   FetchExport           all that jurnadel_fetch promises
 use Prim.Native.Nat.{ℕ}
 use mathlib.Core.Path.{_≡_}
-use mathlib.Core.Bool.{_&&_, cond}
+use mathlib.Core.Bool.{not, _&&_, cond}
 use mathlib.Core.List.{List}
 use lib.IntN.{ℤ}
 use lib.ListN.{length, take, drop}
 use Rattle.model.specs.declared.Table.{Table}
 use Rattle.model.specs.declared.ReadBack.{ReadBack}
 use Rattle.model.specs.Map.{Plan, isKind, edgeCountFits}
-use Rattle.model.specs.Record.{recordLength}
+use Rattle.model.specs.Record.{lengthVaries, recordLength}
 use Rattle.model.specs.Calls.{zeros, writeAnswer, writtenOutput, numberOfWritten, lengthOfWritten, characteristicOfWritten}
 use Rattle.model.specs.Calls.{Reads, numberOfRead, edgesOfRead, outsideOfRead}
 use Rattle.model.specs.Calls.{measureAnswer, measuredList, numberOfMeasured, countOfMeasured, characteristicOfMeasured}
@@ -68,6 +68,6 @@ pub record FetchExport (shelf : List ℕ) (used n : ℕ) (r at l : ℕ) : Type 0
 
 -- ---- sizes
 
--- the 0 is left free by the papers
+-- the 0 is left free by the papers; in kind 3 it says that m does not fix the length
 unfoldable pub lengthFor : ℕ → ℕ → ℕ
-lengthFor k m = cond (isKind k && edgeCountFits m) (recordLength k m) 0
+lengthFor k m = cond (isKind k && (not (lengthVaries k) && edgeCountFits m)) (recordLength k m) 0

@@ -2,6 +2,7 @@ pub mod Numbers
 pub mod Map
 pub mod Traversal
 pub mod LabelledTree
+pub mod Mesh
 pub mod Groups
 pub mod Record
 pub mod Shelf

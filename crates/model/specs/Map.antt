@@ -17,13 +17,16 @@
 --   planar rot           the characteristic is 2
 --   hasLoop rot          some edge has both darts at one vertex
 --   hasDeadEnd p         some vertex other than the root's has degree one
---   isFamily f           f is a kind without the outside's bytes: 1, 2 or 4
+--   isTriangle rot d     d's face has three darts, of three different edges
+--   hasOtherFace rot     some face is not such a triangle
+--   isFamily f           f is a kind without the outside's bytes: 1, 2, 3 or 4
 --   storesOutside k      k is a kind with them: 101h, 102h or 104h
 --   isKind k             k is a kind of record
 --   family k             the kind k without the outside's bytes
 --   edgeCountFits m      m is an edge count that a plan may have; dartCountFits n, n is a dart count
 --   takesLoops f         kinds of family f take plans with loops
 --   loopRefused f rot    they do not take a plan with this rotation for its loop
+--   faceRefused f rot    nor for a face that is no triangle
 --   degreeRefused f p    they do not take p for its dead end
 --   outsideRefused k p   kind k stores the outside, and p has no such dart
 --   fit k p              the plan p is fit for kind k
@@ -122,11 +125,21 @@ unfoldable pub hasDeadEnd : Plan → Bool
 hasDeadEnd p =
     some (λ d. degreeOne (p .rotation) d && not (eqb (vertexOf (p .rotation) d) (vertexOf (p .rotation) (p .root)))) (darts p)
 
+-- document 02 (f): "three darts of three different trails"
+unfoldable pub isTriangle : List ℕ → ℕ → Bool
+isTriangle rot d =
+    let e = faceNext rot d in
+    let f = faceNext rot e in
+    eqb (faceNext rot f) d && (not (eqb (d / 2) (e / 2)) && (not (eqb (e / 2) (f / 2)) && not (eqb (f / 2) (d / 2))))
+
+unfoldable pub hasOtherFace : List ℕ → Bool
+hasOtherFace rot = some (λ d. not (isTriangle rot d)) (length rot)
+
 -- ---- fitness
 
--- 2. "The kind is not 1 or 2"; of kind 4, document 02 (c): "2 now admits it"
+-- 2. "The kind is not 1 or 2"; of kind 4, document 02 (c): "2 now admits it", and so of kind 3, (f)
 unfoldable pub isFamily : ℕ → Bool
-isFamily f = elem f (1 ∷ 2 ∷ 4 ∷ [])
+isFamily f = elem f (1 ∷ 2 ∷ 3 ∷ 4 ∷ [])
 
 -- document 02 (e): "Kinds 101h, 102h and 104h are 1, 2 and 4 with two more bytes"
 unfoldable pub storesOutside : ℕ → Bool
@@ -146,12 +159,16 @@ unfoldable pub dartCountFits : ℕ → Bool
 dartCountFits n = eqb (n % 2) 0 && edgeCountFits (n / 2)
 
 -- "Kind 1 takes connected planar plans with no loop and no junction of degree one", by document 02 (a) none "other than the start's". "Kind 2 takes
--- connected planar plans with no loop." Document 02 (c): "Kind 4 takes any connected planar plan"; "Refusals 11 and 12 never concern this kind".
+-- connected planar plans with no loop." Document 02 (c): "Kind 4 takes any connected planar plan"; "Refusals 11 and 12 never concern this kind". Of kind 3,
+-- document 02 (f): "A loop is 11 here too"; "18, an area that is not three darts of three different trails".
 abbrev pub takesLoops : ℕ → Bool
 takesLoops f = eqb f 4
 
 unfoldable pub loopRefused : ℕ → List ℕ → Bool
 loopRefused f rot = not (takesLoops f) && hasLoop rot
+
+unfoldable pub faceRefused : ℕ → List ℕ → Bool
+faceRefused f rot = eqb f 3 && hasOtherFace rot
 
 unfoldable pub degreeRefused : ℕ → Plan → Bool
 degreeRefused f p = eqb f 1 && hasDeadEnd p
@@ -165,4 +182,5 @@ outsideRefused k p = storesOutside k && not (ltb (p .outside) (darts p))
 unfoldable pub fit : ℕ → Plan → Bool
 fit k p =
     isKind k && (dartCountFits (darts p) && (ltb (p .root) (darts p) && (not (outsideRefused k p) && (isPermutation (p .rotation)
-    && (connected (p .rotation) && (planar (p .rotation) && (not (loopRefused (family k) (p .rotation)) && not (degreeRefused (family k) p))))))))
+    && (connected (p .rotation) && (planar (p .rotation) && (not (loopRefused (family k) (p .rotation))
+    && (not (faceRefused (family k) (p .rotation)) && not (degreeRefused (family k) p)))))))))

@@ -5,9 +5,11 @@
 --   bytesFor n w          how many groups of w hold n digits
 --   le16 n                n in two bytes, the low one first
 --   headLength k          how many bytes stand before the payload of a record of kind k
---   payloadLength f m     the length of the payload of a record of family f with m edges
---   recordLength k m      the length of a record of kind k with m edges
+--   lengthVaries k        m does not fix the length of a record of kind k
+--   payloadLength f m     the length of the payload of a record of family f with m edges, where m fixes it
+--   recordLength k m      the length of a record of kind k with m edges, where m fixes it
 --   payload t f m bits labels   tree bits and labels in bytes, groups under the table t
+--   meshPayload t ts      node types in bytes, groups under the table t
 --   labelBase f           labels of family f are below it
 --   contourBits l d       the two bits of a dart d with the letter l
 --   headed k m rest       the bytes rest behind length, kind and m
@@ -15,7 +17,7 @@
 --   outsideBytes k p      the outside's bytes; none in a kind without them
 --   recordOf t k p        the record of plan p in kind k under the table t
 use Prim.Native.Nat.{ℕ, zero, suc, _+_, _-_, _*_, _/_, _%_}
-use mathlib.Core.Bool.{cond}
+use mathlib.Core.Bool.{Bool, cond}
 use mathlib.Core.List.{List, [], _∷_, _++_, map}
 use lib.Dec.{eqb}
 use lib.ListN.{length, drop}
@@ -23,6 +25,7 @@ use Rattle.model.specs.declared.Table.{Table}
 use Rattle.model.specs.Map.{Plan, edges, storesOutside, family}
 use Rattle.model.specs.Traversal.{Letter, down, up, first, second, visits, standardFace}
 use Rattle.model.specs.LabelledTree.{along, labels, treeBits}
+use Rattle.model.specs.Mesh.{types, typeBits, typeDigits}
 use Rattle.model.specs.Groups.{byteFor}
 
 -- `so-far` is the number that the digits before make
@@ -50,6 +53,10 @@ le16 n = n % 256 ∷ n / 256 % 256 ∷ []
 unfoldable pub headLength : ℕ → ℕ
 headLength k = cond (storesOutside k) 8 6
 
+-- document 02 (f), of kind 3: "The length varies"
+abbrev pub lengthVaries : ℕ → Bool
+lengthVaries k = eqb k 3
+
 unfoldable pub payloadLength : ℕ → ℕ → ℕ
 payloadLength f m = cond (eqb f 1) (bytesFor (3 * m) 8) (cond (eqb f 2) (bytesFor (2 * m) 8 + bytesFor m 5) (bytesFor m 2))
 
@@ -63,6 +70,13 @@ unfoldable pub payload : Table → ℕ → ℕ → List ℕ → List ℕ → Lis
 payload t f m bits labels =
     cond (eqb f 1) (pack 2 8 (bytesFor (3 * m) 8) (bits ++ labels))
     (pack 2 8 (bytesFor (2 * m) 8) bits ++ map (byteFor t) (pack 3 5 (bytesFor m 5) labels))
+
+-- document 02 (f): ".. in code A padded to a byte; then types 3, 4, 5 as digits 0, 1, 2 in groups of five"
+unfoldable pub meshPayload : Table → List ℕ → List ℕ
+meshPayload t ts =
+    let bits = typeBits ts in
+    let digits = typeDigits ts in
+    pack 2 8 (bytesFor (length bits) 8) bits ++ map (byteFor t) (pack 3 5 (bytesFor (length digits) 5) digits)
 
 -- "Kind 1: .. m label bits"; "Kind 2: .. labels .. (0, 1, star = 2)"
 unfoldable pub labelBase : ℕ → ℕ
@@ -82,7 +96,8 @@ headed k m rest = le16 (6 + length rest) ++ (le16 k ++ (le16 m ++ rest))
 unfoldable pub payloadOf : Table → ℕ → Plan → List ℕ
 payloadOf t f p =
     let m = edges (p .rotation) in
-    cond (eqb f 4) (pack 2 8 (bytesFor (4 * m) 8) (along contourBits (visits p))) (payload t f m (treeBits p) (labels p))
+    cond (eqb f 4) (pack 2 8 (bytesFor (4 * m) 8) (along contourBits (visits p)))
+    (cond (eqb f 3) (meshPayload t (types p)) (payload t f m (treeBits p) (labels p)))
 
 -- document 02 (e): "with two more bytes after m: the lowest standard dart of the outside area"; "A kind without these bytes ignores the outside in writing"
 unfoldable pub outsideBytes : ℕ → Plan → List ℕ

@@ -20,7 +20,7 @@ use lib.Dec.{eqb, ltb}
 use lib.ListN.{length, getD, take, drop}
 use Rattle.model.specs.Numbers.{tick, Refusal, firstRefusal, refuse}
 use Rattle.model.specs.Map.{isKind, edgeCountFits}
-use Rattle.model.specs.Record.{recordLength}
+use Rattle.model.specs.Record.{lengthVaries, recordLength}
 
 -- "All fields are little-endian"
 unfoldable pub word16 : List ℕ → ℕ → ℕ
@@ -32,14 +32,14 @@ kindOf r = word16 r 2
 abbrev pub edgesOf : List ℕ → ℕ
 edgesOf r = word16 r 4
 
--- 1. "The record has fewer than 6 bytes, or its length field isn't the number of bytes lent." 2. "The kind is not 1 or 2", by document 02 (c) nor 4, by (e) nor 101h, 102h or 104h.
--- 3. "in a record, m is 0 or above 4,096". 5. "The length is not the one for this kind and m."
+-- 1. "The record has fewer than 6 bytes, or its length field isn't the number of bytes lent." 2. "The kind is not 1 or 2", by document 02 (c) nor 4, by (e) nor 101h, 102h or 104h, by (f) nor 3.
+-- 3. "in a record, m is 0 or above 4,096". 5. "The length is not the one for this kind and m"; of kind 3, document 02 (f): "5 isn't given".
 unfoldable pub headRefusals : List ℕ → List Refusal
 headRefusals r =
     refuse 1 (ltb (length r) 6 || not (eqb (word16 r 0) (length r)))
     ∷ refuse 2 (not (isKind (kindOf r)))
     ∷ refuse 3 (not (edgeCountFits (edgesOf r)))
-    ∷ refuse 5 (not (eqb (length r) (recordLength (kindOf r) (edgesOf r))))
+    ∷ refuse 5 (not (lengthVaries (kindOf r)) && not (eqb (length r) (recordLength (kindOf r) (edgesOf r))))
     ∷ []
 
 unfoldable pub headRefusal : List ℕ → ℕ
