@@ -4,12 +4,14 @@
 --   built-fit    the built plan is fit for the kinds of the family that the word is valid for
 use Prim.Native.Nat.{ℕ, _<_}
 use mathlib.Core.Path.{_≡_, refl, sym, ap, subst, _∙_}
+use mathlib.Core.Logic.{_≢_}
 use mathlib.Core.Bool.{Bool, true, false, _&&_}
 use mathlib.Core.List.{List}
 use lib.Dec.{eqb}
+use borrow.Author.Tests.{ne-eqb}
 use lib.ListN.{length}
 use Rattle.model.specs.Numbers.{isPermutation}
-use Rattle.model.specs.Map.{darts, isKind, family, dartCountFits, connected, hasDeadEnd, takesLoops, degreeRefused, fit}
+use Rattle.model.specs.Map.{darts, isKind, family, dartCountFits, connected, hasDeadEnd, takesLoops, faceRefused, degreeRefused, fit}
 use Rattle.model.specs.Traversal.{Letter, word}
 use Rattle.model.proofs.Fitness.{parts-fit, count-positive, dart-outside, no-loop-refused}
 use Rattle.words.specs.Word.{bareLeaf, valid, rotationOf, planOf}
@@ -88,9 +90,13 @@ module _ (f : ℕ) (w : List Letter) (v : valid f w ≡ true) where
       go false e = refl
       go true e = dead-ends ∙ valid-plain f w v e
 
-  pub built-fit : (k : ℕ) → isKind k ≡ true → family k ≡ f → fit k (planOf w) ≡ true
+  triangles : f ≢ 3 → faceRefused f (rotationOf w) ≡ false
+  unfolding faceRefused
+  triangles other = rw (ne-eqb f 3 other)
+
+  pub built-fit : f ≢ 3 → (k : ℕ) → isKind k ≡ true → family k ≡ f → fit k (planOf w) ≡ true
   unfolding planOf
-  built-fit k kind of = parts-fit k (planOf w) (record {
+  built-fit other k kind of = parts-fit k (planOf w) (record {
     kind = kind;
     count = count;
     root = root;
@@ -99,5 +105,6 @@ module _ (f : ℕ) (w : List Letter) (v : valid f w ≡ true) where
     joined = joined;
     flat = bracketed-planar (planOf w) toured count entries bracketed;
     loops = rw of (no-loop-refused f (rotationOf w) (λ e. built-no-loop w brackets (strict e)));
+    triangles = rw of (triangles other);
     degrees = rw of degrees;
   })

@@ -31,7 +31,7 @@ use Rattle.packing.proofs.Groups.{clean-values}
 use Rattle.packing.proofs.Labelled.{labelled-family, labelled-strict}
 use Rattle.packing.proofs.Payload.{payload-length, Parts, payload-bits, payload-labels, payload-clean, payload-bytes, unpayload-parts, payload-unpayload}
 use Rattle.coding.specs.Payloads.{encodeLabelled, decodeLabelled}
-use Rattle.coding.proofs.FitPlans.{fit-toured, fit-bits, fit-labels}
+use Rattle.fit_plans.proofs.FitPlans.{fit-toured, fit-bits, fit-labels}
 
 module _ (f : ℕ) (has : hasLabels f ≡ true) where
   -- ---- from words to payloads
@@ -59,7 +59,7 @@ module _ (f : ℕ) (has : hasLabels f ≡ true) where
 
     pub labelled-values : Values f (length w / 2) (encodeLabelled f w)
     unfolding encodeLabelled
-    labelled-values = clean-values f half _ (payload-clean f half (wordBits false w) (wordLabels w) has parts)
+    labelled-values = clean-values f half _ has (payload-clean f half (wordBits false w) (wordLabels w) has parts)
 
     pub labelled-bytes : allBelow 256 (encodeLabelled f w) ≡ true
     unfolding encodeLabelled

@@ -7,7 +7,7 @@
 use Prim.Native.Nat.{ℕ, _*_, _/_}
 use native.Mathlib.Omega.{arith}
 use mathlib.Core.Path.{_≡_, refl, sym, ap, _∙_}
-use mathlib.Core.Bool.{true, false, false≢true}
+use mathlib.Core.Bool.{true, false≢true}
 use mathlib.Core.List.{List, []}
 use lib.ListN.{length}
 use Rattle.model.specs.Numbers.{elem, allBelow}
@@ -23,7 +23,7 @@ use Rattle.words.proofs.Validity.{valid-fits, valid-nested, valid-of}
 use Rattle.packing.specs.Letters.{lettersPayload, payloadLetters, lettersClean}
 use Rattle.packing.proofs.Letters.{letters-long, letters-back, letters-clean, letters-count, letters-again, contour-packed}
 use Rattle.coding.specs.Payloads.{decodeLetters}
-use Rattle.coding.proofs.FitPlans.{fit-toured}
+use Rattle.fit_plans.proofs.FitPlans.{fit-toured}
 
 -- ---- from words to payloads
 

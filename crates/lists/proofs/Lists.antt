@@ -16,7 +16,7 @@ use Rattle.renumbering.proofs.Connected.{at-most-one}
 use Rattle.lists.specs.Coder.{Coder}
 use Rattle.lists.proofs.Calls.{refused-exactly, accepted-where, accepted-stands, accepted-fit, answer-length, accepted-bytes, refused-bytes}
 use Rattle.lists.proofs.Split.{splits, framed-some}
-use Rattle.lists.proofs.Records.{record-length, record-framed, same-record, renumbered-record}
+use Rattle.lists.proofs.Records.{record-framed, same-record, renumbered-record}
 
 -- the table is one that loading gives, and every plan of the list is fit for its call's kind
 abbrev AllFit : Table → List Writing → Type 0
@@ -56,8 +56,7 @@ module _ (coders : (k : ℕ) → isKind k ≡ true → Coder k) (t : Table) wher
       → (bytesWritten c ≡ recordOf t (c .kind) (c .plan)) × (lengthOfWritten (c .answer) ≡ length (recordOf t (c .kind) (c .plan)))
   gives-record c h e =
       let a = accepted-where t c h e in
-      let n = record-length t (c .kind) (coder c (accepted-fit t c h a)) (c .plan) (accepted-fit t c h a) in
-      (accepted-bytes t c h a n, answer-length t c h a ∙ sym n)
+      (accepted-bytes t c h a, answer-length t c h a)
 
   laid-records : (cs : List Writing) → AllMeetContract t cs → laidOut cs ≡ records t (accepted cs)
   unfolding laidOut accepted records
@@ -66,8 +65,7 @@ module _ (coders : (k : ℕ) → isKind k ≡ true → Coder k) (t : Table) wher
     where
       go : (b : Bool) → isAccepted c ≡ b → laidOut cs ≡ records t (accepted cs)
           → bytesWritten c ++ laidOut cs ≡ records t (cond b (c ∷ accepted cs) (accepted cs))
-      go true a rest = ap₂ (λ (xs ys : List ℕ). xs ++ ys)
-          (accepted-bytes t c h a (record-length t (c .kind) (coder c (accepted-fit t c h a)) (c .plan) (accepted-fit t c h a))) rest
+      go true a rest = ap₂ (λ (xs ys : List ℕ). xs ++ ys) (accepted-bytes t c h a) rest
       go false a rest = ap₂ (λ (xs ys : List ℕ). xs ++ ys) (refused-bytes c a) rest
 
   -- ---- two lists of fit plans

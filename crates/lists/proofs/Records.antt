@@ -1,7 +1,7 @@
 -- Records of fit plans under a table t, by the laws of a coder. Where bytes are read, t is one that loading gives.
 --
---   record-sized          a fit plan's payload has the length for its family
---   record-length         its record has the length for its kind
+--   record-sized, record-short   a fit plan's payload has the length for its family, where m fixes that, and is not long
+--   record-length         its record has the length for its kind, where m fixes that
 --   record-kind, record-edges, record-passes, record-framed   its fields, that it passes 1, 2, 3 and 5, and that it begins with its length
 --   record-bytes          its entries are bytes
 --   record-decodes        its payload, undone, is decoded to its word
@@ -17,7 +17,7 @@
 --   given                 the plan that the word builds, with the outside that the bytes name
 --   decodes-has           bytes that decode and name a sound outside are the record of that plan
 --   decodes-edges, decodes-standard   it has as many edges as the head says, and is in standard numbers
-use Prim.Native.Nat.{ℕ, _*_, _/_, _<_}
+use Prim.Native.Nat.{ℕ, _*_, _/_, _≤_, _<_}
 use native.Mathlib.Omega.{arith}
 use mathlib.Core.Path.{_≡_, refl, sym, ap, ap₂, subst, _∙_}
 use mathlib.Core.Logic.{_↔_}
@@ -28,22 +28,22 @@ use Rattle.model.specs.declared.Table.{Table}
 use Rattle.model.specs.Numbers.{allBelow}
 use Rattle.model.specs.Map.{Plan, darts, edges, faceOf, storesOutside, family, fit}
 use Rattle.model.specs.Traversal.{Letter, standardRotation, standardFace, standardPlan}
-use Rattle.model.specs.Record.{le16, headLength, recordLength, headed, payloadOf, outsideBytes, recordOf}
+use Rattle.model.specs.Record.{le16, headLength, lengthVaries, recordLength, headed, payloadOf, outsideBytes, recordOf}
 use Rattle.model.specs.Shelf.{word16, kindOf, edgesOf, passes}
 use Rattle.model.specs.Calls.{tableRefused, HasRecord, outsideRead}
 use Rattle.model.specs.Renumbering.{Renumbering, Carries}
 use Rattle.model.proofs.Below.{below-drop}
 use Rattle.model.proofs.Fitness.{fit-parts, count-parts, outside-dart}
 use Rattle.model.proofs.Outside.{withOutside, fit-outside}
-use Rattle.words.specs.Word.{Found, found, none}
+use Rattle.words.specs.Word.{rooted, Found, found, none}
 use Rattle.words.proofs.Found.{none-found, found-same}
 use Rattle.packing.specs.Payload.{Sized, extraBytes, Behind}
 use Rattle.packing.specs.Groups.{relabelled, undone, Values}
-use Rattle.packing.proofs.Groups.{relabelled-sized, undone-sized, relabelled-bytes, undone-bytes, undone-relabelled, relabelled-undone}
+use Rattle.packing.proofs.Groups.{relabelled-sized, relabelled-length, undone-sized, relabelled-bytes, undone-bytes, undone-relabelled, relabelled-undone}
 use Rattle.packing.proofs.Headed.{headed-length, headed-payload, headed-outside, headed-field, headed-kind, headed-edges, headed-passes}
 use Rattle.packing.proofs.Headed.{extra-behind, extra-headed-bytes, passes-sized, passes-headed}
 use Rattle.renumbering.proofs.Faces.{standard-bound, standard-least, standard-root, standard-own, outside-through}
-use Rattle.lists.specs.Coder.{rooted, outsideOf, Coder}
+use Rattle.lists.specs.Coder.{outsideOf, Coder}
 use Rattle.lists.specs.Framed.{Framed}
 
 module _ (t : Table) (k : ℕ) (c : Coder k) where
@@ -81,11 +81,14 @@ module _ (t : Table) (k : ℕ) (c : Coder k) where
     pub record-sized : Sized (family k) m (payloadOf t (family k) p)
     record-sized = rw (c .written t p e) (relabelled-sized (family k) m vs (t .bytes) values-sized)
 
-    behind : Behind k m rest
-    behind = extra-behind k stored m (payloadOf t (family k) p) (fit-parts k p e .kind) record-sized
+    pub record-short : length (payloadOf t (family k) p) ≤ 2048
+    record-short = rw (c .written t p e, relabelled-length (family k) m vs (t .bytes)) (c .short (c .codes p) (c .proper p e))
 
-    pub record-length : length (recordOf t k p) ≡ recordLength k m
-    record-length = ap length record-is ∙ headed-length k m rest ∙ behind .long
+    behind : Behind k m rest
+    behind = extra-behind k stored m (payloadOf t (family k) p) (fit-parts k p e .kind) record-sized record-short
+
+    pub record-length : lengthVaries k ≡ false → length (recordOf t k p) ≡ recordLength k m
+    record-length v = ap length record-is ∙ headed-length k m rest ∙ behind .long v
 
     pub record-kind : kindOf (recordOf t k p) ≡ k
     record-kind = ap kindOf record-is ∙ headed-kind k m rest behind

@@ -1,9 +1,8 @@
 -- What is to be known of one kind of record: how its plans, their words and their payloads belong together.
 --
---   rooted rot            the plan with this rotation and root 0, where its outside is too
 --   outsideOf r           the number of the outside that the bytes r name; 0 in a kind without it
 --   Coder k               plans that are fit for kind k are coded by words, and the words by payloads of values, whatever the table
-use Prim.Native.Nat.{ℕ, _*_, _/_}
+use Prim.Native.Nat.{ℕ, _*_, _/_, _≤_}
 use mathlib.Core.Path.{_≡_}
 use mathlib.Core.Bool.{true, cond}
 use mathlib.Core.List.{List}
@@ -16,12 +15,9 @@ use Rattle.model.specs.Record.{payloadOf}
 use Rattle.model.specs.Shelf.{word16, kindOf}
 use Rattle.model.specs.Renumbering.{Renumbering}
 use Rattle.model.proofs.Outside.{withOutside}
-use Rattle.words.specs.Word.{Found, found}
+use Rattle.words.specs.Word.{rooted, Found, found}
 use Rattle.packing.specs.Payload.{Sized}
 use Rattle.packing.specs.Groups.{relabelled, Values}
-
-abbrev pub rooted : List ℕ → Plan
-rooted rot = record { rotation = rot; root = 0; outside = 0 }
 
 unfoldable pub outsideOf : List ℕ → ℕ
 outsideOf r = cond (storesOutside (kindOf r)) (word16 r 6) 0
@@ -46,6 +42,7 @@ pub record Coder (k : ℕ) : Type 1 where
   pub written : (t : Table) (p : Plan) → fit k p ≡ true
       → payloadOf t (family k) p ≡ relabelled (t .bytes) (family k) (edges (p .rotation)) (encode (codes p))
   pub sized : (w : List Letter) → Proper w → Sized (family k) (length w / 2) (encode w)
+  pub short : (w : List Letter) → Proper w → length (encode w) ≤ 2048
   pub values : (w : List Letter) → Proper w → Values (family k) (length w / 2) (encode w)
   pub bytes : (w : List Letter) → Proper w → allBelow 256 (encode w) ≡ true
   pub reads : (w : List Letter) → Proper w → decode (length w / 2) (encode w) ≡ found w

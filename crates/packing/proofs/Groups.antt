@@ -7,21 +7,22 @@
 --   undone-relabelled     undoing gives the values back
 --   relabelled-undone     bytes that are undone to values are theirs
 --   clean-values          the groups of a clean payload are values
---   values-length, values-at   the values of bytes, one by one
+--   values-length, values-at, values-drop   the values of bytes, one by one, and from a place on
 --   relabelled-other, relabelled-two   what is relabelled, by family
 --   undone-other          nothing is undone in a family without groups
---   undone-front, undone-back   in family 2, what stands before the groups, and the groups
-use Prim.Native.Nat.{ℕ, zero, suc, _+_, _*_, _<_}
-use native.Mathlib.Nat.{not-suc-le-zero, le-of-suc-le-suc}
+--   undone-front, undone-back   what stands before the groups, and the groups
+--   undone-codes          the codewords of a mesh stay
+use Prim.Native.Nat.{ℕ, zero, suc, _+_, _*_, _-_, _/_, _≤_, _<_}
+use native.Mathlib.Nat.{le-refl, not-suc-le-zero, le-of-suc-le-suc}
 use native.Mathlib.Omega.{arith}
 use mathlib.Core.Path.{_≡_, refl, sym, ap, ap₂, _∙_}
 use mathlib.Core.Logic.{_≢_}
-use mathlib.Core.Bool.{Bool, true, false, cond}
-use mathlib.Core.List.{List, [], _∷_, _++_, map}
+use mathlib.Core.Bool.{Bool, true, false}
+use mathlib.Core.List.{List, [], _∷_, _++_, map, append-nil}
 use lib.Dec.{eqb}
 use lib.ListN.{length, getD, take, drop, length-append, length-map, take-append-drop}
-use lib.Seq.{take-at, drop-at, length-take-le, take-append-le}
-use borrow.Author.Tests.{eqb-true, eq-eqb, ne-eqb}
+use lib.Seq.{take-all, drop-length, take-at, drop-at, length-take-le, take-append-le}
+use borrow.Author.Tests.{eqb-true, eqb-false, eq-eqb, ne-eqb}
 use Rattle.model.specs.declared.Table.{Table}
 use Rattle.model.specs.Numbers.{allBelow}
 use Rattle.model.specs.Groups.{byteFor}
@@ -32,8 +33,10 @@ use Rattle.model.proofs.Below.{below-cons, below-head, below-tail, below-append
 use Rattle.model.proofs.Tables.{byte-bound, value-bound, undone-byte, undone-value}
 use Rattle.packing.specs.Unpack.{bits}
 use Rattle.packing.specs.Payload.{hasLabels, Sized, valuePayload, payloadBits, payloadClean}
-use Rattle.packing.specs.Groups.{onGroups, relabelled, undone, valuesOf, Values}
-use Rattle.packing.proofs.Labelled.{labelled-cases}
+use Rattle.packing.specs.Types.{readCodes, codeBytes}
+use Rattle.packing.specs.Groups.{groupsFrom, onGroups, relabelled, undone, valuesOf, Values}
+use Rattle.packing.proofs.Labelled.{labelled-cases, labelled-not-three}
+use Rattle.packing.proofs.Codewords.{codeBytes-bound, readCodes-same, codeBytes-same}
 use Rattle.packing.proofs.Packed.{pack-length, length-unpack, unpack-append}
 
 -- ---- lists
@@ -64,6 +67,9 @@ map-back-low g h n k [] e l back = refl
 map-back-low g h n k (x ∷ xs) e l back = ap₂ (λ (y : ℕ) (ys : List ℕ). y ∷ ys)
     (back x (below-head n x xs e) (below-head k (g x) (map g xs) l)) (map-back-low g h n k xs (below-tail n x xs e) (below-tail k (g x) (map g xs) l) back)
 
+nothing-mapped : (g : ℕ → ℕ) (n : ℕ) (xs : List ℕ) → n ≡ length xs → take n xs ++ map g (drop n xs) ≡ xs
+nothing-mapped g n xs e = rw (e, drop-length xs) (append-nil (take (length xs) xs) ∙ take-all (length xs) xs (le-refl (length xs)))
+
 -- the tree bits stand in the bytes before the groups
 bits-in-front : (m : ℕ) (xs ys : List ℕ) → length xs ≡ bytesFor (2 * m) 8 → payloadBits m (xs ++ ys) ≡ take (2 * m) (bits xs)
 unfolding payloadBits bits
@@ -71,62 +77,89 @@ bits-in-front m xs ys l =
     let u = length-unpack 2 8 (length xs) xs in
     ap (take (2 * m)) (unpack-append 2 8 xs ys) ∙ take-append-le (2 * m) (bits xs) (bits ys) (omega arith)
 
+-- ---- where the groups begin
+
+module _ (f m : ℕ) (ps : List ℕ) where
+  pub groups-two : f ≡ 2 → groupsFrom f m ps ≡ bytesFor (2 * m) 8
+  unfolding groupsFrom
+  groups-two two = rw (eq-eqb f 2 two)
+
+  pub groups-three : f ≡ 3 → groupsFrom f m ps ≡ codeBytes m ps
+  unfolding groupsFrom
+  groups-three three = rw three
+
+  pub groups-none : f ≢ 2 → f ≢ 3 → groupsFrom f m ps ≡ length ps
+  unfolding groupsFrom
+  groups-none d e = rw (ne-eqb f 2 d, ne-eqb f 3 e)
+
+  by-groups : {P : Type 0} → (f ≡ 2 → P) → (f ≡ 3 → P) → (f ≢ 2 → f ≢ 3 → P) → P
+  by-groups {P} two three none = go (eqb f 2) (eqb f 3) refl refl
+    where
+      go : (b c : Bool) → eqb f 2 ≡ b → eqb f 3 ≡ c → P
+      go true c d e = two (eqb-true f 2 d)
+      go false true d e = three (eqb-true f 3 e)
+      go false false d e = none (eqb-false f 2 d) (eqb-false f 3 e)
+
+  -- the payload has the bytes before its groups
+  pub groups-bound : Sized f m ps → groupsFrom f m ps ≤ length ps
+  unfolding payloadLength
+  groups-bound s = by-groups
+      (λ two. let l = s .long (rw two) in let g = groups-two two in let z = rw two at l in omega arith)
+      (λ three. let b = codeBytes-bound m ps in let g = groups-three three in omega arith)
+      (λ d e. let g = groups-none d e in omega arith)
+
 -- ---- any function on the groups
 
--- by whether there are groups
-by-groups : (P : List ℕ → Type 0) (g : ℕ → ℕ) (f m : ℕ) (ps : List ℕ) → (f ≡ 2 → P (take (bytesFor (2 * m) 8) ps ++ map g (drop (bytesFor (2 * m) 8) ps)))
-    → P ps → P (onGroups g f m ps)
+pub onGroups-at : (g : ℕ → ℕ) (f m : ℕ) (ps : List ℕ) (n : ℕ) → groupsFrom f m ps ≡ n → onGroups g f m ps ≡ take n ps ++ map g (drop n ps)
 unfolding onGroups
-by-groups P g f m ps two other = go (eqb f 2) refl
-  where
-    go : (b : Bool) → eqb f 2 ≡ b → P (cond b (take (bytesFor (2 * m) 8) ps ++ map g (drop (bytesFor (2 * m) 8) ps)) ps)
-    go true e = two (eqb-true f 2 e)
-    go false e = other
+onGroups-at g f m ps n e = rw e
 
 module _ (g : ℕ → ℕ) (f m : ℕ) (ps : List ℕ) where
   abbrev n : ℕ
-  n = bytesFor (2 * m) 8
+  n = groupsFrom f m ps
 
   pub groups-length : length (onGroups g f m ps) ≡ length ps
-  groups-length = by-groups (λ (qs : List ℕ). length qs ≡ length ps) g f m ps
-      (λ two. length-append (take n ps) (map g (drop n ps)) ∙ ap (λ (l : ℕ). length (take n ps) + l) (length-map (drop n ps) g)
-      ∙ sym (length-append (take n ps) (drop n ps)) ∙ ap length (take-append-drop n ps)) refl
+  unfolding onGroups
+  groups-length = length-append (take n ps) (map g (drop n ps)) ∙ ap (λ (l : ℕ). length (take n ps) + l) (length-map (drop n ps) g)
+      ∙ sym (length-append (take n ps) (drop n ps)) ∙ ap length (take-append-drop n ps)
 
   pub groups-sized : Sized f m ps → Sized f m (onGroups g f m ps)
-  groups-sized s = record { is-family = s .is-family; some-edge = s .some-edge; few-edges = s .few-edges; long = groups-length ∙ s .long }
+  groups-sized s = record { is-family = s .is-family; some-edge = s .some-edge; few-edges = s .few-edges; long = λ v. groups-length ∙ s .long v }
 
   module _ (s : Sized f m ps) where
-    -- in family 2 the payload has the bytes of the tree bits
-    front-long : f ≡ 2 → length (take n ps) ≡ n
-    unfolding payloadLength
-    front-long two = let l = rw two at (s .long) in length-take-le n ps (omega arith)
+    front-long : length (take n ps) ≡ n
+    front-long = length-take-le n ps (groups-bound f m ps s)
 
     -- what the groups and the bytes before them then are
-    front-same : f ≡ 2 → take n (take n ps ++ map g (drop n ps)) ≡ take n ps
-    front-same two = take-at (take n ps) (map g (drop n ps)) n (front-long two)
-
-    groups-mapped : f ≡ 2 → drop n (take n ps ++ map g (drop n ps)) ≡ map g (drop n ps)
-    groups-mapped two = drop-at (take n ps) (map g (drop n ps)) n (front-long two)
-
-    -- they are those of the groups in family 2
-    pub groups-are : f ≡ 2 → drop n (onGroups g f m ps) ≡ map g (drop n ps)
+    pub groups-front : take n (onGroups g f m ps) ≡ take n ps
     unfolding onGroups
-    groups-are two = rw (eq-eqb f 2 two) (groups-mapped two)
+    groups-front = take-at (take n ps) (map g (drop n ps)) n front-long
 
-    pub groups-back : (h : ℕ → ℕ) → (f ≡ 2 → map h (map g (drop n ps)) ≡ drop n ps) → onGroups h f m (onGroups g f m ps) ≡ ps
+    pub groups-are : drop n (onGroups g f m ps) ≡ map g (drop n ps)
     unfolding onGroups
-    groups-back h back = go (eqb f 2) refl
-      where
-        go : (b : Bool) → eqb f 2 ≡ b → (let qs = cond b (take n ps ++ map g (drop n ps)) ps in cond b (take n qs ++ map h (drop n qs)) qs) ≡ ps
-        go true e =
-            let two = eqb-true f 2 e in
-            ap₂ (λ (xs ys : List ℕ). xs ++ ys) (front-same two) (ap (map h) (groups-mapped two) ∙ back two) ∙ take-append-drop n ps
-        go false e = refl
+    groups-are = drop-at (take n ps) (map g (drop n ps)) n front-long
 
-    pub groups-bits : payloadBits m (onGroups g f m ps) ≡ payloadBits m ps
-    groups-bits = by-groups (λ (qs : List ℕ). payloadBits m qs ≡ payloadBits m ps) g f m ps
-        (λ two. bits-in-front m (take n ps) (map g (drop n ps)) (front-long two) ∙ sym (bits-in-front m (take n ps) (drop n ps) (front-long two))
-        ∙ ap (payloadBits m) (take-append-drop n ps)) refl
+    pub groups-same : groupsFrom f m (onGroups g f m ps) ≡ groupsFrom f m ps
+    groups-same = by-groups f m ps
+        (λ two. groups-two f m (onGroups g f m ps) two ∙ sym (groups-two f m ps two))
+        (λ three. groups-three f m (onGroups g f m ps) three
+        ∙ codeBytes-same m ps (onGroups g f m ps) groups-length (rw (← groups-three f m ps three) groups-front) ∙ sym (groups-three f m ps three))
+        (λ d e. groups-none f m (onGroups g f m ps) d e ∙ groups-length ∙ sym (groups-none f m ps d e))
+
+    again : (h : ℕ → ℕ) → onGroups h f m (onGroups g f m ps) ≡ take n (onGroups g f m ps) ++ map h (drop n (onGroups g f m ps))
+    again h = onGroups-at h f m (onGroups g f m ps) n groups-same
+
+    pub groups-back : (h : ℕ → ℕ) → map h (map g (drop n ps)) ≡ drop n ps → onGroups h f m (onGroups g f m ps) ≡ ps
+    groups-back h back =
+        again h ∙ ap₂ (λ (xs ys : List ℕ). xs ++ ys) groups-front (ap (map h) groups-are ∙ back) ∙ take-append-drop n ps
+
+    pub groups-bits : hasLabels f ≡ true → payloadBits m (onGroups g f m ps) ≡ payloadBits m ps
+    unfolding onGroups
+    groups-bits has = by-groups f m ps
+        (λ two. let k = front-long ∙ groups-two f m ps two in
+        bits-in-front m (take n ps) (map g (drop n ps)) k ∙ sym (bits-in-front m (take n ps) (drop n ps) k) ∙ ap (payloadBits m) (take-append-drop n ps))
+        (λ three. absurd (labelled-not-three f has three))
+        (λ d e. ap (payloadBits m) (nothing-mapped g n ps (groups-none f m ps d e)))
 
 -- ---- bytes undone
 
@@ -139,78 +172,95 @@ module _ (inv bs : List ℕ) where
   unfolding valuesOf
   values-at k h = map-at (λ b. getD inv b 0) bs k h
 
-  pub undone-other : (f m : ℕ) → f ≢ 2 → undone inv f m bs ≡ bs
+  pub values-drop : (n : ℕ) → valuesOf inv (drop n bs) ≡ drop n (valuesOf inv bs)
+  unfolding valuesOf
+  values-drop n = map-drop (λ b. getD inv b 0) n bs
+
+  pub undone-other : (f m : ℕ) → f ≢ 2 → f ≢ 3 → undone inv f m bs ≡ bs
   unfolding undone onGroups
-  undone-other f m d = rw (ne-eqb f 2 d)
+  undone-other f m d e = nothing-mapped (λ b. getD inv b 0) (groupsFrom f m bs) bs (groups-none f m bs d e)
 
-  module _ (m : ℕ) (s : Sized 2 m bs) where
-    pub undone-front : take (bytesFor (2 * m) 8) (undone inv 2 m bs) ≡ take (bytesFor (2 * m) 8) bs
-    unfolding undone onGroups
-    undone-front = front-same (λ b. getD inv b 0) 2 m bs s refl
+  -- the codewords of a mesh stay
+  pub undone-codes : (m : ℕ) → readCodes (2 * (m / 3) - 1) (bits (undone inv 3 m bs)) ≡ readCodes (2 * (m / 3) - 1) (bits bs)
+  unfolding undone onGroups groupsFrom
+  undone-codes m = readCodes-same m bs (undone inv 3 m bs) (groups-length (λ b. getD inv b 0) 3 m bs)
+      (take-at (take (codeBytes m bs) bs) _ (codeBytes m bs) (length-take-le (codeBytes m bs) bs (codeBytes-bound m bs)))
 
-    pub undone-back : drop (bytesFor (2 * m) 8) (undone inv 2 m bs) ≡ drop (bytesFor (2 * m) 8) (valuesOf inv bs)
+  module _ (f m : ℕ) (s : Sized f m bs) where
+    pub undone-front : take (groupsFrom f m bs) (undone inv f m bs) ≡ take (groupsFrom f m bs) bs
+    unfolding undone
+    undone-front = groups-front (λ b. getD inv b 0) f m bs s
+
+    pub undone-back : drop (groupsFrom f m bs) (undone inv f m bs) ≡ drop (groupsFrom f m bs) (valuesOf inv bs)
     unfolding undone valuesOf
-    undone-back = groups-are (λ b. getD inv b 0) 2 m bs s refl ∙ map-drop (λ b. getD inv b 0) (bytesFor (2 * m) 8) bs
+    undone-back = groups-are (λ b. getD inv b 0) f m bs s ∙ map-drop (λ b. getD inv b 0) (groupsFrom f m bs) bs
 
 -- ---- under a table
 
 pub payload-relabelled : (t : Table) (f m : ℕ) (bs ls : List ℕ) → hasLabels f ≡ true → payload t f m bs ls ≡ relabelled (t .bytes) f m (valuePayload f m bs ls)
-unfolding payload valuePayload byteFor relabelled onGroups
+unfolding payload valuePayload byteFor relabelled onGroups groupsFrom
 payload-relabelled t f m bs ls =
     let front = pack 2 8 (bytesFor (2 * m) 8) bs in
     let back = pack 3 5 (bytesFor m 5) ls in
     let l = pack-length 2 8 (bytesFor (2 * m) 8) bs in
-    labelled-cases (λ (x : ℕ). payload t x m bs ls ≡ relabelled (t .bytes) x m (valuePayload x m bs ls)) refl
+    labelled-cases (λ (x : ℕ). payload t x m bs ls ≡ relabelled (t .bytes) x m (valuePayload x m bs ls))
+    (sym (nothing-mapped (byteFor t) _ (pack 2 8 (bytesFor (3 * m) 8) (bs ++ ls)) refl))
     (rw (take-at front back (bytesFor (2 * m) 8) l, drop-at front back (bytesFor (2 * m) 8) l)) f
 
 module _ (f m : ℕ) (ps : List ℕ) where
-  pub relabelled-other : (bs : List ℕ) → f ≢ 2 → relabelled bs f m ps ≡ ps
+  pub relabelled-other : (bs : List ℕ) → f ≢ 2 → f ≢ 3 → relabelled bs f m ps ≡ ps
   unfolding relabelled onGroups
-  relabelled-other bs d = rw (ne-eqb f 2 d)
+  relabelled-other bs d e = nothing-mapped (λ v. getD bs v 0) (groupsFrom f m ps) ps (groups-none f m ps d e)
 
-  pub relabelled-two : (bs : List ℕ) → f ≡ 2
-      → relabelled bs f m ps ≡ take (bytesFor (2 * m) 8) ps ++ map (λ v. getD bs v 0) (drop (bytesFor (2 * m) 8) ps)
-  unfolding relabelled onGroups
-  relabelled-two bs two = rw (eq-eqb f 2 two)
+  pub relabelled-at : (bs : List ℕ) (n : ℕ) → groupsFrom f m ps ≡ n → relabelled bs f m ps ≡ take n ps ++ map (λ v. getD bs v 0) (drop n ps)
+  unfolding relabelled
+  relabelled-at bs n e = onGroups-at (λ v. getD bs v 0) f m ps n e
 
   pub relabelled-sized : (bs : List ℕ) → Sized f m ps → Sized f m (relabelled bs f m ps)
   unfolding relabelled
   relabelled-sized bs = groups-sized (λ v. getD bs v 0) f m ps
 
+  pub relabelled-length : (bs : List ℕ) → length (relabelled bs f m ps) ≡ length ps
+  unfolding relabelled
+  relabelled-length bs = groups-length (λ v. getD bs v 0) f m ps
+
   pub undone-sized : (inv : List ℕ) → Sized f m ps → Sized f m (undone inv f m ps)
   unfolding undone
   undone-sized inv = groups-sized (λ b. getD inv b 0) f m ps
 
-  pub undone-bits : (inv : List ℕ) → Sized f m ps → payloadBits m (undone inv f m ps) ≡ payloadBits m ps
+  pub undone-bits : (inv : List ℕ) → Sized f m ps → hasLabels f ≡ true → payloadBits m (undone inv f m ps) ≡ payloadBits m ps
   unfolding undone
   undone-bits inv = groups-bits (λ b. getD inv b 0) f m ps
 
-  pub clean-values : payloadClean f m ps ≡ true → Values f m ps
-  unfolding payloadClean
-  clean-values e two =
-      let rest = and-right (allBelow 1 (drop (2 * m) (bits (take (bytesFor (2 * m) 8) ps)))) _ (rw two at e) in
-      and-left (allBelow 243 (drop (bytesFor (2 * m) 8) ps)) _ rest
+  pub clean-values : hasLabels f ≡ true → payloadClean f m ps ≡ true → Values f m ps
+  unfolding payloadClean groupsFrom allBelow
+  clean-values = labelled-cases (λ (x : ℕ). payloadClean x m ps ≡ true → allBelow 243 (drop (groupsFrom x m ps) ps) ≡ true)
+      (λ e. rw (drop-length ps))
+      (λ e. let rest = and-right (allBelow 1 (drop (2 * m) (bits (take (bytesFor (2 * m) 8) ps)))) _ e in
+      and-left (allBelow 243 (drop (bytesFor (2 * m) 8) ps)) _ rest) f
 
   module _ (t : Table) (stands : tableRefused t ≡ false) (s : Sized f m ps) where
+    abbrev from : ℕ
+    from = groupsFrom f m ps
+
     pub relabelled-bytes : allBelow 256 ps ≡ true → Values f m ps → allBelow 256 (relabelled (t .bytes) f m ps) ≡ true
-    unfolding relabelled byteFor
-    relabelled-bytes e low = by-groups (λ (qs : List ℕ). allBelow 256 qs ≡ true) (byteFor t) f m ps
-        (λ two. below-append 256 _ _ (below-take 256 (bytesFor (2 * m) 8) ps e)
-        (map-below (byteFor t) 243 256 (drop (bytesFor (2 * m) 8) ps) (low two) (byte-bound t stands))) e
+    unfolding relabelled onGroups byteFor
+    relabelled-bytes e low =
+        below-append 256 _ _ (below-take 256 from ps e) (map-below (byteFor t) 243 256 (drop from ps) low (byte-bound t stands))
 
     pub undone-bytes : allBelow 256 ps ≡ true → allBelow 256 (undone (t .inverse) f m ps) ≡ true
-    unfolding undone
-    undone-bytes e = by-groups (λ (qs : List ℕ). allBelow 256 qs ≡ true) (λ b. getD (t .inverse) b 0) f m ps
-        (λ two. below-append 256 _ _ (below-take 256 (bytesFor (2 * m) 8) ps e)
-        (map-below (λ b. getD (t .inverse) b 0) 256 256 (drop (bytesFor (2 * m) 8) ps) (below-drop 256 (bytesFor (2 * m) 8) ps e) (value-bound t stands))) e
+    unfolding undone onGroups
+    undone-bytes e = below-append 256 _ _ (below-take 256 from ps e)
+        (map-below (λ b. getD (t .inverse) b 0) 256 256 (drop from ps) (below-drop 256 from ps e) (value-bound t stands))
 
     pub undone-relabelled : Values f m ps → undone (t .inverse) f m (relabelled (t .bytes) f m ps) ≡ ps
     unfolding relabelled undone byteFor
     undone-relabelled low = groups-back (byteFor t) f m ps s (λ b. getD (t .inverse) b 0)
-        (λ two. map-back (byteFor t) (λ b. getD (t .inverse) b 0) 243 (drop (bytesFor (2 * m) 8) ps) (low two) (undone-byte t stands))
+        (map-back (byteFor t) (λ b. getD (t .inverse) b 0) 243 (drop from ps) low (undone-byte t stands))
 
     pub relabelled-undone : allBelow 256 ps ≡ true → Values f m (undone (t .inverse) f m ps) → relabelled (t .bytes) f m (undone (t .inverse) f m ps) ≡ ps
     unfolding relabelled undone byteFor
     relabelled-undone e low = groups-back (λ b. getD (t .inverse) b 0) f m ps s (byteFor t)
-        (λ two. map-back-low (λ b. getD (t .inverse) b 0) (byteFor t) 256 243 (drop (bytesFor (2 * m) 8) ps) (below-drop 256 (bytesFor (2 * m) 8) ps e)
-        (ap (allBelow 243) (sym (groups-are (λ b. getD (t .inverse) b 0) f m ps s two)) ∙ low two) (undone-value t stands))
+        (map-back-low (λ b. getD (t .inverse) b 0) (byteFor t) 256 243 (drop from ps) (below-drop 256 from ps e)
+        (ap (allBelow 243) (sym (groups-are (λ b. getD (t .inverse) b 0) f m ps s)
+        ∙ ap (λ (k : ℕ). drop k (undone (t .inverse) f m ps)) (sym (groups-same (λ b. getD (t .inverse) b 0) f m ps s))) ∙ low) (undone-value t stands))

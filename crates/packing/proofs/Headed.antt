@@ -11,7 +11,7 @@ use Prim.Native.Nat.{ℕ, _+_, _≤_, _<_}
 use native.Mathlib.Nat.{add-zero}
 use native.Mathlib.Omega.{arith}
 use native.Mathlib.Numerals.{add-one}
-use mathlib.Core.Path.{_≡_, refl, _∙_}
+use mathlib.Core.Path.{_≡_, refl, sym, _∙_}
 use mathlib.Core.Bool.{Bool, true, false, cond}
 use mathlib.Core.List.{List, [], _∷_, _++_}
 use lib.ListN.{length, drop, length-drop, length-append}
@@ -23,7 +23,7 @@ use Rattle.model.specs.Record.{le16, headLength, payloadLength, recordLength, h
 use Rattle.model.specs.Shelf.{word16, kindOf, edgesOf, passes}
 use Rattle.model.proofs.Below.{below-append, below-drop, below-head, below-tail}
 use Rattle.packing.specs.Payload.{Sized, extraBytes, Behind}
-use Rattle.model.proofs.Heads.{le16-word16, le16-bytes, kind-family, kind-small, recordLength-range, Passes, passes-facts, facts-passes}
+use Rattle.model.proofs.Heads.{le16-word16, le16-bytes, kind-family, family-varies, stores-fixed, kind-small, headLength-range, Passes, passes-facts, facts-passes}
 
 module _ (k m : ℕ) (ps : List ℕ) where
   pub headed-length : length (headed k m ps) ≡ 6 + length ps
@@ -36,12 +36,9 @@ module _ (k m : ℕ) (ps : List ℕ) where
       (below-append 256 (le16 k) _ (le16-bytes _) (below-append 256 (le16 m) ps (le16-bytes _) e))
 
 module _ (k m : ℕ) (ps : List ℕ) (s : Behind k m ps) where
-  range : (7 ≤ 6 + length ps) × (6 + length ps ≤ 2056)
-  range = let r = recordLength-range k m (s .some-edge) (s .few-edges) in let l = s .long in (omega arith, omega arith)
-
   pub headed-field : word16 (headed k m ps) 0 ≡ length (headed k m ps)
   unfolding headed le16 word16
-  headed-field = let r = range in omega arith
+  headed-field = let h = s .short in omega arith
 
   pub headed-kind : kindOf (headed k m ps) ≡ k
   unfolding headed le16 word16
@@ -64,7 +61,7 @@ module _ (k m : ℕ) (ps : List ℕ) (s : Behind k m ps) where
         kind = rw headed-kind (s .kind);
         some-edge = omega arith;
         few-edges = omega arith;
-        right-length = l ∙ s .long ∙ rw (headed-kind, headed-edges);
+        right-length = λ v. l ∙ s .long (rw headed-kind at v) ∙ rw (headed-kind, headed-edges);
       }))
 
 -- ---- the outside's bytes
@@ -87,13 +84,19 @@ module _ (k x : ℕ) where
       go false = refl
 
   module _ (m : ℕ) (ps : List ℕ) where
-    pub extra-behind : isKind k ≡ true → Sized (family k) m ps → Behind k m (extraBytes k x ++ ps)
+    pub extra-behind : isKind k ≡ true → Sized (family k) m ps → length ps ≤ 2048 → Behind k m (extraBytes k x ++ ps)
     unfolding recordLength
-    extra-behind kind s =
+    extra-behind kind s short =
         let e = extra-length in
         let a = length-append (extraBytes k x) ps in
-        let l = s .long in
-        record { kind = kind; some-edge = s .some-edge; few-edges = s .few-edges; long = omega arith }
+        let h = headLength-range k in
+        record {
+          kind = kind;
+          some-edge = s .some-edge;
+          few-edges = s .few-edges;
+          short = omega arith;
+          long = λ v. let l = s .long (family-varies k kind ∙ v) in omega arith;
+        }
 
     pub extra-headed-bytes : allBelow 256 ps ≡ true → allBelow 256 (headed k m (extraBytes k x ++ ps)) ≡ true
     extra-headed-bytes e = headed-bytes k m (extraBytes k x ++ ps) (below-append 256 (extraBytes k x) ps extra-bytes e)
@@ -141,14 +144,19 @@ module _ (r : List ℕ) (pass : passes r ≡ true) where
   -- a kind that stores the outside has eight bytes before the payload
   head-room : storesOutside (kindOf r) ≡ true → 8 ≤ length r
   unfolding recordLength headLength
-  head-room t = let l = facts .right-length in let z : recordLength (kindOf r) (edgesOf r) ≡ 8 + payloadLength (family (kindOf r)) (edgesOf r) = rw t in omega arith
+  head-room t = let l = facts .right-length (stores-fixed (kindOf r) t) in let z : recordLength (kindOf r) (edgesOf r) ≡ 8 + payloadLength (family (kindOf r)) (edgesOf r) = rw t in omega arith
 
   pub passes-sized : Sized (family (kindOf r)) (edgesOf r) (drop (headLength (kindOf r)) r)
   unfolding recordLength
   passes-sized =
       let d = length-drop (headLength (kindOf r)) r in
-      let l = facts .right-length in
-      record { is-family = kind-family (kindOf r) (facts .kind); some-edge = facts .some-edge; few-edges = facts .few-edges; long = omega arith }
+      let same = family-varies (kindOf r) (facts .kind) in
+      record {
+        is-family = kind-family (kindOf r) (facts .kind);
+        some-edge = facts .some-edge;
+        few-edges = facts .few-edges;
+        long = λ v. let l = facts .right-length (sym same ∙ v) in omega arith;
+      }
 
   -- what is behind m
   rest-is : allBelow 256 r ≡ true → extraBytes (kindOf r) (word16 r 6) ++ drop (headLength (kindOf r)) r ≡ drop 6 r

@@ -3,7 +3,11 @@ pub mod Packed
 pub mod Place
 pub mod Labelled
 pub mod Payload
+pub mod Types
+pub mod TypesPayload
+pub mod Codewords
 pub mod Groups
 pub mod Letters
 pub mod Headed
 pub mod Examples
+pub mod TypesExamples

@@ -9,6 +9,7 @@
 --   pack-unpack                   the numbers come back
 --   pack-take                     numbers whose digits past l are 0 are packed from l digits
 --   unpack-packed, blank-past, pack-front   the same where the number of numbers is a list's length
+--   length-bits, bits-below, bits-append, bits-take   eight bits of each byte, each below 2, part by part, and of the first bytes
 use Prim.Native.Nat.{ℕ, zero, suc, _+_, _-_, _*_, _^_, _≤_, _<_}
 use native.Mathlib.Nat.{suc-inj, suc-ne-zero, add-comm, zero-mul, suc-mul, zero-sub, sub-zero, suc-sub-suc, add-sub-of-le}
 use native.Mathlib.Omega.{arith}
@@ -16,11 +17,11 @@ use mathlib.Core.Path.{_≡_, refl, sym, ap, _∙_}
 use mathlib.Core.Bool.{true}
 use mathlib.Core.List.{List, [], _∷_, _++_, append-assoc}
 use lib.ListN.{length, getD, take, drop, replicate, length-append, length-drop, length-replicate, take-append-drop}
-use lib.Seq.{drop-nil, drop-drop, drop-at}
+use lib.Seq.{drop-nil, drop-drop, take-at, drop-at, length-take-le}
 use Rattle.model.specs.Numbers.{allBelow}
 use Rattle.model.specs.Record.{digits, pack}
 use Rattle.model.proofs.Below.{below-cons, below-head, below-tail, below-append, below-drop, below-replicate, blank-zeros, zeros-blank}
-use Rattle.packing.specs.Unpack.{digitsOf, unpack}
+use Rattle.packing.specs.Unpack.{digitsOf, unpack, bits}
 use Rattle.packing.specs.Payload.{blankFrom}
 use Rattle.packing.proofs.Digits.{digits-below, digits-pad, digits-append, length-digitsOf, digitsOf-below, digitsOf-digits, digits-digitsOf}
 
@@ -138,3 +139,23 @@ module _ (b w : ℕ) (h : 0 < b) where
   pub pack-front : (n l : ℕ) (xs : List ℕ) → allBelow (b ^ w) xs ≡ true → length xs ≡ n → blankFrom l (unpack b w (length xs) xs) ≡ true
       → pack b w n (take l (unpack b w (length xs) xs)) ≡ xs
   pack-front n l xs e q z = rw q (pack-take b w h n l xs e q (rw q at z))
+
+-- ---- bits of bytes
+
+pub length-bits : (s : List ℕ) → length (bits s) ≡ 8 * length s
+unfolding bits
+length-bits s = let e = length-unpack 2 8 (length s) s in omega arith
+
+pub bits-below : (s : List ℕ) → allBelow 2 (bits s) ≡ true
+unfolding bits
+bits-below s = unpack-below 2 8 (omega arith) (length s) s
+
+pub bits-append : (s t : List ℕ) → bits (s ++ t) ≡ bits s ++ bits t
+unfolding bits
+bits-append s t = unpack-append 2 8 s t
+
+pub bits-take : (n : ℕ) (s : List ℕ) → n ≤ length s → take (8 * n) (bits s) ≡ bits (take n s)
+bits-take n s h =
+    let e = length-bits (take n s) in let l = length-take-le n s h in
+    ap (λ (r : List ℕ). take (8 * n) (bits r)) (sym (take-append-drop n s)) ∙ ap (take (8 * n)) (bits-append (take n s) (drop n s))
+    ∙ take-at (bits (take n s)) (bits (drop n s)) (8 * n) (omega arith)

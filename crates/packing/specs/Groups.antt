@@ -1,6 +1,7 @@
 -- The groups of a payload, its value or its byte for each: how a table comes in. All else of a payload knows values only.
 --
---   onGroups g f m ps     the payload ps of family f with m edges, and g applied to each byte that stands for a group
+--   groupsFrom f m ps     where the groups of the payload ps of family f with m edges begin; at its end where it has none
+--   onGroups g f m ps     the payload, and g applied to each byte that stands for a group
 --   relabelled bs f m ps  values to bytes, by the bytes of a table
 --   undone inv f m ps     bytes to values, by an inverse
 --   valuesOf inv bs       the values of bytes that all stand for groups
@@ -10,12 +11,17 @@ use mathlib.Core.Path.{_≡_}
 use mathlib.Core.Bool.{true, cond}
 use mathlib.Core.List.{List, _++_, map}
 use lib.Dec.{eqb}
-use lib.ListN.{getD, take, drop}
+use lib.ListN.{length, getD, take, drop}
 use Rattle.model.specs.Numbers.{allBelow}
 use Rattle.model.specs.Record.{bytesFor}
+use Rattle.packing.specs.Types.{codeBytes}
+
+-- behind the tree bits, or behind the codewords
+unfoldable pub groupsFrom : ℕ → ℕ → List ℕ → ℕ
+groupsFrom f m ps = cond (eqb f 2) (bytesFor (2 * m) 8) (cond (eqb f 3) (codeBytes m ps) (length ps))
 
 unfoldable pub onGroups : (ℕ → ℕ) → ℕ → ℕ → List ℕ → List ℕ
-onGroups g f m ps = let n = bytesFor (2 * m) 8 in cond (eqb f 2) (take n ps ++ map g (drop n ps)) ps
+onGroups g f m ps = let n = groupsFrom f m ps in take n ps ++ map g (drop n ps)
 
 unfoldable pub relabelled : List ℕ → ℕ → ℕ → List ℕ → List ℕ
 relabelled bs = onGroups (λ v. getD bs v 0)
@@ -27,4 +33,4 @@ unfoldable pub valuesOf : List ℕ → List ℕ → List ℕ
 valuesOf inv bs = map (λ b. getD inv b 0) bs
 
 abbrev pub Values : ℕ → ℕ → List ℕ → Type 0
-Values f m ps = f ≡ 2 → allBelow 243 (drop (bytesFor (2 * m) 8) ps) ≡ true
+Values f m ps = allBelow 243 (drop (groupsFrom f m ps) ps) ≡ true

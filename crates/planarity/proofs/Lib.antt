@@ -1,4 +1,4 @@
-mod Touring
+pub mod Touring
 mod Diagrams
 pub mod Vertices
 pub mod Planar

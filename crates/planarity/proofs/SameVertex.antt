@@ -2,6 +2,7 @@
 --
 --   same-vertex        positions at one vertex have one entry
 --   same-entry         positions with one entry lie at one vertex
+--   entered-le         a vertex is entered no later than it is met
 --   second-lower       a second lies at a vertex entered no later than that of its first
 --   second-descends    and entered before it, if the edge is no loop
 use Prim.Native.Nat.{ℕ, _≤_, _<_}
@@ -56,7 +57,7 @@ module _ (p : Plan) (t : Toured p) (fits : dartCountFits (darts p) ≡ true) (pe
   abbrev open-trees : ℕ → List ℕ
   open-trees = treeStack (letterOf p)
 
-  entered-le : (i : ℕ) → i ≤ darts p → enteredAt p i ≤ i
+  pub entered-le : (i : ℕ) → i ≤ darts p → enteredAt p i ≤ i
   unfolding enteredAt
   entered-le i h = go (open-trees i) refl
     where

@@ -1,6 +1,7 @@
 -- A renumbering carries fitness. Assumes nothing.
 --
 --   iso-loop, iso-dead-end   an isomorphism makes no loop, and no dead end if it sends root to root
+--   iso-faces             nor a face that is no triangle
 --   iso-connected         a map that a connected map is carried to is connected
 --   iso-characteristic, iso-planar   it has the same characteristic, so it is planar if the other is
 --   carries-fit           a plan that a fit plan is renumbered to is fit, if its outside is a dart where it is stored
@@ -8,17 +9,18 @@ use Prim.Native.Nat.{ℕ, _/_, _%_, _<_}
 use native.Mathlib.Omega.{arith}
 use mathlib.Core.Path.{_≡_, refl, sym, ap, ap₂, subst, _∙_}
 use mathlib.Core.Bool.{Bool, true, false, not, _&&_}
+use mathlib.Core.Logic.{inl, inr}
 use mathlib.Core.List.{List}
 use lib.Dec.{eqb}
 use lib.IntN.{ℤ, pos, _+ℤ_, _-ℤ_}
 use lib.ListN.{length, getD}
 use Rattle.model.specs.Numbers.{some, cycles, isPermutation}
 use Rattle.model.specs.Map.{Plan, darts, opposite, next, vertexOf, faceNext, edges, vertices, faces, degreeOne}
-use Rattle.model.specs.Map.{connected, characteristic, planar, hasLoop, hasDeadEnd, family, outsideRefused, degreeRefused, fit}
+use Rattle.model.specs.Map.{connected, characteristic, planar, hasLoop, hasDeadEnd, isTriangle, hasOtherFace, family, outsideRefused, faceRefused, degreeRefused, fit}
 use Rattle.model.specs.Renumbering.{Renumbering}
 use Rattle.model.proofs.Booleans.{some-no, no-some}
 use Rattle.model.proofs.Fitness.{count-even, fit-parts, parts-fit, loopless, no-loop-refused}
-use Rattle.model.proofs.Opposite.{opposite-bound}
+use Rattle.model.proofs.Opposite.{opposite-bound, opposite-edge, same-edge}
 use Rattle.orbits.specs.Permutation.{Perm}
 use Rattle.orbits.proofs.Transversal.{cycles-conj}
 use Rattle.orbits.proofs.Maps.{next-perm, face-perm}
@@ -69,6 +71,44 @@ module _ {rot rot′ f : List ℕ} (two : length rot % 2 ≡ 0) (perm : isPermut
       ap (λ (x : ℕ). eqb (vertexOf rot′ (getD f d 0)) (vertexOf rot′ x)) (sym e)
       ∙ eqb-both (vertexOf rot d) (vertexOf rot r) (vertexOf rot′ (getD f d 0)) (vertexOf rot′ (getD f r 0)) (same .0) (same .1)))
 
+  -- darts have one edge exactly when their partners have
+  iso-edge : (d e : ℕ) → d < length rot → e < length rot → eqb (getD f d 0 / 2) (getD f e 0 / 2) ≡ eqb (d / 2) (e / 2)
+  iso-edge d e h k = eqb-both (d / 2) (e / 2) (getD f d 0 / 2) (getD f e 0 / 2) on back
+    where
+      on : d / 2 ≡ e / 2 → getD f d 0 / 2 ≡ getD f e 0 / 2
+      on q = elim (same-edge d e q) [
+        | inl z ↦ ap (λ (x : ℕ). getD f x 0 / 2) z
+        | inr z ↦ ap (λ (x : ℕ). getD f x 0 / 2) z ∙ ap (λ (x : ℕ). x / 2) (iso .opposites e k) ∙ opposite-edge (getD f e 0)
+      ]
+
+      back : getD f d 0 / 2 ≡ getD f e 0 / 2 → d / 2 ≡ e / 2
+      back q = elim (same-edge (getD f d 0) (getD f e 0) q) [
+        | inl z ↦ ap (λ (x : ℕ). x / 2) (image-inj iso d e h k z)
+        | inr z ↦ ap (λ (x : ℕ). x / 2) (image-inj iso d (opposite e) h (opposite-bound (length rot) e two k) (z ∙ sym (iso .opposites e k))) ∙ opposite-edge e
+      ]
+
+  iso-triangle : (d : ℕ) → d < length rot → isTriangle rot′ (getD f d 0) ≡ isTriangle rot d
+  unfolding isTriangle
+  iso-triangle d h =
+      let e = faceNext rot d in
+      let g = faceNext rot e in
+      let bound = face-perm rot perm two .bound in
+      let k = bound d h in
+      let l = bound e k in
+      rw (
+        ← iso-step two iso d h,
+        ← iso-step two iso e k,
+        ← iso-step two iso g l,
+        iso-edge d e h k,
+        iso-edge e g k l,
+        iso-edge g d l h,
+        eqb-both (faceNext rot g) d (getD f (faceNext rot g) 0) (getD f d 0) (ap (of-list f)) (image-inj iso (faceNext rot g) d (bound g l) h),
+      )
+
+  pub iso-faces : hasOtherFace rot ≡ false → hasOtherFace rot′ ≡ false
+  unfolding hasOtherFace
+  iso-faces = iso-some (λ d. not (isTriangle rot d)) (λ d. not (isTriangle rot′ d)) (λ d h. ap not (iso-triangle d h))
+
   pub iso-connected : 0 < length rot → connected rot ≡ true → connected rot′ ≡ true
   iso-connected some-dart e =
       reached-connected rot′ (subst (λ (n : ℕ). n % 2 ≡ 0) (iso .same-darts) two) (iso-permutation two perm iso) (from-partner (Reached rot′) (
@@ -109,6 +149,14 @@ degree-carried f p q on = go (eqb f 1)
     go true e = on e
     go false e = refl
 
+faces-carried : (f : ℕ) (rot rot′ : List ℕ) → (hasOtherFace rot ≡ false → hasOtherFace rot′ ≡ false) → faceRefused f rot ≡ false → faceRefused f rot′ ≡ false
+unfolding faceRefused
+faces-carried f rot rot′ on = go (eqb f 3)
+  where
+    go : (b : Bool) → (b && hasOtherFace rot) ≡ false → (b && hasOtherFace rot′) ≡ false
+    go true e = on e
+    go false e = refl
+
 pub carries-fit : (k : ℕ) (p q : Plan) (f : List ℕ) → Renumbering p q f → fit k p ≡ true → outsideRefused k q ≡ false → fit k q ≡ true
 carries-fit k p q f r e out =
     let a = fit-parts k p e in
@@ -122,5 +170,6 @@ carries-fit k p q f r e out =
       joined = iso-connected two (a .entries) (iso-of r) (omega (arith, a .root)) (a .joined);
       flat = iso-planar two (a .entries) (iso-of r) (a .flat);
       loops = no-loop-refused (family k) (q .rotation) (λ e. iso-loop two (a .entries) (iso-of r) (loopless (family k) (p .rotation) (a .loops) e));
+      triangles = faces-carried (family k) (p .rotation) (q .rotation) (iso-faces two (a .entries) (iso-of r)) (a .triangles);
       degrees = degree-carried (family k) p q (iso-dead-end two (a .entries) (iso-of r) (p .root) (q .root) (p .outside) (q .outside) (a .root) (r .root-to-root)) (a .degrees);
     })

@@ -1,8 +1,8 @@
 mod Permutations
-mod Isomorphisms
+pub mod Isomorphisms
 pub mod Renumberings
 pub mod Walk
 pub mod Connected
-mod Carried
+pub mod Carried
 pub mod Standard
 pub mod Faces

@@ -1,7 +1,7 @@
 pub mod Numbering
 pub mod Entries
 pub mod Linking
-mod Nesting
+pub mod Nesting
 mod BareLeaf
 pub mod DeadEnds
 pub mod Valid

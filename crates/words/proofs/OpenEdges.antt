@@ -5,6 +5,7 @@
 --   matching-in, matching-out, part-split, matching-inv    the matching of a part is an involution
 --   brackets-nested, nested-brackets   it is nested exactly where the edges of the part match like brackets
 -- then, of the stack of the part:
+--   part-pending          on it are the positions before i whose edges end at i or later
 --   part-top              what ends an edge finds it on top
 --   part-balanced         the brackets of the part are balanced
 --   part-head             what is on top opens an edge that ends at i or later
@@ -20,8 +21,8 @@ use mathlib.Core.List.{List, _∷_}
 use Rattle.model.specs.Map.{Plan, darts, next, dartCountFits}
 use Rattle.model.specs.Traversal.{Letter, opens, onward}
 use Rattle.orbits.specs.Chord.{Involution, Nested}
-use Rattle.orbits.specs.Stack.{Kind, flat, open′, close, kind, kindOf, top, stack, matched, Balanced}
-use Rattle.orbits.proofs.Stack.{kind-open, kind-close, kind-flat, stack-top, stack-balanced, stack-head, stack-holds}
+use Rattle.orbits.specs.Stack.{Kind, flat, open′, close, kind, kindOf, top, stack, pending, matched, Balanced}
+use Rattle.orbits.proofs.Stack.{kind-open, kind-close, kind-flat, stack-pending, stack-top, stack-balanced, stack-head, stack-holds}
 use Rattle.orbits.proofs.Match.{matched-is}
 use Rattle.words.specs.Toured.{dartAt, letterOf, mateOf, fellow, isTree, isChord, matching, Brackets, Bracketed, Toured}
 use Rattle.words.specs.Brackets.{bracket}
@@ -93,6 +94,9 @@ module _ (part : Letter → Bool) (whole : (l : Letter) → part (fellow l) ≡ 
         go true true u o = sym (ap (kindOf i) (matching-in part p i u) ∙ kind-open i (mateOf p i) (t .opens-first i h o))
         go true false u o = sym (ap (kindOf i) (matching-in part p i u) ∙ kind-close i (mateOf p i) (mate-before p t fits i h o))
         go false o u w = sym (kind-flat i (matching part p i) (matching-out part p i u))
+
+    pub part-pending : (i : ℕ) → i ≤ darts p → stack K i ≡ pending (matching part p) i i
+    part-pending = stack-pending (darts p) (matching part p) matching-inv (brackets-nested brackets) K same
 
     ends : (i : ℕ) → i < darts p → part (letterOf p i) ≡ true → opens (letterOf p i) ≡ false → matching part p i < i
     ends i h u o = subst (λ (k : ℕ). k < i) (sym (matching-in part p i u)) (mate-before p t fits i h o)

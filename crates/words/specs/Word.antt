@@ -15,6 +15,7 @@
 --   wordDarts             the standard dart at each place, from stacks of open tree edges and of other open edges
 --   placeOf l x           the dart whose entry comes after x, which has the letter l
 --   link, rotationOf w    the entries, dart by dart; the rotation
+--   rooted rot            the plan with this rotation and root 0, where its outside is too
 --   planOf w              the standard plan
 --   Found                 a word or none
 --   after ls r            the letters ls before what is found
@@ -142,8 +143,11 @@ link (l ∷ w) (x ∷ xs) out = link w xs (set out (placeOf l x) (head xs))
 unfoldable pub rotationOf : List Letter → List ℕ
 rotationOf w = link w (wordDarts 0 [] [] w) (replicate (length w) 0)
 
+abbrev pub rooted : List ℕ → Plan
+rooted rot = record { rotation = rot; root = 0; outside = 0 }
+
 unfoldable pub planOf : List Letter → Plan
-planOf w = record { rotation = rotationOf w; root = 0; outside = 0 }
+planOf w = rooted (rotationOf w)
 
 -- ---- reading
 

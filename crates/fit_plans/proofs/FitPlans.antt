@@ -5,19 +5,20 @@
 --   fit-lower             an edge outside the tree ends at a vertex that was entered no later than the one where it began
 --   fit-descends          and before it, if no edge is a loop
 --   fit-standard-rotation, fit-valid   its standard rotation is that of its word, and the word is valid
+--   fit-nested            the word is nested, loops taken
 --   fit-bits, fit-labels  its tree bits and labels are those of its word, if no edge is a loop
 --   fit-standard          its standard numbering is a renumbering
 --   same-word-renumbering   plans with one word have a renumbering
 use Prim.Native.Nat.{ℕ, _≤_, _<_}
 use mathlib.Core.Path.{_≡_, sym, ap, subst, _∙_}
 use mathlib.Core.Bool.{true, false}
-use mathlib.Core.List.{List}
+use mathlib.Core.List.{List, []}
 use Rattle.model.specs.Map.{Plan, darts, vertexOf, hasLoop, family, fit}
 use Rattle.model.specs.Traversal.{second, word, standardNumbers, standardRotation, standardPlan}
 use Rattle.model.specs.LabelledTree.{treeBits, labels}
 use Rattle.model.specs.Renumbering.{Renumbering}
 use Rattle.model.proofs.Fitness.{Fit, fit-parts, loopless-at}
-use Rattle.words.specs.Word.{valid, wordBits, wordLabels, rotationOf}
+use Rattle.words.specs.Word.{nested, valid, wordBits, wordLabels, rotationOf, rooted}
 use Rattle.words.specs.Toured.{Toured, Bracketed, letterOf, mateOf, dartAt}
 use Rattle.words.specs.Entered.{enteredAt}
 use Rattle.words.proofs.Positions.{mate-dart}
@@ -28,11 +29,11 @@ use Rattle.labelling.proofs.Reading.{tree-labels, tree-bits}
 use Rattle.standard.proofs.Numbering.{numbers-permutation, numbers-opposite, numbers-root}
 use Rattle.standard.proofs.Entries.{standard-entry}
 use Rattle.standard.proofs.Linking.{standard-rotation}
+use Rattle.standard.proofs.Nesting.{word-nested-loops}
 use Rattle.standard.proofs.Valid.{word-valid}
 use Rattle.renumbering.specs.Isomorphism.{inverseOf, composed}
 use Rattle.renumbering.proofs.Renumberings.{iso-of, with-root, inverse, compose}
 use Rattle.renumbering.proofs.Standard.{standard-renumbering}
-use Rattle.lists.specs.Coder.{rooted}
 
 module _ (k : ℕ) (p : Plan) (fits : fit k p ≡ true) where
   abbrev parts : Fit k p
@@ -66,6 +67,9 @@ module _ (k : ℕ) (p : Plan) (fits : fit k p ≡ true) where
 
   pub fit-valid : valid (family k) (word p) ≡ true
   fit-valid = word-valid p fit-toured fit-bracketed fit-lower fit-descends k fits
+
+  pub fit-nested : nested true 1 0 [] [] (word p) ≡ true
+  fit-nested = word-nested-loops p fit-toured fit-bracketed (parts .count) fit-lower
 
   pub fit-standard : Renumbering p (standardPlan p) (standardNumbers p)
   fit-standard = standard-renumbering p (numbers-permutation p fit-toured (parts .count)) (numbers-root p fit-toured (parts .count))

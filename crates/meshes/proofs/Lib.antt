@@ -1,0 +1,10 @@
+pub mod Examples
+pub mod Fits
+pub mod Triangles
+pub mod OpenEdges
+pub mod Turns
+pub mod Faces
+pub mod Blocks
+pub mod Nodes
+pub mod Growing
+pub mod Meshes

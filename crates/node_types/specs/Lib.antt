@@ -1,0 +1,4 @@
+pub mod Tree
+pub mod Above
+pub mod Machine
+pub mod Reduced
