@@ -2,3 +2,5 @@ pub mod Parts
 pub mod Linking
 pub mod Steps
 pub mod Whole
+pub mod Nested
+pub mod Moves

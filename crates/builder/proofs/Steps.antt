@@ -6,6 +6,8 @@
 --   stepped-stands        after a letter numbers and stacks are in range
 --   stepped-built         what comes out then is what came out with the letter before
 use Prim.Native.Nat.{ℕ, _+_, _-_, _*_, _≤_, _<_}
+use native.Mathlib.Nat.{lt-of-not-le}
+use native.Mathlib.Decide.{decLe}
 use native.Mathlib.Numerals.{add-one}
 use native.Mathlib.Omega.{arith}
 use mathlib.Core.Path.{_≡_, refl, sym, ap, subst, _∙_}
@@ -56,16 +58,25 @@ module _ (m : ℕ) (w : List ℕ) (s : State) (e : ℕ) (g : Standing m w s) whe
   abbrev with : ℕ → List ℕ
   with x = set w (s .place) x
 
+  abbrev OnStacks : ℕ → Type 0
+  OnStacks i = (BELOW * (2 * m) ≤ i) × (i < LABELS * (2 * m))
+
+  -- a region that is not before the stacks is behind them
+  abbrev Apart : ℕ → ℕ → Type 0
+  Apart a k = BELOW * (2 * m) < a + k → LABELS * (2 * m) ≤ a
+
+  apart : (a k i : ℕ) → Apart a k → OnStacks i → a ≤ i → a + k ≤ i
+  apart a k i f (p, q) l = elim (decLe (a + k) (BELOW * (2 * m))) [ yes h ↦ omega arith | no h ↦ (let o = f (lt-of-not-le h) in absurd (omega arith)) ]
+
   with-parts : (x d o : ℕ) → partsOf m (with x) d o ≡ entered (s .place) x (partsOf m w d o)
   with-parts x d o = dart-entered m w d o (s .place) x (g .place-in)
 
-  with-past : (x a k : ℕ) → LABELS * (2 * m) ≤ a → region a k (with x) ≡ region a k w
-  with-past x a k h = let q = g .place-in in region-set-other a k w (s .place) x (λ l. absurd (omega arith))
+  with-beside : (x a k : ℕ) → 2 * m ≤ a → region a k (with x) ≡ region a k w
+  with-beside x a k h = let q = g .place-in in region-set-other a k w (s .place) x (λ l. absurd (omega arith))
 
   -- an entry pushed on two stacks
-  pushed-past : (x i v j y a k : ℕ) → i < LABELS * (2 * m) → j < LABELS * (2 * m) → LABELS * (2 * m) ≤ a
-      → region a k (set (set (with x) i v) j y) ≡ region a k w
-  pushed-past x i v j y a k p q h = region-beside (with x) i v j y a k (λ l. absurd (omega arith)) (λ l. absurd (omega arith)) ∙ with-past x a k h
+  pushed-beside : (x i v j y a k : ℕ) → OnStacks i → OnStacks j → 2 * m ≤ a → Apart a k → region a k (set (set (with x) i v) j y) ≡ region a k w
+  pushed-beside x i v j y a k p q h f = region-beside (with x) i v j y a k (apart a k i f p) (apart a k j f q) ∙ with-beside x a k h
 
   module _ (r : Room m s e) where
     pub entering : Stepped down m w s e (stateAfter down here s e)
@@ -78,7 +89,7 @@ module _ (m : ℕ) (w : List ℕ) (s : State) (e : ℕ) (g : Standing m w s) whe
           parts-are = rw (add-one (s .depth)) (tree-pushed m (with (2 * e)) (s .depth) (s .opens) (omega arith) more (s .here) e)
               ∙ ap (pushedTree (s .here) e) (with-parts (2 * e) (s .depth) (s .opens));
           kept = simp length-set refl;
-          past = λ a k h. pushed-past (2 * e) _ _ _ _ a k (omega arith) (omega arith) h;
+          beside = λ a k. pushed-beside (2 * e) _ _ _ _ a k (omega arith, omega arith) (omega arith, omega arith);
         }
 
     pub backing : Stepped first m w s e (stateAfter first here s e)
@@ -91,7 +102,7 @@ module _ (m : ℕ) (w : List ℕ) (s : State) (e : ℕ) (g : Standing m w s) whe
           parts-are = rw (add-one (s .opens)) (open-pushed m (with (2 * e)) (s .depth) (s .opens) (omega arith) more (s .here) e)
               ∙ ap (pushedOpen (s .here) e) (with-parts (2 * e) (s .depth) (s .opens));
           kept = simp length-set refl;
-          past = λ a k h. pushed-past (2 * e) _ _ _ _ a k (omega arith) (omega arith) h;
+          beside = λ a k. pushed-beside (2 * e) _ _ _ _ a k (omega arith, omega arith) (omega arith, omega arith);
         }
 
   pub rising : 0 < s .depth → (t : State) → t ≡ stateAfter up here s e → Stepped up m w s e t (with (2 * e + 1))
@@ -101,7 +112,7 @@ module _ (m : ℕ) (w : List ℕ) (s : State) (e : ℕ) (g : Standing m w s) whe
         ap (λ (u : State). partsAt m (with (2 * e + 1)) u) q ∙ with-parts (2 * e + 1) (s .depth - 1) (s .opens)
         ∙ ap (λ (p : Parts). partsAfter up p s e) (sym (tree-popped m w (s .depth) (s .opens) h));
     kept = length-set w (s .place) (2 * e + 1);
-    past = with-past (2 * e + 1);
+    beside = λ a k h f. with-beside (2 * e + 1) a k h;
   }
 
   pub closing : 0 < s .opens → Stepped second m w s e (stateAfter second here s e) (with (2 * e + 1))
@@ -111,7 +122,7 @@ module _ (m : ℕ) (w : List ℕ) (s : State) (e : ℕ) (g : Standing m w s) whe
         with-parts (2 * e + 1) (s .depth) (s .opens - 1)
         ∙ ap (λ (p : Parts). partsAfter second p s e) (sym (open-popped m w (s .depth) (s .opens) h));
     kept = length-set w (s .place) (2 * e + 1);
-    past = with-past (2 * e + 1);
+    beside = λ a k h f. with-beside (2 * e + 1) a k h;
   }
 
 -- ---- what follows from a step

@@ -11,7 +11,6 @@ use lib.ListN.{length, set, replicate, length-replicate}
 use Rattle.model.specs.Numbers.{allBelow}
 use Rattle.model.specs.Traversal.{Letter}
 use Rattle.words.specs.Word.{head, wordDarts, rotationOf}
-use Rattle.work.specs.Map.{LABELS}
 use Rattle.work.specs.Area.{region, placed, stack}
 use Rattle.work.proofs.Regions.{length-placed, region-placed, region-placed-other}
 use Rattle.builder.specs.declared.State.{State}
@@ -19,16 +18,16 @@ use Rattle.builder.specs.Steps.{Parts, partsOf, firstState, outcome, out
 use Rattle.builder.proofs.Linking.{linked-end, linked-whole}
 use Rattle.builder.proofs.Parts.{dart-entered}
 
--- the labels stay as they were
+-- what stands behind the rotation stays as it was
 pub blank-area : (m : ℕ) (w w′ : List ℕ) → 32 * m ≤ length w → w′ ≡ placed 0 (replicate (2 * m) 0) w
-    → (32 * m ≤ length w′) × (region 0 (2 * m) w′ ≡ replicate (2 * m) 0) × (region (LABELS * (2 * m)) m w′ ≡ region (LABELS * (2 * m)) m w)
+    → (32 * m ≤ length w′) × (region 0 (2 * m) w′ ≡ replicate (2 * m) 0) × ((a k : ℕ) → 2 * m ≤ a → region a k w′ ≡ region a k w)
 blank-area m w w′ r f =
     let none : List ℕ = replicate (2 * m) 0 in
     let n : length none ≡ 2 * m = length-replicate (2 * m) 0 in
     let fits : 0 + length none ≤ length w = omega arith in (
       rw (f, length-placed 0 none w fits) r,
       rw f (region-placed 0 none w fits (2 * m) (sym n)),
-      rw f (region-placed-other 0 none w fits (LABELS * (2 * m)) m (λ g. omega arith)),
+      λ a k h. rw f (region-placed-other 0 none w fits a k (λ g. omega arith)),
     )
 
 pub standing-start : (m : ℕ) (w : List ℕ) → 1 ≤ m → m ≤ 4096 → 32 * m ≤ length w → Standing m w firstState

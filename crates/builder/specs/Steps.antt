@@ -14,7 +14,7 @@
 --   outcomeAt m w s k v      the same in the state s
 --   Standing m w s           the numbers and stacks are in range
 --   Room m s e               there is room for edge e
---   Stepped                  the letter l of edge e is read, and nothing past the stacks is touched
+--   Stepped                  the letter l of edge e is read, and nothing beside the rotation and the stacks is touched
 use Prim.Native.Nat.{ℕ, suc, _+_, _-_, _*_, _≤_, _<_}
 use mathlib.Core.Path.{_≡_}
 use mathlib.Core.Bool.{true}
@@ -129,4 +129,4 @@ pub record Stepped (l : Letter) (m : ℕ) (w : List ℕ) (s : State) (e : ℕ) (
   pub state-is : t ≡ stateAfter l (partsAt m w s) s e
   pub parts-are : partsAt m w′ t ≡ partsAfter l (partsAt m w s) s e
   pub kept : length w′ ≡ length w
-  pub past : (a k : ℕ) → LABELS * (2 * m) ≤ a → region a k w′ ≡ region a k w
+  pub beside : (a k : ℕ) → 2 * m ≤ a → (BELOW * (2 * m) < a + k → LABELS * (2 * m) ≤ a) → region a k w′ ≡ region a k w

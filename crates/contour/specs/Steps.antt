@@ -1,5 +1,6 @@
 -- One step of the walk in the work area w of a rotation of n darts.
 --
+--   facing rot across            the rotation, or across an edge its dual
 --   namesIn, metIn, seenIn n w   names of the vertices, letters by dart, vertices seen
 --   codesIn n i w                letters by position, of the first i positions
 --   VerticesNamed rot w          the vertices' names are there
@@ -8,13 +9,19 @@
 --   Visited rot d i w e w′       dart d is met at position i, and e comes after it
 use Prim.Native.Nat.{ℕ, _+_, _*_}
 use mathlib.Core.Path.{_≡_}
+use mathlib.Core.Bool.{Bool, true, false}
 use mathlib.Core.List.{List, [], _∷_, _++_}
 use lib.ListN.{length, set}
 use Rattle.model.specs.Map.{vertexOf}
+use Rattle.model.specs.Mesh.{dualOf}
 use Rattle.model.specs.Traversal.{Letter, code, letterAt, onward, seenAfter}
 use Rattle.model.specs.Numbers.{tabulate}
 use Rattle.work.specs.Map.{MET, SEEN, LETTERS}
 use Rattle.work.specs.Area.{region}
+
+abbrev pub facing : List ℕ → Bool → List ℕ
+facing rot false = rot
+facing rot true = dualOf rot
 
 abbrev pub namesIn : ℕ → List ℕ → List ℕ
 namesIn n w = region 0 n w

@@ -13,10 +13,10 @@
 --   placed-beside                       entries placed in two parts, in either order
 --   placed-cons                         the first entry placed is a store
 --   placed-next                         what is placed just behind other entries is placed with them
---   region-grow                         entries placed just behind a region make it longer
+--   region-grow, region-push            entries placed, or one stored, just behind a region make it longer
 --   sets-placed                         a run of stores places the entries
 --   front-placed                        placing at 0 is `front`
-use mathlib.Core.Path.{_≡_, sym, ap, _∙_}
+use mathlib.Core.Path.{_≡_, refl, sym, ap, _∙_}
 use mathlib.Core.List.{List, [], _∷_, _++_, append-assoc}
 use Prim.Native.Nat.{ℕ, zero, suc, _+_, _-_, _≤_, _<_}
 use native.Mathlib.Nat.{suc-add, add-suc, zero-add, add-zero, sub-zero, lt-of-not-le}
@@ -189,6 +189,9 @@ region-grow a n k ys w e h = rw (
   region-placed-other (a + n) ys w (omega arith) a n (λ l. absurd (omega arith)),
   region-placed (a + n) ys w (omega arith) k (sym e),
 )
+
+pub region-push : (a k x : ℕ) (w : List ℕ) → a + k < length w → region a (k + 1) (set w (a + k) x) ≡ region a k w ++ (x ∷ [])
+region-push a k x w h = rw (placed-cons (a + k) x [] w h, placed-none) at (region-grow a k 1 (x ∷ []) w refl (omega arith))
 
 pub sets-placed : (xs w : List ℕ) (a : ℕ) → a + length xs ≤ length w → sets w a xs ≡ placed a xs w
 unfolding placed

@@ -6,6 +6,9 @@
 --   BITS, LABELS                 writing: the tree bits, and the labels, in reading too
 --   BELOW, TREES, BEGUN, OPENS   reading: stacks of the vertices that the present one hangs from, of open tree edges, of the vertices where other open
 --                                edges began, and of those edges; the rotation stands from 0 on
+--   NODES, TYPES                 meshes, writing: a stack of letters, and the node types, in reading too
+--   BASES, PLACES                meshes, reading: stacks of the nodes that are not complete, the open edges when each was entered and what is to come at its
+--                                second place
 use Prim.Native.Nat.{ℕ}
 
 abbrev pub MET : ℕ
@@ -49,3 +52,15 @@ BEGUN = 7
 
 abbrev pub OPENS : ℕ
 OPENS = 8
+
+abbrev pub NODES : ℕ
+NODES = 5
+
+abbrev pub TYPES : ℕ
+TYPES = 7
+
+abbrev pub BASES : ℕ
+BASES = 5
+
+abbrev pub PLACES : ℕ
+PLACES = 6

@@ -40,6 +40,16 @@ pub const BEGUN: usize = 7;
 
 pub const OPENS: usize = 8;
 
+// Meshes. Writing: a stack of letters, and the node types; the bits of code A stand at BITS, the digits at LABELS. Reading: the node types too, and stacks of
+// the nodes that are not complete, the open edges when each was entered and what is to come at its second place.
+pub const NODES: usize = 5;
+
+pub const TYPES: usize = 7;
+
+pub const BASES: usize = 5;
+
+pub const PLACES: usize = 6;
+
 // ---- codes
 
 // The letters; 0 stands for a dart not met yet.

@@ -7,12 +7,12 @@ use Rattle.contour.proofs.visit.Statement.{statement}
 use Rattle.contour.proofs.visit.Tie as tie
 
 -- dart d at position i, with the other dart of its edge
-at : (c : tie.After-other) → let a = c .before .before .before in
-    Here (a .args .order .now) (a .args .w .now) (a .args .d) (a .args .i) (c .other .result)
+at : (c : tie.After-step2) → let a = c .before .before .before .before .before in
+    Here (a .args .order .now) (a .args .across) (a .args .w .now) (a .args .d) (a .args .i) (c .before .before .other .result)
 at c =
-    let a = c .before .before .before in
-    here (a .args .order .now) (a .args .w .now) (a .args .d) (a .args .i) (c .other .result)
-    (a .pre .0) (a .pre .1) (a .pre .2) (a .pre .3) (a .pre .4) (c .other .ensures)
+    let a = c .before .before .before .before .before in
+    here (a .args .order .now) (a .args .across) (a .args .w .now) (a .args .d) (a .args .i) (c .before .before .other .result)
+    (a .pre .0) (a .pre .1) (a .pre .2) (a .pre .3) (a .pre .4) (c .before .before .other .ensures)
 
 other-requires : tie.Need-other-requires
 other-requires c κs = let k = count-parts _ (c .before .before .pre .0) in omega arith
@@ -61,9 +61,9 @@ note-requires c κs = let f = at (c .before .before .before .before .before .bef
 
 returns : tie.Need-returns
 returns c =
-    goes-down (at (c .before .before .before .before .before .before .before .before .before .before))
-    (c .before .before .before .before .before .before .before .before .if1 .taken)
-    (c .before .before .before .before .before .if2 .taken) (c .before .before .before .note .ensures) (c .step .ensures)
+    let st = c .before .before .before .before .before .before .before .before .before in
+    goes-down (at st) (c .before .before .before .before .before .before .before .if1 .taken) (c .before .before .before .before .if2 .taken)
+    (c .before .before .note .ensures) (st .step2 .ensures)
 
 same-length : tie.Need-same-length
 same-length c = returns c .kept
@@ -73,32 +73,34 @@ note-requires-2 c κs = let f = at (c .before .before .before .before .before .b
 
 returns-2 : tie.Need-returns-2
 returns-2 c =
-    is-noted (at (c .before .before .before .before .before .before .before .before .before .before))
-    (c .before .before .before .before .before .before .before .before .if1 .taken)
-    (c .before .before .before .before .before .if2 .left) (c .before .before .before .note2 .ensures) (c .step2 .ensures)
+    let st = c .before .before .before .before .before .before .before .before .before in
+    is-noted (at st) (c .before .before .before .before .before .before .before .if1 .taken) (c .before .before .before .before .if2 .left)
+    (c .before .before .note2 .ensures) (st .before .step .ensures)
 
 note-requires-3 : tie.Need-note-requires-3
 note-requires-3 c κs = let f = at (c .before .before .before .before) in (f .few, f .dart, f .place, f .room)
 
 returns-3 : tie.Need-returns-3
 returns-3 c =
-    comes-up (at (c .before .before .before .before .before .before .before .before)) (c .before .before .before .before .before .if3 .taken)
-    (c .before .before .before .note3 .ensures) (c .step3 .ensures)
+    let st = c .before .before .before .before .before .before .before in
+    comes-up (at st) (c .before .before .before .before .if3 .taken) (c .before .before .note3 .ensures) (st .step2 .ensures)
 
 note-requires-4 : tie.Need-note-requires-4
 note-requires-4 c κs = let f = at (c .before .before .before .before) in (f .few, f .dart, f .place, f .room)
 
 returns-4 : tie.Need-returns-4
 returns-4 c =
-    is-noted-again (at (c .before .before .before .before .before .before .before .before))
-    (c .before .before .before .before .before .before .if1 .left) (c .before .before .before .before .before .if3 .left)
-    (c .before .before .before .note4 .ensures) (c .step4 .ensures)
+    let st = c .before .before .before .before .before .before .before in
+    is-noted-again (at st) (c .before .before .before .before .before .if1 .left) (c .before .before .before .before .if3 .left)
+    (c .before .before .note4 .ensures) (st .before .step .ensures)
 
 pub visit-spec : {M : Type 1} → statement M
 visit-spec =
     tie.close
     (tie.spec
     other-requires
+    (λ c κs. search needs)
+    (λ c κs. search needs)
     mul-met
     add-met
     mul-met-2
@@ -113,18 +115,14 @@ visit-spec =
     mul-w
     slice-write-w
     note-requires
-    (λ c κs. search needs)
     same-length
     returns
     note-requires-2
-    (λ c κs. search needs)
     (λ c. search needs)
     returns-2
     note-requires-3
-    (λ c κs. search needs)
     (λ c. search needs)
     returns-3
     note-requires-4
-    (λ c κs. search needs)
     (λ c. search needs)
     returns-4)

@@ -1,0 +1,2 @@
+mod Letters
+mod Runs
