@@ -1,6 +1,5 @@
 -- The pass, letter by letter.
 --
---   stays-start, stays-then   nothing is stored; one change after the other
 --   scan-start, scan-next, scan-end   before the last letter; before another; after the first
 --   down-letter, up-letter, first-letter, second-letter   what each letter does
 use Prim.Native.Nat.{ℕ, _+_, _-_, _*_, _/_, _≤_, _<_}
@@ -15,27 +14,16 @@ use Rattle.model.specs.LabelledTree.{star}
 use Rattle.words.specs.Word.{valid, endsOne, ends, startsUp, startsSecond, wordBits}
 use Rattle.work.specs.Map.{FACES, UPS, SECONDS, BITS, LABELS}
 use Rattle.work.specs.Area.{region, stack}
-use Rattle.work.specs.Letters.{lettersIn}
+use Rattle.work.specs.Letters.{lettersIn, Stays}
 use Rattle.work.proofs.Regions.{region-front}
-use Rattle.work.proofs.Letters.{letters-set-behind}
+use Rattle.work.proofs.Letters.{stays-then, stored}
 use Rattle.encoder.specs.declared.Scan.{Scan}
 use Rattle.encoder.specs.Encoded.{Encoded}
-use Rattle.encoder.specs.Passes.{held, heldBits, downBefore, bitsFrom, InRange, Scanned, Stays, Stepped}
+use Rattle.encoder.specs.Passes.{held, heldBits, downBefore, bitsFrom, InRange, Scanned, Stepped}
 use Rattle.encoder.proofs.Letters.{Stands, letter-is, letters-end, small-word}
 use Rattle.encoder.proofs.Held.{afterDown, afterUp, afterFirst, afterSecond, held-beside, bits-beside}
 use Rattle.encoder.proofs.Held.{held-down, held-up, held-first, held-second}
 use Rattle.encoder.proofs.Places.{bitsOne, bits-more, bits-fit, down-room, first-room, labels-end, bits-end}
-
--- ---- what stays
-
-pub stays-start : (n : ℕ) (w : List ℕ) → Stays n w w
-stays-start n w = record { letters = refl; kept = refl }
-
-pub stays-then : (n : ℕ) (w w₁ w₂ : List ℕ) → Stays n w w₁ → Stays n w₁ w₂ → Stays n w w₂
-stays-then n w w₁ w₂ a b = record { letters = b .letters ∙ a .letters; kept = b .kept ∙ a .kept }
-
-stored : (n p x : ℕ) (w : List ℕ) → FACES * n ≤ p → Stays n w (set w p x)
-stored n p x w h = record { letters = letters-set-behind n w p x h; kept = length-set w p x }
 
 -- ---- start and end
 

@@ -6,7 +6,6 @@
 --   bitsFrom i v           the tree bits of the letters from position i on
 --   InRange n i s          the numbers of the pass are in range
 --   Scanned n w i s        the letters from position i on are done
---   Stays n w w′           the word stays, and the area's length
 --   Stepped n w w′ i s     the letter at position i is done
 use Prim.Native.Nat.{ℕ, zero, suc, _+_, _-_, _*_, _/_, _≤_}
 use mathlib.Core.Path.{_≡_}
@@ -18,7 +17,7 @@ use Rattle.words.specs.Word.{valid, Ends, ends, wordBits}
 use Rattle.words.specs.Entered.{isDown}
 use Rattle.work.specs.Map.{UPS, SECONDS, BITS, LABELS}
 use Rattle.work.specs.Area.{region, stack}
-use Rattle.work.specs.Letters.{lettersIn}
+use Rattle.work.specs.Letters.{lettersIn, Stays}
 use Rattle.encoder.specs.declared.Scan.{Scan}
 
 unfoldable pub held : ℕ → List ℕ → Scan → Ends
@@ -52,10 +51,6 @@ pub record Scanned (n : ℕ) (w : List ℕ) (i : ℕ) (s : Scan) : Type 0 where
   pub in-range : InRange n i s
   pub labelled : held n w s ≡ ends (drop i (lettersIn n w))
   pub bitted : heldBits n w s ≡ bitsFrom i (lettersIn n w)
-
-pub record Stays (n : ℕ) (w w′ : List ℕ) : Type 0 where
-  pub letters : lettersIn n w′ ≡ lettersIn n w
-  pub kept : length w′ ≡ length w
 
 pub record Stepped (n : ℕ) (w w′ : List ℕ) (i : ℕ) (s : Scan) : Type 0 where
   pub scanned : Scanned n w′ i s

@@ -1,14 +1,14 @@
 -- The verdict, by the way on which the checks end, at plain values.
 --
 --   loop-taken, loop-searched   loops in kind 4, and in another
---   looped, dead-end, no-dead-end, other-kind   the ways of refusals 11 and 12
+--   looped, other-face, triangles-only, dead-end, no-dead-end, other-kind   the ways of refusals 11, 18 and 12
 --   vertices-named, surveyed   what naming the vertices and walking leave
 --   Looked               a plan that is judged, and its work area after it is surveyed
 --   parted               not every dart is met
 --   Counted              the same, every dart being met and the faces counted
 --   few-counts           the counts are small
 --   curved               the characteristic is not 2
---   flat-refused, flat-fits   it is, and 11 or 12 is found, or neither
+--   flat-refused, flat-fits   it is, and 11, 18 or 12 is found, or none
 use Prim.Native.Nat.{ℕ, _+_, _*_, _/_, _≤_, _<_}
 use native.Mathlib.Nat.{suc-ne-zero}
 use native.Mathlib.Omega.{arith}
@@ -22,7 +22,7 @@ use lib.Dec.{eqb}
 use borrow.Author.Tests.{eq-eqb, ne-eqb}
 use Rattle.model.specs.Numbers.{isLeast, cycles, firstRefusal, isPermutation}
 use Rattle.model.specs.Map.{Plan, darts, edges, next, faceNext, faceOf, vertexOf, vertices, faces, faceLengths, connected, planar, characteristic, is}
-use Rattle.model.specs.Map.{hasLoop, hasDeadEnd, loopRefused, degreeRefused, dartCountFits}
+use Rattle.model.specs.Map.{hasLoop, hasOtherFace, hasDeadEnd, loopRefused, faceRefused, degreeRefused, dartCountFits}
 use Rattle.model.specs.Traversal.{code, word}
 use Rattle.model.specs.Calls.{lateRefusals}
 use Rattle.model.proofs.Booleans.{not-intro}
@@ -40,7 +40,7 @@ use Rattle.fitting.specs.declared.Verdict.{Verdict}
 use Rattle.fitting.specs.declared.Verdict.the-variants.{Fits, Refused, NotPlanar}
 use Rattle.fitting.specs.Judged.{Surveyed, localRefusal, lateRefusal, verdictOf, Judged}
 
--- ---- refusals 11 and 12
+-- ---- refusals 11, 18 and 12
 
 pub loop-taken : (k : ℕ) (rot : List ℕ) → k ≡ 4 → false ≡ loopRefused k rot
 unfolding loopRefused
@@ -53,29 +53,38 @@ loop-searched k rot r d e = rw (ne-eqb k 4 d) e
 module _ (k : ℕ) (p : Plan) where
   not-ten : eqb (localRefusal k p) 10 ≡ false
   unfolding localRefusal
-  not-ten = either (loopRefused k (p .rotation)) (degreeRefused k p)
+  not-ten = either (loopRefused k (p .rotation)) (faceRefused k (p .rotation)) (degreeRefused k p)
     where
-      either : (loop end : Bool) → eqb (cond loop 11 (cond end 12 0)) 10 ≡ false
-      either true end = refl
-      either false true = refl
-      either false false = refl
+      either : (loop face end : Bool) → eqb (cond loop 11 (cond face 18 (cond end 12 0))) 10 ≡ false
+      either true face end = refl
+      either false true end = refl
+      either false false true = refl
+      either false false false = refl
 
   pub looped : loopRefused k (p .rotation) ≡ true → 11 ≡ localRefusal k p
   unfolding localRefusal
   looped l = rw l
 
   module _ (none : loopRefused k (p .rotation) ≡ false) where
+    pub other-face : k ≡ 3 → hasOtherFace (p .rotation) ≡ true → 18 ≡ localRefusal k p
+    unfolding localRefusal faceRefused
+    other-face h e = rw (none, eq-eqb k 3 h, e)
+
+    pub triangles-only : k ≡ 3 → hasOtherFace (p .rotation) ≡ false → 0 ≡ localRefusal k p
+    unfolding localRefusal faceRefused degreeRefused
+    triangles-only h e = rw (none, h, e)
+
     pub dead-end : k ≡ 1 → hasDeadEnd p ≡ true → 12 ≡ localRefusal k p
-    unfolding localRefusal degreeRefused
-    dead-end h e = rw (none, eq-eqb k 1 h, e)
+    unfolding localRefusal faceRefused degreeRefused
+    dead-end h e = rw (none, h, e)
 
     pub no-dead-end : k ≡ 1 → hasDeadEnd p ≡ false → 0 ≡ localRefusal k p
-    unfolding localRefusal degreeRefused
-    no-dead-end h e = rw (none, eq-eqb k 1 h, e)
+    unfolding localRefusal faceRefused degreeRefused
+    no-dead-end h e = rw (none, h, e)
 
-    pub other-kind : (k ≢ 1) → 0 ≡ localRefusal k p
-    unfolding localRefusal degreeRefused
-    other-kind h = rw (none, ne-eqb k 1 h)
+    pub other-kind : k ≢ 3 → k ≢ 1 → 0 ≡ localRefusal k p
+    unfolding localRefusal faceRefused degreeRefused
+    other-kind d h = rw (none, ne-eqb k 3 d, ne-eqb k 1 h)
 
 -- ---- the names and the walk
 
@@ -181,7 +190,7 @@ module _ {k : ℕ} {p : Plan} {w : List ℕ} {s : Survey} {w₁ : List ℕ} {f :
       unfolding lateRefusal lateRefusals firstRefusal planar localRefusal
       late-local = let u′ = rw euler at u in rw (joined, u′)
 
-      -- what is found of 11 and 12 makes the verdict
+      -- what is found of 11, 18 and 12 makes the verdict
       found : {v : Verdict} → v ≡ verdictOf k p → Judged k p w v w₂
       found q = record { answered = q; letters = λ z. letters-kept; names = λ z. faces-named; lengths = λ z. measured; kept = length-kept }
 

@@ -1,4 +1,4 @@
-// Refusals 9 to 12, and of a plan that fits its contour word and its faces, named and measured. Names of vertices in the work area are its own matter. It
+// Refusals 9 to 12 and 18, and of a plan that fits its contour word and its faces, named and measured. Names of vertices in the work area are its own matter. It
 // knows no records, and nothing of the outside.
 ghost use mathlib.Core.Path.{_≡_};
 ghost use mathlib.Core.Bool.{true};
@@ -82,7 +82,7 @@ fn surveyed(order: &[u16], root: usize, family: u16, w: &mut [u16]) -> Survey
     let n = order.len();
     let vertices = cycles::name(order, false, w, 0, work::DEGREES * n);
     let looped = loop_refused(order, family, w);
-    let met = contour::walk(order, root, w);
+    let met = contour::walk(order, false, root, w);
     Survey {
         vertices,
         looped,
@@ -90,13 +90,19 @@ fn surveyed(order: &[u16], root: usize, family: u16, w: &mut [u16]) -> Survey
     }
 }
 
-// The first of 11 and 12 that concerns the plan; 0 if none does.
+// The first of 11, 18 and 12 that concerns the plan; 0 if none does.
 fn local(order: &[u16], root: usize, family: u16, looped: bool) -> u16
-    requires { ⌜ (isPermutation (now order) ≡ true) × (root < length (now order)) × (looped ≡ loopRefused family (now order)) ⌝ }
+    requires { ⌜ (dartCountFits (length (now order)) ≡ true) × (isPermutation (now order) ≡ true) × (root < length (now order)) × (looped ≡ loopRefused family (now order)) ⌝ }
     ensures { λ r. ⌜ r ≡ localRefusal family (record { rotation = now (order .entry); root = root; outside = 0 }) ⌝ }
 {
     if looped {
         return 11;
+    }
+    if family == 3 {
+        if triangles::has_other_face(order) {
+            return 18;
+        }
+        return 0;
     }
     if family == 1 {
         if has_dead_end(order, root) {
@@ -106,7 +112,7 @@ fn local(order: &[u16], root: usize, family: u16, looped: bool) -> u16
     0
 }
 
-// Refusals 9 to 12; the word of a plan that fits stands at LETTERS, the names of its faces at FACES, and their lengths at LENGTHS.
+// Refusals 9 to 12 and 18; the word of a plan that fits stands at LETTERS, the names of its faces at FACES, and their lengths at LENGTHS.
 pub fn judge(order: &[u16], root: usize, family: u16, w: &mut [u16]) -> Verdict
     requires { ⌜ (dartCountFits (length (now order)) ≡ true) × (isPermutation (now order) ≡ true) × (root < length (now order))
         × (16 * length (now order) ≤ length (now w)) ⌝ }

@@ -2,6 +2,7 @@
 --
 --   field-value              a field from its two bytes
 --   is-first, is-second, is-third    a number is one of three, test by test
+--   no-family, is-some-family    a number is a family, test by test
 --   kind-plain, kind-stores  a kind is a family, or stores the outside
 --   stores-large, stores-none    it stores the outside from 100h on only
 --   family-stores, family-plain  the family of a kind
@@ -13,9 +14,9 @@ use mathlib.Core.List.{List, [], _∷_}
 use Prim.Native.Nat.{ℕ, _+_, _-_, _*_, _≤_, _<_}
 use native.Mathlib.Omega.{arith}
 use native.Mathlib.Numerals.{add-one}
-use lib.Dec.{eqb}
+use lib.Dec.{eqb, leb}
 use lib.ListN.{getD}
-use borrow.Author.Tests.{eq-eqb, ne-eqb}
+use borrow.Author.Tests.{eqb-true, eqb-false, eq-eqb, ne-eqb, leb-true, le-leb}
 use Rattle.model.specs.Numbers.{elem}
 use Rattle.model.specs.Map.{isFamily, storesOutside, isKind, family}
 use Rattle.model.specs.Record.{headLength}
@@ -46,6 +47,25 @@ module _ (a b c k : ℕ) where
       last false = refl
 
 module _ (k : ℕ) where
+  pub no-family : k ≡ 0 → false ≡ isFamily k
+  unfolding isFamily elem
+  no-family e = rw e
+
+  pub is-some-family : (k ≡ 0 → ⊥) → leb k 4 ≡ isFamily k
+  unfolding isFamily elem
+  is-some-family some = go (eqb k 1) (eqb k 2) (eqb k 3) (eqb k 4) refl refl refl refl
+    where
+      go : (a b c d : Bool) → eqb k 1 ≡ a → eqb k 2 ≡ b → eqb k 3 ≡ c → eqb k 4 ≡ d → leb k 4 ≡ cond a true (cond b true (cond c true (cond d true false)))
+      go true b c d p q r s = let e = eqb-true k 1 p in le-leb k 4 (omega arith)
+      go false true c d p q r s = let e = eqb-true k 2 q in le-leb k 4 (omega arith)
+      go false false true d p q r s = let e = eqb-true k 3 r in le-leb k 4 (omega arith)
+      go false false false true p q r s = let e = eqb-true k 4 s in le-leb k 4 (omega arith)
+      go false false false false p q r s =
+          not-intro (leb k 4) (λ h. none (leb-true k 4 h) (eqb-false k 1 p) (eqb-false k 2 q) (eqb-false k 3 r) (eqb-false k 4 s))
+        where
+          none : k ≤ 4 → (k ≡ 1 → ⊥) → (k ≡ 2 → ⊥) → (k ≡ 3 → ⊥) → (k ≡ 4 → ⊥) → ⊥
+          none h one two three four = omega arith
+
   pub kind-plain : isFamily k ≡ true → true ≡ isKind k
   unfolding isKind
   kind-plain e = rw e

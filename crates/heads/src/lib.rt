@@ -21,13 +21,10 @@ pub fn field(bytes: &[u8], i: usize) -> u16
 fn is_family(kind: u16) -> bool
     ensures { λ r. ⌜ r ≡ isFamily kind ⌝ }
 {
-    if kind == 1 {
-        return true;
+    if kind == 0 {
+        return false;
     }
-    if kind == 2 {
-        return true;
-    }
-    kind == 4
+    kind <= 4
 }
 
 pub fn stores_outside(kind: u16) -> bool
@@ -74,7 +71,7 @@ pub fn head_length(kind: u16) -> usize
     6
 }
 
-// The length of the payload of a record of this family with m edges.
+// The length of the payload of a record of this family with m edges, where m fixes it.
 fn payload_length(family: u16, m: u16) -> usize
     ensures { λ r. ⌜ (r ≡ payloadLength family m) × (r ≤ 65536) ⌝ }
 {
@@ -88,7 +85,7 @@ fn payload_length(family: u16, m: u16) -> usize
     (n + 1) / 2
 }
 
-// The length of a record of this kind with m edges.
+// The length of a record of this kind with m edges, where m fixes it.
 pub fn record_length(kind: u16, m: u16) -> usize
     ensures { λ r. ⌜ r ≡ recordLength kind m ⌝ }
 {
@@ -116,6 +113,9 @@ pub fn head_refusal(record: &[u8]) -> u16
     }
     if m > 4096 {
         return 3;
+    }
+    if kind == 3 {
+        return 0; // m does not fix the length
     }
     if record_length(kind, m) != record.len() {
         return 5;

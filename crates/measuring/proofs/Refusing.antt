@@ -15,7 +15,7 @@ use lib.Dec.{eqb, ltb}
 use lib.ListN.{length}
 use borrow.Author.Tests.{lt-ltb, le-ltb, ltb-false, not-false}
 use Rattle.model.specs.Numbers.{Refusal, refuse, firstRefusal, isPermutation}
-use Rattle.model.specs.Map.{Plan, edges, faceLengths, dartCountFits, connected, planar, loopRefused, degreeRefused}
+use Rattle.model.specs.Map.{Plan, edges, faceLengths, dartCountFits, connected, planar, loopRefused, faceRefused, degreeRefused}
 use Rattle.model.specs.Calls.{lateRefusals, measureRefusal}
 use Rattle.model.proofs.Fitness.{count-parts}
 use Rattle.model.proofs.Refusals.{none-holds, first-lacks, first-append}
@@ -80,7 +80,7 @@ module _ (rot : List ℕ) where
 
   -- 11 and 12 never concern kind 4
   four : lateRefusal 4 (rooted rot) ≡ firstRefusal planRefusals
-  unfolding lateRefusal lateRefusals firstRefusal loopRefused degreeRefused
+  unfolding lateRefusal lateRefusals firstRefusal loopRefused faceRefused degreeRefused
   four = refl
 
   abbrev pub eightIf : ℕ → ℕ

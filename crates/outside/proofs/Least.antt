@@ -12,7 +12,7 @@ use Rattle.model.proofs.Fitness.{fit-parts}
 use Rattle.orbits.proofs.Cycle.{least-le}
 use Rattle.standard.proofs.Numbering.{numbers-onto}
 use Rattle.renumbering.proofs.Faces.{standard-face, standard-bound, standard-least}
-use Rattle.coding.proofs.FitPlans.{fit-toured, fit-standard}
+use Rattle.fit_plans.proofs.FitPlans.{fit-toured, fit-standard}
 
 module _ (k : ℕ) (p : Plan) (e : fit k p ≡ true) where
   abbrev number-of : ℕ → ℕ

@@ -20,7 +20,7 @@ use Rattle.words.specs.Position.{opened}
 use Rattle.words.specs.Toured.{dartAt, posOf, mateOf, Toured}
 use Rattle.words.proofs.Positions.{mate-bound, mate-dart, mate-opens, opposite-at}
 use Rattle.standard.proofs.Numbering.{opening, rank, opened-number, other-number, ended-number}
-use Rattle.coding.proofs.FitPlans.{fit-toured}
+use Rattle.fit_plans.proofs.FitPlans.{fit-toured}
 use Rattle.outside.proofs.Least.{standard-least-is}
 
 module _ (k : ℕ) (p : Plan) (e : fit k p ≡ true) (inside : p .outside < darts p) where

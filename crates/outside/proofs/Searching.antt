@@ -24,7 +24,7 @@ use Rattle.words.specs.Position.{opened}
 use Rattle.words.specs.Toured.{dartAt, letterOf, Toured}
 use Rattle.words.proofs.Positions.{word-left}
 use Rattle.standard.proofs.Numbering.{opening, rank, rank-opens, rank-stays}
-use Rattle.coding.proofs.FitPlans.{fit-toured}
+use Rattle.fit_plans.proofs.FitPlans.{fit-toured}
 use Rattle.work.specs.Map.{LETTERS, FACES}
 use Rattle.work.specs.Letters.{toLetter}
 use Rattle.work.proofs.Letters.{letters-code, letters-from}

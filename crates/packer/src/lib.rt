@@ -38,7 +38,7 @@ fn digits(w: &[u16], a: usize, e: usize, base: u16, width: usize) -> u16
 }
 
 // The digits from a to e, in groups of this width, as bytes from place at on.
-fn put_groups(
+pub fn put_groups(
     w: &[u16],
     a: usize,
     e: usize,
@@ -70,7 +70,7 @@ fn put16(out: &mut [u8], at: usize, x: u16)
 }
 
 // How many groups of this width hold n digits.
-fn groups(n: usize, width: usize) -> usize
+pub fn groups(n: usize, width: usize) -> usize
     requires { ⌜ (n ≤ 2 ^ 20) × (1 ≤ width) × (width ≤ 2 ^ 20) ⌝ }
     ensures { λ r. ⌜ r ≡ bytesFor n width ⌝ }
 {

@@ -18,25 +18,25 @@ use lib.Seq.{length-take-le}
 use borrow.Author.Tests.{ne-eqb}
 use Rattle.model.specs.declared.Table.{Table}
 use Rattle.model.specs.Numbers.{elem, allBelow}
-use Rattle.model.specs.Map.{Plan, darts, edges, isFamily, storesOutside, family}
+use Rattle.model.specs.Map.{Plan, darts, edges, isFamily, isKind, storesOutside, family}
 use Rattle.model.specs.Traversal.{Letter, code, word, standardFace}
 use Rattle.model.specs.Groups.{standardTable}
-use Rattle.model.specs.Record.{bytesFor, le16, headLength, payloadLength, recordLength, labelBase, headed, payloadOf, outsideBytes, recordOf}
+use Rattle.model.specs.Record.{bytesFor, le16, headLength, lengthVaries, payloadLength, recordLength, labelBase, headed, payloadOf, outsideBytes, recordOf}
 use Rattle.model.specs.Calls.{front}
 use Rattle.model.proofs.Fitness.{fit-parts, count-parts}
 use Rattle.model.proofs.Outside.{fit-widest}
-use Rattle.model.proofs.Heads.{family-two, family-four, kind-family, headLength-range, recordLength-range}
+use Rattle.model.proofs.Heads.{family-two, family-four, kind-family, family-not-three, family-varies, headLength-range, recordLength-range}
 use Rattle.words.specs.Word.{valid}
 use Rattle.words.proofs.Validity.{valid-fits, valid-strict, valid-plain, valid-of}
 use Rattle.machine.proofs.Sizes.{labels-bound}
 use Rattle.machine.proofs.Bounds.{bits-below}
 use Rattle.packing.specs.Payload.{hasLabels, valuePayload, Sized, extraBytes}
-use Rattle.packing.proofs.Groups.{relabelled-other, relabelled-two}
+use Rattle.packing.proofs.Groups.{groups-two, relabelled-other, relabelled-at}
 use Rattle.packing.proofs.Labelled.{labelled-strict, labelled-other}
 use Rattle.packing.proofs.Payload.{payload-length}
-use Rattle.lists.proofs.Records.{record-sized}
+use Rattle.lists.proofs.Records.{record-sized, record-length}
 use Rattle.coding.specs.Payloads.{encodeLabelled, encodePayload}
-use Rattle.coding.proofs.FitPlans.{fit-valid}
+use Rattle.fit_plans.proofs.FitPlans.{fit-valid}
 use Rattle.coding.proofs.Coders.{encode-sized, encode-values, payload-of-word}
 use Rattle.coding.proofs.Records.{coderOf}
 use Rattle.work.specs.Area.{region, placed}
@@ -87,7 +87,7 @@ module _ (n f at : ℕ) (w out : List ℕ) (r : Ready n f at w out) where
     letters-packed out′ e = let h = half in record { filled = rw four (rw h at e); kept = refl }
 
   labelled : f ≢ 4 → hasLabels f ≡ true
-  labelled = labelled-other f (r .is-family)
+  labelled = labelled-other f (r .is-family) (r .other)
 
   pub word-asked : f ≢ 4 → (valid 2 (lettersIn n w) ≡ true) × (16 * n ≤ length w)
   word-asked d = (valid-two f (lettersIn n w) (labelled d) (r .proper), r .room)
@@ -132,7 +132,7 @@ module _ (bs : List ℕ) (n f at : ℕ) (w out : List ℕ) (r : Ready n f at w o
   ps = encodePayload f (lettersIn n w)
 
   pub untabled : f ≢ 2 → Tabled bs n f at w out w₁ out₁
-  untabled d = record { filled = q .filled ∙ ap (λ (xs : List ℕ). placed at xs out) (sym (relabelled-other f (n / 2) ps bs d)); kept = q .kept }
+  untabled d = record { filled = q .filled ∙ ap (λ (xs : List ℕ). placed at xs out) (sym (relabelled-other f (n / 2) ps bs d (r .other))); kept = q .kept }
 
   module _ (two : f ≡ 2) where
     -- where the groups begin, and how many there are
@@ -151,7 +151,7 @@ module _ (bs : List ℕ) (n f at : ℕ) (w out : List ℕ) (r : Ready n f at w o
     whole : length ps ≡ front-bytes + count
     unfolding payloadLength
     whole =
-        let l = encode-sized f (lettersIn n w) (r .proper) .long in
+        let l = encode-sized f (r .other) (lettersIn n w) (r .proper) .long (ne-eqb f 3 (r .other)) in
         let e = begins in
         let s = ap (payloadLength f) halves in
         let d = family-two f (n / 2) two in
@@ -159,8 +159,8 @@ module _ (bs : List ℕ) (n f at : ℕ) (w out : List ℕ) (r : Ready n f at w o
 
     values : allBelow 243 (drop front-bytes ps) ≡ true
     values =
-        ap (λ (j : ℕ). allBelow 243 (drop j ps)) (begins ∙ ap (λ (j : ℕ). bytesFor (2 * j) 8) (sym halves))
-        ∙ encode-values f (lettersIn n w) (r .proper) two
+        ap (λ (j : ℕ). allBelow 243 (drop j ps)) (begins ∙ ap (λ (j : ℕ). bytesFor (2 * j) 8) (sym halves) ∙ sym (groups-two f (length (lettersIn n w) / 2) ps two))
+        ∙ encode-values f (r .other) (lettersIn n w) (r .proper)
 
     fs : List ℕ
     fs = take front-bytes ps
@@ -175,7 +175,7 @@ module _ (bs : List ℕ) (n f at : ℕ) (w out : List ℕ) (r : Ready n f at w o
 
     fits : at + length ps ≤ length out
     fits =
-        let l = encode-sized f (lettersIn n w) (r .proper) .long in
+        let l = encode-sized f (r .other) (lettersIn n w) (r .proper) .long (ne-eqb f 3 (r .other)) in
         let s = ap (payloadLength f) halves in
         let z = r .space in
         omega arith
@@ -228,15 +228,21 @@ module _ (bs : List ℕ) (n f at : ℕ) (w out : List ℕ) (r : Ready n f at w o
               ∙ placed-placed (at + front-bytes) gs (placed at fs out) (let k = room in omega arith) g lm
               ∙ (rw lf at (placed-next at fs g out (omega arith)))
               ∙ ap (λ (xs : List ℕ). placed at xs out)
-              (sym (relabelled-two f (n / 2) ps bs two ∙ ap (λ (j : ℕ). take j ps ++ map (λ v. getD bs v 0) (drop j ps)) (sym begins)));
+              (sym (relabelled-at f (n / 2) ps bs front-bytes (groups-two f (n / 2) ps two ∙ sym begins)));
           kept = q .kept;
         }
 
 -- ---- the record
 
-module _ (k : ℕ) (p : Plan) (w out : List ℕ) (r : ToLay k p w out) where
+module _ (k : ℕ) (p : Plan) (w out : List ℕ) (other : k ≢ 3) (r : ToLay k p w out) where
   abbrev m : ℕ
   m = edges (p .rotation)
+
+  fixed : lengthVaries k ≡ false
+  fixed = ne-eqb k 3 other
+
+  kind : isKind k ≡ true
+  kind = fit-parts k p (r .fits) .kind
 
   letters : lettersIn (darts p) w ≡ word p
   letters = letters-code (darts p) w (word p) (r .letters)
@@ -255,15 +261,16 @@ module _ (k : ℕ) (p : Plan) (w out : List ℕ) (r : ToLay k p w out) where
 
   pub head-room : headLength k ≤ length out
   unfolding recordLength
-  head-room = let z = r .space in omega arith
+  head-room = let z = r .space fixed in omega arith
 
   pub payload-asked : (f at : ℕ) (out₁ : List ℕ) → f ≡ family k → at ≡ headLength k → length out₁ ≡ length out → Ready (darts p) f at w out₁
   unfolding recordLength edges
   payload-asked f at out₁ of e same =
-      let z = r .space in
+      let z = r .space fixed in
       let h = headLength-range k in
       rw of (record {
-        is-family = kind-family k (fit-parts k p (r .fits) .kind);
+        is-family = kind-family k kind;
+        other = family-not-three k kind other;
         coded = r .letters ∙ ap (map code) (sym letters);
         proper = ap (valid (family k)) letters ∙ fit-valid k p (r .fits);
         room = r .room;
@@ -284,11 +291,11 @@ module _ (k : ℕ) (p : Plan) (w out : List ℕ) (r : ToLay k p w out) where
         → Headed total k m x out at out₁ → Tabled bs (darts p) f at w out₁ w₂ out₂ → Recorded t k p w out total w₂ out₂
     unfolding recordOf recordLength edges
     recorded t bs same total f at out₁ w₂ out₂ e of h q =
-        let whole = payload-of-word k t p (r .fits) in
-        let l = sized t .long in
-        let z = r .space in
+        let whole = payload-of-word k other t p (r .fits) in
+        let l = sized t .long (family-varies k kind ∙ fixed) in
+        let z = r .space fixed in
         record {
-          answered = e;
+          answered = e ∙ sym (record-length t k (coderOf k p (r .fits)) p (r .fits) fixed);
           filled = head-payload k m x total at (payloadOf t (family k) p) out out₁ out₂ (omega arith) (omega arith) h (q .filled ∙ rw (of, letters, ← same, sym whole))
               ∙ ap (λ (xs : List ℕ). front (headed k m (xs ++ payloadOf t (family k) p)) out) extra;
           kept = q .kept;

@@ -1,23 +1,24 @@
 -- Writing's refusals, the early ones before those of the plan itself.
 --
 --   refusal-table        writing's refusal is 19 where loading never gives the table
---   refusal-split        else it is the early one, else the late one
+--   refusal-split        else it is the early one, else the late one, else that of the record
 --   early-not-ten        an early refusal is not 10
 --   not-below            a dart that is none of n
---   two, three, four, seventeen, six, seven, eight, passed   the early refusals, test by test
+--   two, three, four, seventeen, six, seven, later, eight, passed   the early refusals, test by test
 --   Passed, early-parts  what a call that passes them is handed
 use Prim.Native.Nat.{ℕ, _*_, _≤_, _<_}
 use native.Mathlib.Omega.{arith}
 use mathlib.Core.Path.{_≡_, refl, sym, ap, _∙_}
-use mathlib.Core.Bool.{true, false, not, cond}
-use mathlib.Core.List.{[], _∷_}
+use mathlib.Core.Logic.{_≢_}
+use mathlib.Core.Bool.{true, false, not, _&&_, cond}
+use mathlib.Core.List.{[], _∷_, _++_}
 use lib.Dec.{eqb, ltb, leb}
-use borrow.Author.Tests.{lt-ltb, le-ltb, le-leb, ltb-true, ltb-false, leb-true, not-false}
+use borrow.Author.Tests.{eq-eqb, ne-eqb, lt-ltb, le-ltb, le-leb, ltb-true, ltb-false, leb-true, not-false}
 use Rattle.model.specs.declared.Table.{Table}
 use Rattle.model.specs.Numbers.{firstRefusal, refuse, isPermutation}
 use Rattle.model.specs.Map.{Plan, darts, edges, isKind, family, dartCountFits, outsideRefused}
-use Rattle.model.specs.Record.{recordLength}
-use Rattle.model.specs.Calls.{tableRefused, earlyRefusals, lateRefusals, writeRefusal}
+use Rattle.model.specs.Record.{lengthVaries, recordLength}
+use Rattle.model.specs.Calls.{tableRefused, earlyRefusals, lateRefusals, lastRefusals, writeRefusal}
 use Rattle.model.proofs.Booleans.{not-intro}
 use Rattle.model.proofs.Fitness.{even-darts}
 use Rattle.model.proofs.Refusals.{none-holds, first-lacks, first-append, table-stands, table-first}
@@ -30,9 +31,12 @@ unfolding writeRefusal
 refusal-table t k p wl ol e = table-first t _ e
 
 pub refusal-split : (t : Table) (k : ℕ) (p : Plan) (wl ol : ℕ) → tableRefused t ≡ false
-    → writeRefusal t k p wl ol ≡ cond (eqb (earlyRefusal k p wl ol) 0) (lateRefusal (family k) p) (earlyRefusal k p wl ol)
-unfolding writeRefusal earlyRefusal earlyRefusals lateRefusal
-refusal-split t k p wl ol stands = table-stands t _ stands ∙ first-append (earlyRefusals k p wl ol) (lateRefusals (family k) p) refl
+    → writeRefusal t k p wl ol ≡ cond (eqb (earlyRefusal k p wl ol) 0)
+    (cond (eqb (lateRefusal (family k) p) 0) (firstRefusal (lastRefusals t k p ol)) (lateRefusal (family k) p)) (earlyRefusal k p wl ol)
+unfolding writeRefusal earlyRefusal earlyRefusals lateRefusal lateRefusals
+refusal-split t k p wl ol stands =
+    table-stands t _ stands ∙ first-append (earlyRefusals k p wl ol) (lateRefusals (family k) p ++ lastRefusals t k p ol) refl
+    ∙ ap (λ (r : ℕ). cond (eqb (earlyRefusal k p wl ol) 0) r (earlyRefusal k p wl ol)) (first-append (lateRefusals (family k) p) (lastRefusals t k p ol) refl)
 
 pub early-not-ten : (k : ℕ) (p : Plan) (wl ol : ℕ) → eqb (earlyRefusal k p wl ol) 10 ≡ false
 unfolding earlyRefusal earlyRefusals
@@ -70,7 +74,7 @@ module _ (k : ℕ) (p : Plan) (wl ol : ℕ) where
           rest : earlyRefusal k p wl ol ≡ firstRefusal
               (refuse 6 (not (isPermutation (p .rotation)))
               ∷ refuse 7 (ltb wl (32 * edges (p .rotation)))
-              ∷ refuse 8 (ltb ol (recordLength k (edges (p .rotation))))
+              ∷ refuse 8 (not (lengthVaries k) && ltb ol (recordLength k (edges (p .rotation))))
               ∷ [])
           unfolding earlyRefusal earlyRefusals firstRefusal
           rest = rw (h2, h3, lt-ltb (p .root) (darts p) h4, h17)
@@ -85,13 +89,18 @@ module _ (k : ℕ) (p : Plan) (wl ol : ℕ) where
             seven e = rw (rest, h6, lt-ltb wl (32 * edges (p .rotation)) e)
 
             module _ (h7 : 32 * edges (p .rotation) ≤ wl) where
-              pub eight : ol < recordLength k (edges (p .rotation)) → 8 ≡ earlyRefusal k p wl ol
+              pub later : k ≡ 3 → 0 ≡ earlyRefusal k p wl ol
               unfolding firstRefusal
-              eight e = rw (rest, h6, le-ltb wl (32 * edges (p .rotation)) h7, lt-ltb ol (recordLength k (edges (p .rotation))) e)
+              later e = rw (rest, h6, le-ltb wl (32 * edges (p .rotation)) h7, eq-eqb k 3 e)
 
-              pub passed : recordLength k (edges (p .rotation)) ≤ ol → 0 ≡ earlyRefusal k p wl ol
-              unfolding firstRefusal
-              passed e = rw (rest, h6, le-ltb wl (32 * edges (p .rotation)) h7, le-ltb ol (recordLength k (edges (p .rotation))) e)
+              module _ (fixed : k ≢ 3) where
+                pub eight : ol < recordLength k (edges (p .rotation)) → 8 ≡ earlyRefusal k p wl ol
+                unfolding firstRefusal
+                eight e = rw (rest, h6, le-ltb wl (32 * edges (p .rotation)) h7, ne-eqb k 3 fixed, lt-ltb ol (recordLength k (edges (p .rotation))) e)
+
+                pub passed : recordLength k (edges (p .rotation)) ≤ ol → 0 ≡ earlyRefusal k p wl ol
+                unfolding firstRefusal
+                passed e = rw (rest, h6, le-ltb wl (32 * edges (p .rotation)) h7, ne-eqb k 3 fixed, le-ltb ol (recordLength k (edges (p .rotation))) e)
 
 -- ---- what a call that passes is handed
 
@@ -100,7 +109,7 @@ pub record Passed (k : ℕ) (p : Plan) (wl ol : ℕ) : Type 0 where
   pub root : p .root < darts p
   pub entries : isPermutation (p .rotation) ≡ true
   pub room : 16 * darts p ≤ wl
-  pub space : recordLength k (edges (p .rotation)) ≤ ol
+  pub space : lengthVaries k ≡ false → recordLength k (edges (p .rotation)) ≤ ol
 
 pub early-parts : (k : ℕ) (p : Plan) (wl ol : ℕ) → earlyRefusal k p wl ol ≡ 0 → Passed k p wl ol
 unfolding earlyRefusal earlyRefusals
@@ -114,5 +123,5 @@ early-parts k p wl ol e =
       root = ltb-true _ _ (not-false _ (no 4));
       entries = not-false _ (no 6);
       room = omega arith;
-      space = ltb-false _ _ (no 8);
+      space = λ fixed. ltb-false ol (recordLength k (edges (p .rotation))) (rw fixed at (no 8));
     }

@@ -3,6 +3,7 @@ use fitting::Verdict;
 use model::Table;
 use model::Written;
 ghost use mathlib.Core.Path.{_≡_};
+ghost use mathlib.Core.Logic.{_≢_};
 ghost use mathlib.Core.Bool.{true, not, _&&_};
 ghost use lib.Dec.{ltb};
 ghost use lib.ListN.{length};
@@ -11,7 +12,7 @@ ghost use Rattle.model.specs.Traversal.{standardFace};
 ghost use Rattle.model.specs.Calls.{Wrote};
 ghost use Rattle.outside.specs.Numbered.{Mapped};
 ghost use Rattle.writing.specs.Early.{earlyRefusal, Made};
-ghost use Rattle.writing.specs.Laid.{Ready, Packed, Tabled, ToLay, RecordedUnder};
+ghost use Rattle.writing.specs.Laid.{Ready, Packed, Tabled, ToLay, RecordedUnder, LaidUnder};
 
 // The kind stores the outside, and this is none of n darts.
 fn outside_refused(kind: u16, outside: u16, n: usize) -> bool
@@ -46,6 +47,9 @@ fn early(order: &[u16], root: u16, outside: u16, kind: u16, room: usize, space: 
     let m = n / 2;
     if room < 32 * m {
         return 7;
+    }
+    if kind == 3 {
+        return 0; // 8 comes last
     }
     if space < heads::record_length(kind, m as u16) {
         return 8;
@@ -89,7 +93,7 @@ fn stored(order: &[u16], root: u16, outside: u16, kind: u16, w: &[u16]) -> u16
     0
 }
 
-// The record of a plan that fits, whose word and faces are in the work area.
+// The record of a plan that fits a kind other than 3, whose word and faces are in the work area.
 fn laid_out(
     bytes: &[u8],
     order: &[u16],
@@ -99,7 +103,7 @@ fn laid_out(
     w: &mut [u16],
     out: &mut [u8],
 ) -> u16
-    requires { ⌜ (length (now bytes) ≡ 243) × ToLay kind (record { rotation = now order; root = root; outside = outside }) (now w) (now out) ⌝ }
+    requires { ⌜ (length (now bytes) ≡ 243) × (kind ≢ 3) × ToLay kind (record { rotation = now order; root = root; outside = outside }) (now w) (now out) ⌝ }
     ensures { λ r. ⌜ RecordedUnder (now (bytes .entry)) kind (record { rotation = now (order .entry); root = root; outside = outside })
         (now (w .entry)) (now (out .entry)) r (now (w .exit)) (now (out .exit)) ⌝ }
 {
@@ -110,6 +114,30 @@ fn laid_out(
     let at = packer::put_head(out, length, kind, m, x);
     put_payload(bytes, w, n, heads::family(kind), out, at);
     length
+}
+
+// The answer for a plan that fits: its record, but 8 where the record is known to be too long only now.
+fn written(
+    bytes: &[u8],
+    order: &[u16],
+    root: u16,
+    outside: u16,
+    kind: u16,
+    w: &mut [u16],
+    out: &mut [u8],
+) -> Written
+    requires { ⌜ (length (now bytes) ≡ 243) × ToLay kind (record { rotation = now order; root = root; outside = outside }) (now w) (now out) ⌝ }
+    ensures { λ r. ⌜ LaidUnder (now (bytes .entry)) kind (record { rotation = now (order .entry); root = root; outside = outside })
+        (now (w .entry)) (now (out .entry)) r (now (w .exit)) (now (out .exit)) ⌝ }
+{
+    if kind == 3 {
+        let length = mesh_writing::write(bytes, order, root, w, out);
+        if length == 0 {
+            return Written::Refused(8);
+        }
+        return Written::Length(length);
+    }
+    Written::Length(laid_out(bytes, order, root, outside, kind, w, out))
 }
 
 // The answer and the output, before the work area is cleared.
@@ -138,7 +166,7 @@ fn made<'a>(
     match v {
         Verdict::Refused(x) => Written::Refused(x),
         Verdict::NotPlanar(x) => Written::NotPlanar(x),
-        Verdict::Fits(_) => Written::Length(laid_out(bytes, order, root, outside, kind, w, out)),
+        Verdict::Fits(_) => written(bytes, order, root, outside, kind, w, out),
     }
 }
 

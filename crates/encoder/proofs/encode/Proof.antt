@@ -1,6 +1,8 @@
 use native.Mathlib.Omega.{arith}
-use Rattle.encoder.specs.Passes.{Scanned, Stays}
-use Rattle.encoder.proofs.Scanning.{stays-start, stays-then, scan-start, scan-next, scan-end}
+use Rattle.work.specs.Letters.{Stays}
+use Rattle.work.proofs.Letters.{stays-start, stays-then}
+use Rattle.encoder.specs.Passes.{Scanned}
+use Rattle.encoder.proofs.Scanning.{scan-start, scan-next, scan-end}
 use borrow.Author.Needs.{needs}
 use Rattle.encoder.proofs.encode.Statement.{statement}
 use Rattle.encoder.proofs.encode.Tie as tie

@@ -41,7 +41,7 @@ returns-2 c =
     rw (toZ-ofZ (small (c .before))) (curved (counted (c .before .before .before .before)) (x .ensures) (bits-not (x .result) 2 (c .if2 .taken)))
 
 local-requires : tie.Need-local-requires
-local-requires c κs = let l = counted (c .before .before .before .before) .looked in (l .entries, l .low, l .survey .searched)
+local-requires c κs = let l = counted (c .before .before .before .before) .looked in (l .fits, l .entries, l .low, l .survey .searched)
 
 -- the characteristic is 2
 flat : (c : tie.After-local) → is (c .before .before .euler .result) 2 ≡ true

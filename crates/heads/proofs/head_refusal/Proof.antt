@@ -1,6 +1,7 @@
 use native.Mathlib.Omega.{arith}
 use mathlib.Core.Path.{_≡_, sym, ap, ap₂, _∙_}
-use borrow.Author.Tests.{not-true, not-false}
+use mathlib.Core.Bool.{true≢false}
+use borrow.Author.Tests.{eq-eqb, ne-eqb, not-true, not-false}
 use Rattle.model.specs.Map.{isKind}
 use Rattle.model.specs.Record.{recordLength}
 use Rattle.model.specs.Shelf.{kindOf, edgesOf}
@@ -23,11 +24,16 @@ kinded c = record { whole = whole (c .before .before .before); kind = kind-is (c
 counted-is : (c : tie.Else5) → Counted (c .before .before .before .before .before .before .before .before .before .before .args .«record» .now)
 counted-is c = counted _ (kinded (c .before .before .before)) _ (c .before .before .field3 .ensures) (c .before .if4 .left) (omega arith)
 
+-- the kind in the bytes
+kind-read : (c : tie.Else5)
+    → c .before .before .before .before .before .field2 .result ≡ kindOf (c .before .before .before .before .before .before .before .before .before .before .args .«record» .now)
+kind-read c = c .before .before .before .before .before .field2 .ensures
+
 length-is : (c : tie.After-record-length)
-    → let r = c .before .before .before .before .before .before .before .before .before .before .before .args .«record» .now in
+    → let r = c .before .before .before .before .before .before .before .before .before .before .before .before .args .«record» .now in
     c .record-length .result ≡ recordLength (kindOf r) (edgesOf r)
 length-is c =
-    let m = c .before .before .before in
+    let m = c .before .before .before .before in
     c .record-length .ensures ∙ ap₂ recordLength (m .before .before .before .field2 .ensures) (m .field3 .ensures)
 
 returns : tie.Need-returns
@@ -46,10 +52,13 @@ returns-5 : tie.Need-returns-5
 returns-5 c = refuse-many _ (kinded (c .before .before .before)) _ (c .before .before .field3 .ensures) (omega arith)
 
 returns-6 : tie.Need-returns-6
-returns-6 c = refuse-size _ (counted-is (c .before .before)) (λ e. c .if6 .taken (length-is (c .before) ∙ sym e))
+returns-6 c = refuse-nothing _ (counted-is (c .before)) (λ v. absurd (true≢false (sym (eq-eqb _ 3 (sym (kind-read (c .before)) ∙ c .if6 .taken)) ∙ v)))
 
 returns-7 : tie.Need-returns-7
-returns-7 c = refuse-nothing _ (counted-is (c .before .before)) (sym (c .if6 .left) ∙ length-is (c .before))
+returns-7 c = refuse-size _ (counted-is (c .before .before .before)) (ne-eqb _ 3 (λ e. c .before .before .if6 .left (kind-read (c .before .before .before) ∙ e))) (λ e. c .if7 .taken (length-is (c .before) ∙ sym e))
+
+returns-8 : tie.Need-returns-8
+returns-8 c = refuse-nothing _ (counted-is (c .before .before .before)) (λ v. sym (c .if7 .left) ∙ length-is (c .before))
 
 pub head-refusal-spec : {M : Type 1} → statement M
 head-refusal-spec =
@@ -65,6 +74,7 @@ head-refusal-spec =
     (λ c κs. search needs)
     returns-4
     returns-5
-    (λ c κs. search needs)
     returns-6
-    returns-7)
+    (λ c κs. search needs)
+    returns-7
+    returns-8)

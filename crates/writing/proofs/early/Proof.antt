@@ -7,7 +7,7 @@ use borrow.Author.Tests.{not-true, not-false}
 use Rattle.model.specs.Numbers.{isPermutation}
 use Rattle.model.specs.Map.{edges, isKind, dartCountFits, outsideRefused}
 use Rattle.model.proofs.Fitness.{count-parts}
-use Rattle.writing.proofs.Refusing.{two, three, four, seventeen, six, seven, eight, passed}
+use Rattle.writing.proofs.Refusing.{two, three, four, seventeen, six, seven, later, eight, passed}
 use borrow.Author.Needs.{needs}
 use Rattle.writing.proofs.early.Statement.{statement}
 use Rattle.writing.proofs.early.Tie as tie
@@ -69,19 +69,27 @@ returns-6 c =
     seven _ _ _ _ (q .0) (q .1) (q .2) (q .3) (entries (c .before)) (c .if6 .taken)
 
 cast-record-length : tie.Need-cast-record-length
-cast-record-length c = let n = count-parts _ (named (c .before .before .before) .1) in omega arith
+cast-record-length c = let n = count-parts _ (named (c .before .before .before .before) .1) in omega arith
 
 returns-7 : tie.Need-returns-7
 unfolding edges
 returns-7 c =
-    let q = named (c .before .before .before .before .before) in
-    eight _ _ _ _ (q .0) (q .1) (q .2) (q .3) (entries (c .before .before .before)) (c .before .before .if6 .left) (omega (arith, c .before .record-length .ensures))
+    let q = named (c .before .before .before .before) in
+    later _ _ _ _ (q .0) (q .1) (q .2) (q .3) (entries (c .before .before)) (c .before .if6 .left) (c .if7 .taken)
 
 returns-8 : tie.Need-returns-8
 unfolding edges
 returns-8 c =
-    let q = named (c .before .before .before .before .before) in
-    passed _ _ _ _ (q .0) (q .1) (q .2) (q .3) (entries (c .before .before .before)) (c .before .before .if6 .left) (omega (arith, c .before .record-length .ensures))
+    let q = named (c .before .before .before .before .before .before) in
+    eight _ _ _ _ (q .0) (q .1) (q .2) (q .3) (entries (c .before .before .before .before)) (c .before .before .before .if6 .left) (c .before .before .if7 .left)
+    (omega (arith, c .before .record-length .ensures))
+
+returns-9 : tie.Need-returns-9
+unfolding edges
+returns-9 c =
+    let q = named (c .before .before .before .before .before .before) in
+    passed _ _ _ _ (q .0) (q .1) (q .2) (q .3) (entries (c .before .before .before .before)) (c .before .before .before .if6 .left) (c .before .before .if7 .left)
+    (omega (arith, c .before .record-length .ensures))
 
 pub early-spec : {M : Type 1} → statement M
 early-spec =
@@ -98,7 +106,8 @@ early-spec =
     returns-5
     mul-if6
     returns-6
+    returns-7
     cast-record-length
     (λ c κs. search needs)
-    returns-7
-    returns-8)
+    returns-8
+    returns-9)

@@ -38,8 +38,8 @@ judge-requires c κs =
     let q = early-parts _ _ _ _ (sym (c .before .before .before .early .ensures) ∙ c .before .before .if2 .left) in
     (q .count, q .entries, q .root, q .room)
 
-laid-out-requires : tie.Need-laid-out-requires
-laid-out-requires c κs = (c .before .before .before .before .before .before .before .before .before .before .before .before .before .before .before .before .before .before .pre .0, to-lay (told (c .before .before .before .before .before .before)) (c .before .before .enum-told .given .1))
+written-requires : tie.Need-written-requires
+written-requires c κs = (c .before .before .before .before .before .before .before .before .before .before .before .before .before .before .before .before .before .before .pre .0, to-lay (told (c .before .before .before .before .before .before)) (c .before .before .enum-told .given .1))
 
 returns-3 : tie.Need-returns-3
 returns-3 c = judged-refused (told (c .before .before .before .before .before)) (c .before .v .given .1)
@@ -52,7 +52,7 @@ returns-4 c =
 returns-5 : tie.Need-returns-5
 returns-5 c =
     let t = table (c .before .before .before .before .before .before .before .before .before .before .before .before .before .before .before .before .before .before .before .before .before .before .before) in
-    made (told (c .before .before .before .before .before .before .before .before .before .before .before)) (c .before .before .before .before .before .before .before .enum-told .given .1) (c .before .before .before .before .laid-out .ensures t refl)
+    made (told (c .before .before .before .before .before .before .before .before .before .before .before)) (c .before .before .before .before .before .before .before .enum-told .given .1) (c .before .before .before .before .written .ensures t refl)
 
 pub made-spec : {M : Type 1} → statement M
 made-spec =
@@ -67,7 +67,7 @@ made-spec =
     (λ c. search needs)
     (λ c. search needs)
     (λ c. search needs)
-    laid-out-requires
+    written-requires
     (λ c. search needs)
     returns-3
     (λ c. search needs)

@@ -1,0 +1,3 @@
+mod Letters
+mod Scanning
+mod Coding

@@ -1,0 +1,3 @@
+mod Coding
+mod Laying
+mod Recording

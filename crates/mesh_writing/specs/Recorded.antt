@@ -1,0 +1,18 @@
+-- What writing a mesh leaves.
+--
+--   MeshRecorded         the record's length and the record under every table with these bytes; 0 and no record where there is no room for it
+use Prim.Native.Nat.{ℕ}
+use mathlib.Core.Path.{_≡_}
+use mathlib.Core.Bool.{cond}
+use mathlib.Core.List.{List}
+use lib.Dec.{ltb}
+use lib.ListN.{length}
+use Rattle.model.specs.declared.Table.{Table}
+use Rattle.model.specs.Map.{Plan}
+use Rattle.model.specs.Record.{recordOf}
+use Rattle.model.specs.Calls.{front}
+
+pub record MeshRecorded (bs : List ℕ) (p : Plan) (w out : List ℕ) (r : ℕ) (w′ out′ : List ℕ) : Type 0 where
+  pub answered : (t : Table) → t .bytes ≡ bs → r ≡ cond (ltb (length out) (length (recordOf t 3 p))) 0 (length (recordOf t 3 p))
+  pub filled : (t : Table) → t .bytes ≡ bs → out′ ≡ cond (ltb (length out) (length (recordOf t 3 p))) out (front (recordOf t 3 p) out)
+  pub kept : length w′ ≡ length w
