@@ -22,7 +22,7 @@ label-count m w h = length-region (LABELS * (2 * m)) m w (omega arith)
 
 pub labels-kept : {x : Letter} {m : ℕ} {w : List ℕ} {s : State} {e : ℕ} {t : State} {w′ : List ℕ} → Stepped x m w s e t w′
     → labelsAt m w′ ≡ labelsAt m w
-labels-kept {m = m} g = g .past (LABELS * (2 * m)) m (omega arith)
+labels-kept {m = m} g = g .beside (LABELS * (2 * m)) m (omega arith) (λ l. omega arith)
 
 pub label-first : (ls es : List ℕ) → 0 < length es → head (labelsOf ls es) ≡ getD ls (head es) 0
 unfolding labelsOf

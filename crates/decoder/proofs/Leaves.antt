@@ -37,6 +37,6 @@ module _ (m : ℕ) (w : List ℕ) (s : State) (e : ℕ) (g : Standing m w s) (r 
               ∙ ap (entered (2 * e + 1) (2 * e + 1)) (dart-entered m w (s .depth) (s .opens) (s .place) (2 * e) q)
               ∙ sym (ap (λ (p : Parts). partsAfter up p mid e) (a .parts-are));
           kept = simp length-set refl;
-          past = λ b k l. region-beside w _ _ _ _ b k (λ z. absurd (omega arith)) (λ z. absurd (omega arith)) ∙ sym (a .past b k l);
+          beside = λ b k l f. region-beside w _ _ _ _ b k (λ z. absurd (omega arith)) (λ z. absurd (omega arith)) ∙ sym (a .beside b k l f);
         };
       }

@@ -21,11 +21,11 @@ use Rattle.model.specs.Traversal.{Letter}
 use Rattle.packing.specs.Payload.{hasLabels, Sized, payloadBits, payloadLabels, payloadClean}
 use Rattle.packing.specs.Groups.{undone}
 use Rattle.packing.proofs.Groups.{undone-bits}
-use Rattle.words.specs.Word.{Machine, Found, found, none, after, done, stuck, turn, start, head, wordDarts, rotationOf, decodeWord}
+use Rattle.words.specs.Word.{Machine, Found, found, after, done, stuck, turn, start, head, wordDarts, rotationOf, decodeWord}
 use Rattle.machine.specs.Reading.{left, run}
-use Rattle.words.proofs.Found.{wordIn}
+use Rattle.words.proofs.Found.{wordIn, after-none}
 use Rattle.machine.proofs.Runs.{turn-left, turn-none, run-on, run-done, run-stuck, decodeWord-run}
-use Rattle.work.specs.Map.{BEGUN}
+use Rattle.work.specs.Map.{LABELS, BEGUN}
 use Rattle.work.specs.Area.{region, placed, stack}
 use Rattle.work.proofs.Stacks.{length-stack}
 use Rattle.decoder.specs.declared.Cursor.{Cursor}
@@ -57,10 +57,6 @@ pub record Running (m : ℕ) (bs w₀ w : List ℕ) (s : State) (l : ℕ) (c : C
 pub left-is : (m : ℕ) (bs w : List ℕ) (s : State) (l : ℕ) (c : Cursor) → left (machineAt m bs w s l c) ≡ length bs - c .bits + s .opens
 unfolding machineOf partsOf
 left-is m bs w s l c = rw (length-drop (c .bits) bs, length-stack (BEGUN * (2 * m)) (s .opens) w)
-
-nothing-after : (xs : List Letter) → after xs none ≡ none
-nothing-after [] = refl
-nothing-after (x ∷ xs) = refl
 
 only-these : (xs : List Letter) → after xs (found []) ≡ found xs
 only-these [] = refl
@@ -115,7 +111,7 @@ module _ (m : ℕ) (bs w₀ : List ℕ) where
     pub answer-stuck : (w′ : List ℕ) → turn here ≡ stuck → Answered (decodeWord bs (labelsAt m w₀)) (2 * m) false w′
     answer-stuck w′ e = record {
       word-found = λ f. absurd (false≢true f);
-      none-found = λ f. decodeWord-run bs (labelsAt m w₀) ∙ sym (i .answer) ∙ ap (after (i .letters)) (run-stuck here e) ∙ nothing-after (i .letters);
+      none-found = λ f. decodeWord-run bs (labelsAt m w₀) ∙ sym (i .answer) ∙ ap (after (i .letters)) (run-stuck here e) ∙ after-none (i .letters);
     }
 
     -- w′ has dart 0 where the last dart waits for its successor
@@ -169,6 +165,7 @@ module _ (m : ℕ) (bs w : List ℕ) (s : State) (l : ℕ) (c : Cursor) (o : Out
 pub record Prepared (inv : List ℕ) (k m : ℕ) (ps w : List ℕ) : Type 0 where
   pub clean : payloadClean k m (undone inv k m ps) ≡ true
   pub sizes : (1 ≤ m) × (m ≤ 4096) × (2 * m ≤ 8 * length ps)
+  pub has : hasLabels k ≡ true
   pub sized : Sized k m ps
   pub room : 32 * m ≤ length w
   pub labelled : labelsAt m w ≡ payloadLabels k m (undone inv k m ps)
@@ -185,9 +182,10 @@ module _ (inv : List ℕ) (k m : ℕ) (ps : List ℕ) where
       record {
         clean = e;
         sizes = (h .some-edge, h .few-edges, bits-room ps m k has h);
+        has = has;
         sized = h;
         room = room;
-        labelled = same ∙ l;
+        labelled = same (LABELS * (2 * m)) m (omega arith) ∙ l;
         blank = blank;
       }
 
@@ -198,4 +196,4 @@ module _ (inv : List ℕ) (k m : ℕ) (ps : List ℕ) where
   pub answer-clean : (n : ℕ) (w : List ℕ) (b : Bool) (w′ : List ℕ) → Prepared inv k m ps w
       → Answered (decodeWord (payloadBits m ps) (labelsAt m w)) n b w′ → Answered (decodeLabelled k m vs) n b w′
   unfolding decodeLabelled
-  answer-clean n w b w′ p a = rw (p .clean, ← p .labelled, undone-bits k m ps inv (p .sized)) a
+  answer-clean n w b w′ p a = rw (p .clean, ← p .labelled, undone-bits k m ps inv (p .sized) (p .has)) a

@@ -1,4 +1,3 @@
-mod Nested
 mod Digits
 mod Moves
 mod Runs

@@ -10,8 +10,9 @@ ghost use Rattle.words.specs.Word.{nestedWord};
 ghost use Rattle.packing.specs.Letters.{digitLetter, payloadLetters, lettersClean};
 ghost use Rattle.coding.specs.Payloads.{decodeLetters};
 ghost use Rattle.work.specs.Area.{region};
+ghost use Rattle.builder.specs.Moves.{Fits};
 ghost use Rattle.builder.specs.Decoded.{Answered};
-ghost use Rattle.letter_decoder.specs.Reading.{lettersOf, pairAt, Fits, Read};
+ghost use Rattle.letter_decoder.specs.Reading.{lettersOf, pairAt, Read};
 use builder::State;
 
 // What reading letters comes to: the state after them and how many edges have begun, or that no nested word goes on with them.

@@ -1,6 +1,6 @@
 -- The record of a fit plan under a table t, as a reader meets it, and that reading it has one outcome.
 --
---   record-length, record-kind   its length, and its kind
+--   record-length, record-kind   its length, where its kind and size fix it, and its kind
 --   own-record           the plan has it
 --   one-standard, one-outside   plans with one record have one standard rotation, and reading returns one outside for them
 --   read-plan            what reading gives back has the record
@@ -18,11 +18,12 @@ use Rattle.model.specs.declared.ReadBack.the-variants as readback
 use Rattle.model.specs.Numbers.{allBelow}
 use Rattle.model.specs.Map.{Plan, edges, fit}
 use Rattle.model.specs.Traversal.{standardRotation, standardPlan}
-use Rattle.model.specs.Record.{recordLength, recordOf}
+use Rattle.model.specs.Record.{lengthVaries, recordLength, recordOf}
 use Rattle.model.specs.Shelf.{kindOf, edgesOf, passes}
 use Rattle.model.specs.Calls.{front, tableRefused, HasRecord, outsideRead, Reads, refused, read, unreadable}
 use Rattle.model.proofs.Outside.{withOutside}
-use Rattle.lists.specs.Coder.{rooted, outsideOf}
+use Rattle.words.specs.Word.{rooted}
+use Rattle.lists.specs.Coder.{outsideOf}
 use Rattle.lists.proofs.Records as coded
 use Rattle.coding.proofs.Records.{coderOf}
 use Rattle.reading.proofs.Checks.{clear-stands}
@@ -57,7 +58,7 @@ read-plan t stands r p h =
     (coded.decodes-has t stands r c (c .codes p) (has-passes t r p h) bytes found sound))
 
 module _ (t : Table) (k : ℕ) (p : Plan) (fits : fit k p ≡ true) where
-  pub record-length : length (recordOf t k p) ≡ recordLength k (edges (p .rotation))
+  pub record-length : lengthVaries k ≡ false → length (recordOf t k p) ≡ recordLength k (edges (p .rotation))
   record-length = coded.record-length t k (coderOf k p fits) p fits
 
   pub record-kind : kindOf (recordOf t k p) ≡ k

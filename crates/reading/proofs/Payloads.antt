@@ -2,37 +2,41 @@
 --
 --   letters-asked, letters-answered   family 4: what reading its letters asks, and that it gives the answer
 --   labels-asked, labels-answered   another: the same of reading its tree bits and labels
+--   mesh-asked, mesh-decoded   kind 3: what reading the payload asks, and that its answer is the answer for the record
 --   outer-head, plain-head   a kind that stores the outside has eight bytes before it, another six, and is its own family
 --   payload-sized        it is as long as the payload of its family and size
 --   record-decoded       the answer for the payload is the answer for the record
-use Prim.Native.Nat.{ℕ, _-_, _*_, _≤_}
+use Prim.Native.Nat.{ℕ, _-_, _*_, _≤_, _<_}
 use native.Mathlib.Omega.{arith}
-use mathlib.Core.Path.{_≡_}
+use mathlib.Core.Path.{_≡_, ap, _∙_}
 use mathlib.Core.Logic.{_≢_}
 use mathlib.Core.Bool.{Bool, true, false}
 use mathlib.Core.List.{List}
 use lib.ListN.{length, take, drop, length-drop}
 use lib.Seq.{take-all}
 use borrow.Author.Tests.{ne-eqb}
+use Rattle.model.specs.Numbers.{allBelow}
 use Rattle.model.specs.Map.{storesOutside, family}
 use Rattle.model.specs.Record.{bytesFor, headLength, recordLength}
-use Rattle.model.specs.Shelf.{kindOf, edgesOf, passes}
-use Rattle.model.proofs.Heads.{family-four, passes-facts}
+use Rattle.model.specs.Shelf.{word16, kindOf, edgesOf, passes}
+use Rattle.model.proofs.Permutations.{below-all}
+use Rattle.model.proofs.Heads.{family-four, stores-fixed, passes-facts}
 use Rattle.heads.proofs.Head.{head-stores, head-plain, family-plain}
 use Rattle.packing.specs.Payload.{hasLabels, Sized}
 use Rattle.packing.specs.Groups.{undone}
 use Rattle.packing.proofs.Groups.{undone-other}
 use Rattle.packing.proofs.Labelled.{labelled-other}
 use Rattle.packing.proofs.Headed.{passes-sized}
-use Rattle.coding.specs.Payloads.{decodeLabelled, decodeLetters, decodePayload, decodeRecord}
+use Rattle.coding.specs.Payloads.{decodeLabelled, decodeLetters, decodePayload, decodeRecord, decodeMesh, decodeMeshRecord}
+use Rattle.mesh_reading.specs.Read.{MeshRead}
 use Rattle.builder.specs.Decoded.{Answered}
 
-module _ (f m : ℕ) (ps : List ℕ) (s : Sized f m ps) where
+module _ (f m : ℕ) (ps : List ℕ) (s : Sized f m ps) (other : f ≢ 3) where
   pub letters-asked : f ≡ 4 → (1 ≤ m) × (m ≤ 4096) × (length ps ≡ bytesFor m 2)
-  letters-asked e = let l = s .long in let q = family-four f m e in (s .some-edge, s .few-edges, omega arith)
+  letters-asked e = let l = s .long (ne-eqb f 3 other) in let q = family-four f m e in (s .some-edge, s .few-edges, omega arith)
 
   pub labels-asked : (inv : List ℕ) → length inv ≡ 256 → f ≢ 4 → (hasLabels f ≡ true) × Sized f m ps × (length inv ≡ 256)
-  labels-asked inv wide d = (labelled-other f (s .is-family) d, s, wide)
+  labels-asked inv wide d = (labelled-other f (s .is-family) other d, s, wide)
 
 module _ (inv : List ℕ) (f m : ℕ) (ps : List ℕ) (b : Bool) (w : List ℕ) where
   abbrev vs : List ℕ
@@ -40,22 +44,46 @@ module _ (inv : List ℕ) (f m : ℕ) (ps : List ℕ) (b : Bool) (w : List ℕ) 
 
   pub letters-answered : f ≡ 4 → Answered (decodeLetters m ps) (2 * m) b w → Answered (decodePayload f m vs) (2 * m) b w
   unfolding decodePayload
-  letters-answered e a = rw (undone-other inv ps f m (λ two. omega arith), e) a
+  letters-answered e a = rw (undone-other inv ps f m (λ two. omega arith) (λ three. omega arith), e) a
 
   pub labels-answered : f ≢ 4 → Answered (decodeLabelled f m vs) (2 * m) b w → Answered (decodePayload f m vs) (2 * m) b w
   unfolding decodePayload
   labels-answered d a = rw (ne-eqb f 4 d) a
 
-module _ (r : List ℕ) (passed : passes r ≡ true) where
-  fits : headLength (kindOf r) ≤ length r
-  unfolding recordLength
-  fits = let l = passes-facts r passed .right-length in omega arith
+-- ---- a mesh
 
+module _ (r : List ℕ) (passed : passes r ≡ true) (m : ℕ) (m-is : m ≡ edgesOf r) where
+  mesh-part : take (length r - 6) (drop 6 r) ≡ drop 6 r
+  mesh-part = take-all (length r - 6) (drop 6 r) (let e = length-drop 6 r in omega arith)
+
+  pub mesh-asked : (inv w out : List ℕ) → length inv ≡ 256 → allBelow 256 r ≡ true → 32 * edgesOf r ≤ length w → 2 * edgesOf r ≤ length out
+      → (length inv ≡ 256) × (1 ≤ m) × (m ≤ 4096) × (length (take (length r - 6) (drop 6 r)) < 65536) × (32 * m ≤ length w) × (2 * m ≤ length out)
+  unfolding word16
+  mesh-asked inv w out wide bytes room space =
+      let f = passes-facts r passed in
+      let some = f .some-edge in
+      let few = f .few-edges in
+      let field = f .length-field in
+      let head = f .whole-head in
+      let a = below-all 256 r bytes 0 (omega arith) in
+      let b = below-all 256 r bytes 1 (omega arith) in
+      let l = ap length mesh-part ∙ length-drop 6 r in
+      (wide, omega arith, omega arith, omega arith, omega arith, omega arith)
+
+  pub mesh-decoded : (inv : List ℕ) (b : Bool) (out out′ : List ℕ) → MeshRead (decodeMesh m (undone inv 3 m (take (length r - 6) (drop 6 r)))) b out out′
+      → MeshRead (decodeMeshRecord inv r) b out out′
+  unfolding decodeMeshRecord
+  mesh-decoded inv b out out′ a = rw (mesh-part, m-is) at a
+
+-- ---- another kind
+
+module _ (r : List ℕ) (passed : passes r ≡ true) where
   pub outer-head : storesOutside (kindOf r) ≡ true → (8 ≡ headLength (kindOf r)) × (8 ≤ length r)
-  outer-head s = let h = head-stores (kindOf r) s in let l = fits in (h, omega arith)
+  unfolding recordLength
+  outer-head s = let h = head-stores (kindOf r) s in let l = passes-facts r passed .right-length (stores-fixed (kindOf r) s) in (h, omega arith)
 
   pub plain-head : storesOutside (kindOf r) ≡ false → (6 ≡ headLength (kindOf r)) × (6 ≤ length r) × (kindOf r ≡ family (kindOf r))
-  plain-head s = let h = head-plain (kindOf r) s in let l = fits in (h, omega arith, family-plain (kindOf r) s)
+  plain-head s = let h = head-plain (kindOf r) s in (h, passes-facts r passed .whole-head, family-plain (kindOf r) s)
 
   module _ (f m at : ℕ) (f-is : f ≡ family (kindOf r)) (m-is : m ≡ edgesOf r) (at-is : at ≡ headLength (kindOf r)) where
     abbrev part : List ℕ

@@ -10,8 +10,9 @@
 use Prim.Native.Nat.{ℕ, _*_, _≤_}
 use native.Mathlib.Omega.{arith}
 use mathlib.Core.Path.{_≡_, refl, sym, ap, ap₂, subst, _∙_}
-use mathlib.Core.Bool.{true, false}
+use mathlib.Core.Bool.{Bool, true, false, not, _&&_, cond}
 use mathlib.Core.List.{List}
+use lib.Dec.{ltb}
 use lib.ListN.{length, take, drop}
 use lib.Seq.{take-at}
 use borrow.Author.Tests.{lt-ltb, le-ltb, eq-eqb}
@@ -23,13 +24,13 @@ use Rattle.model.specs.declared.ReadBack.the-variants as readback
 use Rattle.model.specs.Numbers.{firstRefusal}
 use Rattle.model.specs.Map.{Plan, edges, fit}
 use Rattle.model.specs.Traversal.{standardRotation, standardPlan}
-use Rattle.model.specs.Record.{recordLength, recordOf}
+use Rattle.model.specs.Record.{lengthVaries, recordLength, recordOf}
 use Rattle.model.specs.Shelf.{kindOf, edgesOf}
-use Rattle.model.specs.Calls.{front, tableRefused, earlyRefusals, lateRefusals, writeRefusal, answerOf, writeAnswer, writtenOutput, Wrote, readRefusal, HasRecord, outsideRead, Reads, refused, read, unreadable, ReadCall, edgesOfRead, outsideOfRead}
+use Rattle.model.specs.Calls.{front, tableRefused, earlyRefusals, lateRefusals, lastRefusals, writeRefusal, answerOf, writeAnswer, writtenOutput, Wrote, readRefusal, HasRecord, outsideRead, Reads, refused, read, unreadable, ReadCall, edgesOfRead, outsideOfRead}
 use Rattle.model.specs.Writings.{Writing, MeetsContract, isAccepted, bytesWritten}
 use Rattle.model.proofs.Fitness.{fit-parts, even-darts}
 use Rattle.model.proofs.Outside.{withOutside}
-use Rattle.lists.specs.Coder.{rooted}
+use Rattle.words.specs.Word.{rooted}
 use Rattle.lists.proofs.Calls.{accepted-stands, accepted-fit, accepted-bytes}
 use Rattle.reading.proofs.Answers.{not-both}
 use Rattle.reading.proofs.Checks.{past-table, clear-stands, facts-early}
@@ -82,7 +83,7 @@ module _ (t : Table) (k : ℕ) (p : Plan) (w o : List ℕ) (n : ℕ) (w′ o′ 
 
   pub wrote-bytes : take n o′ ≡ recordOf t k p
   unfolding bytesWritten call isAccepted
-  wrote-bytes = accepted-bytes t call honest accepted (record-length t k p wrote-fit)
+  wrote-bytes = accepted-bytes t call honest accepted
 
   wrote-has : HasRecord t (take n o′) p
   wrote-has = subst (λ (s : List ℕ). HasRecord t s p) (sym wrote-bytes) (own-record t k p wrote-fit)
@@ -97,17 +98,41 @@ module _ (t : Table) (k : ℕ) (p : Plan) (w o : List ℕ) (n : ℕ) (w′ o′ 
 -- ---- writing what reading gave
 
 -- a fit plan with room is not refused
-fit-accepted : (t : Table) (k : ℕ) (p : Plan) (w o : ℕ) → tableRefused t ≡ false → fit k p ≡ true → 32 * edges (p .rotation) ≤ w → recordLength k (edges (p .rotation)) ≤ o
+fit-accepted : (t : Table) (k : ℕ) (p : Plan) (w o : ℕ) → tableRefused t ≡ false → fit k p ≡ true → 32 * edges (p .rotation) ≤ w → length (recordOf t k p) ≤ o
     → writeRefusal t k p w o ≡ 0
-unfolding writeRefusal earlyRefusals lateRefusals firstRefusal
+unfolding writeRefusal earlyRefusals lateRefusals lastRefusals firstRefusal
 fit-accepted t k p w o stands fits h l =
     let f = fit-parts k p fits in
-    rw (stands, f .kind, f .count, lt-ltb _ _ (f .root), f .outside, f .entries, le-ltb w _ h, le-ltb o _ l, f .joined, f .flat, f .loops, f .degrees)
+    let room = le-ltb o (length (recordOf t k p)) l in
+    rw (
+      stands,
+      f .kind,
+      f .count,
+      lt-ltb _ _ (f .root),
+      f .outside,
+      f .entries,
+      le-ltb w _ h,
+      early (lengthVaries k) refl,
+      f .joined,
+      f .flat,
+      f .loops,
+      f .triangles,
+      f .degrees,
+      room,
+    ) (late (lengthVaries k))
+  where
+    early : (b : Bool) → lengthVaries k ≡ b → (not b && ltb o (recordLength k (edges (p .rotation)))) ≡ false
+    early true e = refl
+    early false e = le-ltb o _ (subst (λ (n : ℕ). n ≤ o) (record-length t k p fits e) l)
+
+    late : (b : Bool) → _≡_ {A = ℕ} (cond (b && false) 8 0) 0
+    late true = refl
+    late false = refl
 
 module _ (t : Table) (stands : tableRefused t ≡ false) (k : ℕ) (p : Plan) (fits : fit k p ≡ true) (w o : List ℕ) (answer : Written) (w′ o′ : List ℕ) (wrote : Wrote t k p w o answer w′ o′) where
   -- a call with room writes the record
-  pub write-fit : 32 * edges (p .rotation) ≤ length w → recordLength k (edges (p .rotation)) ≤ length o
-      → (answer ≡ written.Length (recordLength k (edges (p .rotation)))) × (o′ ≡ front (recordOf t k p) o)
+  pub write-fit : 32 * edges (p .rotation) ≤ length w → length (recordOf t k p) ≤ length o
+      → (answer ≡ written.Length (length (recordOf t k p))) × (o′ ≡ front (recordOf t k p) o)
   unfolding writeAnswer answerOf writtenOutput
   write-fit h l =
       let e = fit-accepted t k p (length w) (length o) stands fits h l in
@@ -160,6 +185,6 @@ module _ (t : Table) (r work out : List ℕ) (m x : ℕ) (work′ out′ : List 
       let has = given-plan .1 in
       let e = has-edges t r q has in
       let same = given-plan .0 in
-      let size = ap length (sym (has .1)) ∙ record-length t (kindOf r) q (has .0) in
+      let size : length (recordOf t (kindOf r) q) ≡ length r = ap length (has .1) in
       let done = write-fit t stands (kindOf r) q (has .0) w o answer w′ o′ wrote (omega arith) (omega arith) in
-      (done .0 ∙ ap written.Length (sym size), done .1 ∙ ap (λ (b : List ℕ). front b o) (has .1))
+      (done .0 ∙ ap written.Length size, done .1 ∙ ap (λ (b : List ℕ). front b o) (has .1))

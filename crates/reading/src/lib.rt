@@ -1,6 +1,7 @@
 // Reading, the call: any bytes come back as the plan in its standard numbering, or as one refusal. It puts the test of the table, the head checks and the
 // decoder in order and clears the work area; how a payload is decoded is not known here.
 ghost use mathlib.Core.Path.{_≡_};
+ghost use mathlib.Core.Logic.{_≢_};
 ghost use mathlib.Core.Bool.{true, _&&_};
 ghost use Prim.Native.Nat.{_*_, _≤_};
 ghost use lib.Dec.{eqb, ltb};
@@ -15,7 +16,7 @@ ghost use Rattle.coding.specs.Payloads.{decodePayload};
 ghost use Rattle.work.specs.Area.{region};
 ghost use Rattle.builder.specs.Decoded.{Answered};
 ghost use Rattle.reading.specs.Early.{earlyRefusal};
-ghost use Rattle.reading.specs.Planned.{Inverse, PlannedUnder};
+ghost use Rattle.reading.specs.Planned.{Inverse, PlannedUnder, MeshUnder};
 use model::ReadBack;
 use model::Table;
 
@@ -37,9 +38,9 @@ fn early(record: &[u8], work: usize, out: usize) -> u16
     0
 }
 
-// The standard plan of a payload of this family, under the table with this inverse: whether there is one, and its rotation in the first 2m entries.
+// The standard plan of a payload of this family, which is not 3, under the table with this inverse: whether there is one, and its rotation in the first 2m entries.
 fn decode(payload: &[u8], family: u16, inverse: &[u8], m: usize, w: &mut [u16]) -> bool
-    requires { ⌜ Sized family m (now payload) × (length (now inverse) ≡ 256) ⌝ }
+    requires { ⌜ Sized family m (now payload) × (length (now inverse) ≡ 256) × (family ≢ 3) ⌝ }
     requires { ⌜ 32 * m ≤ length (now w) ⌝ }
     ensures { λ r. ⌜ Answered (decodePayload family m (undone (now (inverse .entry)) family m (now (payload .entry)))) (2 * m) r (now (w .exit)) ⌝ }
 {
@@ -78,9 +79,9 @@ fn read_outer(inverse: &[u8], record: &[u8], kind: u16, m: u16, w: &mut [u16]) -
     ReadBack::Refused(13)
 }
 
-// The standard plan of a record whose head passes, in the first 2m entries of a work area with room, or 13. The work area is not cleared.
+// The standard plan of a record of a kind other than 3 whose head passes, in the first 2m entries of a work area with room, or 13. The work area is not cleared.
 fn read_core(inverse: &[u8], record: &[u8], w: &mut [u16]) -> ReadBack
-    requires { ⌜ Inverse (now inverse) × (passes (now «record») ≡ true) × (32 * edgesOf (now «record») ≤ length (now w)) ⌝ }
+    requires { ⌜ Inverse (now inverse) × (passes (now «record») ≡ true) × (32 * edgesOf (now «record») ≤ length (now w)) × (kindOf (now «record») ≢ 3) ⌝ }
     ensures { λ r. ⌜ PlannedUnder (now (inverse .entry)) (now («record» .entry)) r (now (w .exit)) ⌝ }
 {
     let kind = heads::field(record, 2);
@@ -93,6 +94,20 @@ fn read_core(inverse: &[u8], record: &[u8], w: &mut [u16]) -> ReadBack
         return ReadBack::Edges(m, 0);
     }
     ReadBack::Refused(13)
+}
+
+// The standard plan of a record of kind 3 whose head passes, in the output, or 13. The work area is not cleared.
+fn read_mesh(inverse: &[u8], record: &[u8], w: &mut [u16], out: &mut [u16]) -> ReadBack
+    requires { ⌜ Inverse (now inverse) × (passes (now «record») ≡ true) × (kindOf (now «record») ≡ 3) × (32 * edgesOf (now «record») ≤ length (now w))
+        × (2 * edgesOf (now «record») ≤ length (now out)) ⌝ }
+    ensures { λ r. ⌜ MeshUnder (now (inverse .entry)) (now («record» .entry)) (now (out .entry)) r (now (out .exit)) ⌝ }
+{
+    let m = heads::field(record, 4);
+    let found = mesh_reading::read(&record[6..], inverse, m as usize, w, out);
+    if !found {
+        return ReadBack::Refused(13);
+    }
+    ReadBack::Edges(m, 0)
 }
 
 // The table, the checks, then 13, then the plan to the output.
@@ -112,6 +127,9 @@ fn read_out<'a>(
     let e = early(record, work.len(), out.len());
     if e != 0 {
         return ReadBack::Refused(e);
+    }
+    if heads::field(record, 2) == 3 {
+        return read_mesh(inverse, record, work, out);
     }
     match read_core(inverse, record, work) {
         ReadBack::Edges(m, x) => {

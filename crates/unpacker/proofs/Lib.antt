@@ -1,3 +1,3 @@
 pub mod Payload
-mod Padding
+pub mod Padding
 mod Labels

@@ -5,21 +5,21 @@
 --   cleanParts, clean-one, clean-two   what makes a payload of kind 1, and of kind 2, clean
 use Prim.Native.Nat.{ℕ, _+_, _-_, _*_, _/_, _≤_, _<_}
 use native.Mathlib.Omega.{arith}
-use mathlib.Core.Path.{_≡_, sym, ap, _∙_}
+use mathlib.Core.Path.{_≡_, ap}
 use mathlib.Core.Logic.{_≢_}
 use mathlib.Core.Bool.{Bool, true, false, _&&_}
-use mathlib.Core.List.{List, _++_}
-use lib.ListN.{length, getD, take, drop, length-drop, take-append-drop}
-use lib.Seq.{take-all, take-at, length-take-le, getD-take}
+use mathlib.Core.List.{List}
+use lib.ListN.{length, getD, take, drop, length-drop}
+use lib.Seq.{take-all, length-take-le, getD-take}
 use Rattle.model.specs.Numbers.{allBelow}
 use Rattle.model.proofs.Below.{below-next, below-stop, below-end}
 use Rattle.packing.specs.Unpack.{bits, groups}
 use Rattle.packing.specs.Payload.{hasLabels, Sized, payloadClean}
-use Rattle.packing.specs.Groups.{undone, valuesOf}
+use Rattle.packing.specs.Groups.{groupsFrom, undone, valuesOf}
 use Rattle.packing.proofs.Groups.{undone-other, undone-front, undone-back}
 use Rattle.packing.proofs.Labelled.{labelled-two}
-use Rattle.packing.proofs.Packed.{length-unpack, unpack-append}
-use Rattle.unpacker.proofs.Payload.{length-bits, two, of-kind}
+use Rattle.packing.proofs.Packed.{length-unpack, length-bits, bits-take}
+use Rattle.unpacker.proofs.Payload.{two, of-kind}
 
 -- ---- bits and labels of bytes
 
@@ -40,15 +40,6 @@ module _ (s : List ℕ) (to k : ℕ) (t : to ≤ 8 * length s) where
   pub bits-end : to ≤ k → allBelow 1 (drop k (take to (bits s))) ≡ true
   bits-end h = let e = window in below-end 1 (take to (bits s)) k (omega arith)
 
-bits-take : (n : ℕ) (s : List ℕ) → n ≤ length s → take (8 * n) (bits s) ≡ bits (take n s)
-unfolding bits
-bits-take n s h =
-    let e = length-bits (take n s) in let l = length-take-le n s h in
-    ap (take (8 * n)) parts ∙ take-at (bits (take n s)) (bits (drop n s)) (8 * n) (omega arith)
-  where
-    parts : bits s ≡ bits (take n s) ++ bits (drop n s)
-    parts = ap bits (sym (take-append-drop n s)) ∙ unpack-append 2 8 (take n s) (drop n s)
-
 -- ---- clean payloads
 
 -- kind 2: the padding bits of the payload ps, the groups and the fill labels of its values vs
@@ -62,13 +53,13 @@ module _ (inv : List ℕ) (k m : ℕ) (ps : List ℕ) where
   unfolding payloadClean
   clean-one e =
       let l = length-bits ps in
-      rw (undone-other inv ps k m (λ two. omega arith), e)
+      rw (undone-other inv ps k m (λ two. omega arith) (λ three. omega arith), e)
       (ap (λ (ds : List ℕ). allBelow 1 (drop (3 * m) ds)) (take-all (8 * length ps) (bits ps) (omega arith)))
 
   pub clean-two : hasLabels k ≡ true → Sized k m ps → k ≢ 1 → payloadClean k m (undone inv k m ps) ≡ cleanParts m ps (valuesOf inv ps)
-  unfolding payloadClean
+  unfolding payloadClean groupsFrom
   clean-two has h e =
       let is = labelled-two k has e in
       let s = of-kind ps m k 2 is h in
       let z = two ps m s in
-      rw (is, undone-front inv ps m s, undone-back inv ps m s, bits-take ((2 * m + 7) / 8) ps (omega arith))
+      rw (is, undone-front inv ps 2 m s, undone-back inv ps 2 m s, bits-take ((2 * m + 7) / 8) ps (omega arith))

@@ -1,6 +1,5 @@
 -- The sizes of a payload, by kind, and where its bits and labels stand. Assumes nothing.
 --
---   length-bits           how many bits the bytes hold
 --   bit-count, bit-place  the tree bits of a payload that has room for them: how many, and where they stand among all bits
 --   bits-room             a payload has room for its tree bits
 --   KindOne, one          the sizes in kind 1
@@ -18,17 +17,13 @@ use lib.Seq.{length-take-le, getD-take, getD-drop}
 use Rattle.model.specs.Record.{payloadLength}
 use Rattle.packing.specs.Unpack.{bits, groups}
 use Rattle.packing.specs.Payload.{hasLabels, Sized, payloadBits, payloadLabels}
-use Rattle.packing.specs.Groups.{undone, valuesOf}
+use Rattle.packing.specs.Groups.{groupsFrom, undone, valuesOf}
 use Rattle.packing.proofs.Groups.{undone-other, undone-back}
 use Rattle.packing.proofs.Labelled.{labelled-cases}
-use Rattle.packing.proofs.Packed.{length-unpack}
+use Rattle.packing.proofs.Packed.{length-bits}
 use Rattle.packing.proofs.Payload.{unpayload-parts}
 
 -- ---- tree bits
-
-pub length-bits : (s : List ℕ) → length (bits s) ≡ 8 * length s
-unfolding bits
-length-bits s = let e = length-unpack 2 8 (length s) s in omega arith
 
 module _ (ps : List ℕ) (m : ℕ) where
   pub bit-count : 2 * m ≤ 8 * length ps → length (payloadBits m ps) ≡ 2 * m
@@ -56,7 +51,7 @@ module _ (ps : List ℕ) (m : ℕ) where
   pub one : Sized 1 m ps → KindOne ps m
   unfolding payloadLength hasLabels
   one h =
-      let l = h .long in
+      let l = h .long refl in
       record {
         few-edges = h .few-edges;
         some-edge = h .some-edge;
@@ -66,7 +61,7 @@ module _ (ps : List ℕ) (m : ℕ) where
 
   pub two : Sized 2 m ps → KindTwo ps m
   unfolding payloadLength
-  two h = let l = h .long in record { few-edges = h .few-edges; some-edge = h .some-edge; bytes = omega arith }
+  two h = let l = h .long refl in record { few-edges = h .few-edges; some-edge = h .some-edge; bytes = omega arith }
 
   pub bits-room : (k : ℕ) → hasLabels k ≡ true → Sized k m ps → 2 * m ≤ 8 * length ps
   bits-room k has h =
@@ -81,7 +76,7 @@ module _ (ps : List ℕ) (m : ℕ) where
 
   -- nothing is undone in kind 1
   pub labels-own : (inv : List ℕ) → payloadLabels 1 m ps ≡ payloadLabels 1 m (undone inv 1 m ps)
-  labels-own inv = ap (payloadLabels 1 m) (sym (undone-other inv ps 1 m (λ two. omega arith)))
+  labels-own inv = ap (payloadLabels 1 m) (sym (undone-other inv ps 1 m (λ two. omega arith) (λ three. omega arith)))
 
   -- ---- labels
 
@@ -90,5 +85,5 @@ module _ (ps : List ℕ) (m : ℕ) where
   label-one i h = sym (getD-take m (drop (2 * m) (bits ps)) i 0 h ∙ getD-drop (2 * m) (bits ps) i 0)
 
   pub labels-two : (inv : List ℕ) → Sized 2 m ps → take m (groups (drop ((2 * m + 7) / 8) (valuesOf inv ps))) ≡ payloadLabels 2 m (undone inv 2 m ps)
-  unfolding payloadLabels
-  labels-two inv s = ap (λ (vs : List ℕ). take m (groups vs)) (sym (undone-back inv ps m s))
+  unfolding payloadLabels groupsFrom
+  labels-two inv s = ap (λ (vs : List ℕ). take m (groups vs)) (sym (undone-back inv ps 2 m s))

@@ -13,7 +13,7 @@ ghost use Rattle.unpacker.specs.Unpacked.{labelsAt, grouped};
 // ---- padding bits, fill labels and groups
 
 // Every bit from place `from` up to place `to` is 0.
-fn zero_bits(bytes: &[u8], from: usize, to: usize) -> bool
+pub fn zero_bits(bytes: &[u8], from: usize, to: usize) -> bool
     requires { ⌜ to ≤ 8 * length (now bytes) ⌝ }
     ensures { λ r. ⌜ r ≡ allBelow 1 (drop from (take to (bits (now (bytes .entry))))) ⌝ }
 {
@@ -29,7 +29,7 @@ fn zero_bits(bytes: &[u8], from: usize, to: usize) -> bool
 }
 
 // Every label of the groups from byte `from` on is 0, from number m on.
-fn zero_labels(bytes: &[u8], inverse: &[u8], from: usize, m: usize) -> bool
+pub fn zero_labels(bytes: &[u8], inverse: &[u8], from: usize, m: usize) -> bool
     requires { ⌜ (length (now inverse) ≡ 256) × (from ≤ length (now bytes)) × (length (now bytes) < 2 ^ 32) ⌝ }
     ensures { λ r. ⌜ r ≡ allBelow 1 (drop m (groups (drop from (valuesOf (now (inverse .entry)) (now (bytes .entry)))))) ⌝ }
 {
@@ -46,7 +46,7 @@ fn zero_labels(bytes: &[u8], inverse: &[u8], from: usize, m: usize) -> bool
 }
 
 // Every byte from place `from` on stands for a group.
-fn groups_fit(bytes: &[u8], inverse: &[u8], from: usize) -> bool
+pub fn groups_fit(bytes: &[u8], inverse: &[u8], from: usize) -> bool
     requires { ⌜ length (now inverse) ≡ 256 ⌝ }
     ensures { λ r. ⌜ r ≡ allBelow 243 (drop from (valuesOf (now (inverse .entry)) (now (bytes .entry)))) ⌝ }
 {

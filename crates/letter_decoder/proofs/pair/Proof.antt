@@ -1,8 +1,11 @@
 use Prim.Native.Nat.{_<_}
 use native.Mathlib.Omega.{arith}
-use Rattle.letter_decoder.specs.Reading.{lettersOf, Moved}
+use Rattle.builder.specs.Moves.{Moved}
+use Rattle.builder.proofs.Moves.{moved-none, moved-end}
+use Rattle.letter_decoder.specs.Reading.{lettersOf}
 use Rattle.letter_decoder.proofs.Digits.{letters-left, letters-none}
-use Rattle.letter_decoder.proofs.Runs.{moved-none, moved-all, moved-on, stuck-on}
+use Rattle.letter_decoder.proofs.Moves.{goes}
+use Rattle.letter_decoder.proofs.Runs.{goes-on, stuck-on}
 use borrow.Author.Needs.{needs}
 use Rattle.letter_decoder.proofs.pair.Statement.{statement}
 use Rattle.letter_decoder.proofs.pair.Tie as tie
@@ -29,10 +32,10 @@ loop-again : tie.Need-loop-again Inv-loop μ-loop
 loop-again c =
     let v = c .before .before .before .before .before .step in
     let i = c .before .before .before .before .before .before .before .before .loop .inv .0 in
-    (moved-on _ _ _ _ _ _ _ _ _ i _ (v .result) _ (v .ensures) _ (letters-left _ _ (omega arith)) _ _ (c .before .u .given .1), omega arith)
+    (goes-on _ _ _ _ _ _ _ _ _ i _ (v .result) _ (v .ensures) _ (letters-left _ _ (omega arith)) _ _ (c .before .u .given .1), omega arith)
 
 returns-2 : tie.Need-returns-2 Inv-loop μ-loop
-returns-2 c = moved-all _ _ _ _ _ _ _ _ _ (letters-none _ _ (omega arith)) (c .before .loop .inv .0)
+returns-2 c = goes _ _ _ _ _ _ _ _ (moved-end _ _ _ _ _ _ _ _ _ (letters-none _ _ (omega arith)) (c .before .loop .inv .0))
 
 pub pair-spec : {M : Type 1} → statement M
 pair-spec =

@@ -6,9 +6,11 @@ use lib.ListN.{drop}
 use Rattle.packing.specs.Letters.{payloadLetters}
 use Rattle.packing.proofs.Letters.{letters-count}
 use Rattle.builder.specs.Steps.{firstState}
-use Rattle.letter_decoder.specs.Reading.{lettersOf, Moved}
+use Rattle.builder.specs.Moves.{Moved}
+use Rattle.builder.proofs.Moves.{fits-start, moved-none}
+use Rattle.letter_decoder.specs.Reading.{lettersOf}
 use Rattle.letter_decoder.proofs.Digits.{letters-next}
-use Rattle.letter_decoder.proofs.Runs.{fits-start, moved-none, moved-on, stuck-on, answer-stuck, answer-end}
+use Rattle.letter_decoder.proofs.Runs.{goes-on, stuck-on, answer-stuck, answer-end}
 use borrow.Author.Needs.{needs}
 use Rattle.letter_decoder.proofs.run.Statement.{statement}
 use Rattle.letter_decoder.proofs.run.Tie as tie
@@ -48,7 +50,7 @@ loop-again c =
     let v = c .before .before .before .before .before .pair in
     let i = c .before .before .before .before .before .before .before .before .before .loop .inv in
     let q = next (c .before .before .before .before .before .before .before) in
-    moved-on _ _ _ _ _ _ _ _ _ i _ (v .result) _ (v .ensures) _ q _ _ (c .before .t .given .1)
+    goes-on _ _ _ _ _ _ _ _ _ i _ (v .result) _ (v .ensures) _ q _ _ (c .before .t .given .1)
 
 returns-2 : tie.Need-returns-2 Inv-loop μ-loop
 returns-2 c =

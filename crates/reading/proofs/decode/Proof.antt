@@ -4,7 +4,7 @@ use Rattle.reading.proofs.decode.Statement.{statement}
 use Rattle.reading.proofs.decode.Tie as tie
 
 decode-requires : tie.Need-decode-requires
-decode-requires c κs = let p = c .before .before .before .before .before .pre in (letters-asked _ _ _ (p .0 .0) (c .before .if1 .taken), p .1)
+decode-requires c κs = let p = c .before .before .before .before .before .pre in (letters-asked _ _ _ (p .0 .0) (p .0 .2) (c .before .if1 .taken), p .1)
 
 returns : tie.Need-returns
 returns c =
@@ -15,7 +15,7 @@ decode-requires-2 : tie.Need-decode-requires-2
 decode-requires-2 c κs =
     let st = c .before .before .before .before .before in
     let p = st .pre in
-    (labels-asked _ _ _ (p .0 .0) (st .args .inverse .now) (p .0 .1) (c .before .if1 .left), p .1)
+    (labels-asked _ _ _ (p .0 .0) (p .0 .2) (st .args .inverse .now) (p .0 .1) (c .before .if1 .left), p .1)
 
 returns-2 : tie.Need-returns-2
 returns-2 c =

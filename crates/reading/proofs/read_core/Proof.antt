@@ -64,7 +64,7 @@ decode-requires c κs =
     let e = c .before .before in
     let st = e .before .before .before .before .before .before .before in
     let m-is = e .before .before .field2 .ensures in let room = st .pre .2 in
-    ((payload-sized _ (st .pre .1) _ _ _ (head e .2) m-is (head e .0), inverse-wide _ (st .pre .0)), omega arith)
+    ((payload-sized _ (st .pre .1) _ _ _ (head e .2) m-is (head e .0), inverse-wide _ (st .pre .0), (λ three. st .pre .3 (sym (e .before .before .before .field .ensures) ∙ three))), omega arith)
 
 decoded : (c : tie.After-decode) → let a = c .before .before .before .before .before .before .before .before .before .before .args in let r = a .«record» .now in
     Answered (decodeRecord (a .inverse .now) r) (2 * edgesOf r) (c .decode .result) (c .decode .last .1 .1 .1 .1 .0)
@@ -80,12 +80,12 @@ returns-2 c =
     let st = e .before .before .before .before .before .before .before in
     let m-is = e .before .before .field2 .ensures in
     λ t stands same.
-    let (count, entries) = face-asked t stands _ _ _ (under t _ _ _ _ same (decoded d)) (st .pre .1) known (c .if2 .taken) _ m-is in
-    core-read t stands _ _ _ (under t _ _ _ _ same (decoded d)) (st .pre .1) known (c .if2 .taken) _ 0 m-is (no-outside _ (plain e)) true
+    let (count, entries) = face-asked t stands _ (st .pre .3) _ _ (under t _ _ _ _ same (decoded d)) (st .pre .1) known (c .if2 .taken) _ m-is in
+    core-read t stands _ (st .pre .3) _ _ (under t _ _ _ _ same (decoded d)) (st .pre .1) known (c .if2 .taken) _ 0 m-is (no-outside _ (plain e)) true
     (face-zero-is _ _ 0 count refl) refl
 
 returns-3 : tie.Need-returns-3
-returns-3 c = let d = c .before .before .before in λ t stands same. core-unreadable t stands _ _ _ (under t _ _ _ _ same (decoded d)) (c .if2 .left)
+returns-3 c = let d = c .before .before .before in λ t stands same. core-unreadable t stands _ (d .before .before .before .before .before .before .before .before .before .before .pre .3) _ _ (under t _ _ _ _ same (decoded d)) (c .if2 .left)
 
 pub read-core-spec : {M : Type 1} → statement M
 read-core-spec =

@@ -1,5 +1,6 @@
-use Prim.Native.Nat.{_*_, _≤_}
+use Prim.Native.Nat.{ℕ, _*_, _≤_}
 use mathlib.Core.Path.{_≡_, sym, ap, _∙_}
+use mathlib.Core.Logic.{_≢_}
 use mathlib.Core.Bool.{true}
 use native.Mathlib.Omega.{arith}
 use lib.ListN.{length}
@@ -8,6 +9,7 @@ use Rattle.model.specs.Map.{storesOutside, family}
 use Rattle.model.specs.Record.{headLength}
 use Rattle.model.specs.Shelf.{kindOf, edgesOf}
 use Rattle.model.proofs.Permutations.{all-below}
+use Rattle.model.proofs.Heads.{stores-not-three, stores-family-plain}
 use Rattle.coding.specs.Payloads.{decodeRecord}
 use Rattle.builder.specs.Decoded.{Answered}
 use Rattle.reading.proofs.Payloads.{outer-head, payload-sized, record-decoded}
@@ -40,6 +42,13 @@ part-decode-start c = let h = head (c .before .before .before .before) in omega 
 part-decode-end : tie.Need-part-decode-end
 part-decode-end c = let h = head (c .before .before .before .before) in omega arith
 
+-- the kind is not 3, nor its family
+other : (c : tie.Start) → kindOf (c .args .«record» .now) ≢ 3
+other c = stores-not-three _ (stores c)
+
+family-not-three-of : (c : tie.Start) {f : ℕ} → f ≡ family (c .args .kind) → f ≢ 3
+family-not-three-of c of e = stores-family-plain _ (c .pre .4) (sym of ∙ e)
+
 -- ---- the payload
 
 decode-requires : tie.Need-decode-requires
@@ -47,7 +56,7 @@ decode-requires c κs =
     let st = c .before .before .before .before .before .before .before in
     let room = st .pre .5 in
     let m-is = st .pre .3 in
-    ((payload-sized _ (st .pre .1) _ _ _ (c .before .family .ensures ∙ ap family (st .pre .2)) m-is (head st .0), inverse-wide _ (st .pre .0)), omega arith)
+    ((payload-sized _ (st .pre .1) _ _ _ (c .before .family .ensures ∙ ap family (st .pre .2)) m-is (head st .0), inverse-wide _ (st .pre .0), family-not-three-of st (c .before .family .ensures)), omega arith)
 
 decoded : (c : tie.After-decode) → let a = c .before .before .before .before .before .before .before .before .args in let r = a .«record» .now in
     Answered (decodeRecord (a .inverse .now) r) (2 * edgesOf r) (c .decode .result) (c .decode .last .1 .1 .1 .1 .0)
@@ -63,7 +72,7 @@ is-face-requires c κs =
     let known = d .before .before .before .before .before in
     let st = known .before .before .before in
     let (t, stands, same) = st .pre .0 in
-    let (count, entries) = face-asked t stands _ _ _ (under t _ _ _ _ same (decoded d)) (st .pre .1) (bytes known) (c .before .if1 .taken) _ (st .pre .3) in
+    let (count, entries) = face-asked t stands _ (other st) _ _ (under t _ _ _ _ same (decoded d)) (st .pre .1) (bytes known) (c .before .if1 .taken) _ (st .pre .3) in
     let kept = d .decode .kept .1 .1 .1 .1 .0 in
     (count, omega (arith, st .pre .5, st .pre .3, kept), entries)
 
@@ -73,7 +82,7 @@ returns c =
     let f = d .before .before .before .before in
     let st = f .before .before .before .before in
     λ t stands same.
-    core-read t stands _ _ _ (under t _ _ _ _ same (decoded d)) (st .pre .1) (bytes (f .before)) (c .before .before .before .if1 .taken) _ _
+    core-read t stands _ (other st) _ _ (under t _ _ _ _ same (decoded d)) (st .pre .1) (bytes (f .before)) (c .before .before .before .if1 .taken) _ _
     (st .pre .3) (f .field .ensures ∙ stored-outside _ (stores st)) _ (c .before .is-face .ensures) (c .if2 .taken)
 
 returns-2 : tie.Need-returns-2
@@ -82,11 +91,11 @@ returns-2 c =
     let f = d .before .before .before .before in
     let st = f .before .before .before .before in
     λ t stands same.
-    core-unsound t stands _ _ _ (under t _ _ _ _ same (decoded d)) (st .pre .1) (bytes (f .before)) (c .before .before .before .if1 .taken) _ _
+    core-unsound t stands _ (other st) _ _ (under t _ _ _ _ same (decoded d)) (st .pre .1) (bytes (f .before)) (c .before .before .before .if1 .taken) _ _
     (st .pre .3) (f .field .ensures ∙ stored-outside _ (stores st)) _ (c .before .is-face .ensures) (c .if2 .left)
 
 returns-3 : tie.Need-returns-3
-returns-3 c = let d = c .before .before .before in λ t stands same. core-unreadable t stands _ _ _ (under t _ _ _ _ same (decoded d)) (c .if1 .left)
+returns-3 c = let d = c .before .before .before in λ t stands same. core-unreadable t stands _ (other (d .before .before .before .before .before .before .before .before)) _ _ (under t _ _ _ _ same (decoded d)) (c .if1 .left)
 
 pub read-outer-spec : {M : Type 1} → statement M
 read-outer-spec =

@@ -1,0 +1,2 @@
+mod Turning
+mod Spelling

@@ -1,0 +1,3 @@
+mod Codes
+mod Digits
+mod Whole
