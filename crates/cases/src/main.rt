@@ -215,7 +215,6 @@ fn small() {
 
 fn refused() {
     one(b"order 0 1", &[0, 1], 0, 0, 32, 2056);
-    one(b"order 0 1", &[0, 1], 0, 3, 32, 2056);
     one(b"order 0 1", &[0, 1], 0, 5, 32, 2056);
     one(b"order 0", &[0], 0, 2, 32, 2056);
     one(b"order 0 1 2", &[0, 1, 2], 0, 2, 64, 2056);
@@ -291,6 +290,67 @@ fn any_plan() {
     one(b"order 0 2 5 4 3 1", &[0, 2, 5, 4, 3, 1], 0, 4, 96, 2056);
     one(b"order 0 1 2 3", &[0, 1, 2, 3], 0, 4, 64, 2056);
     one(b"order 3 2 4 5 1 0", &[3, 2, 4, 5, 1, 0], 0, 4, 96, 2056);
+}
+
+// Meshes: the triangle, the four of six trails, and plans that are none; 8 comes after all other refusals.
+fn meshes() {
+    let triangle = [5u16, 2, 1, 4, 3, 0];
+    one(b"order 5 2 1 4 3 0", &triangle, 0, 3, 96, 2056);
+    one(b"order 5 2 1 4 3 0, start 3", &triangle, 3, 3, 96, 2056);
+    one(
+        b"order 11 2 6 4 3 0 8 5 1 10 9 7",
+        &[11, 2, 6, 4, 3, 0, 8, 5, 1, 10, 9, 7],
+        0,
+        3,
+        192,
+        2056,
+    );
+    one(
+        b"order 9 2 11 4 6 0 3 8 10 5 7 1",
+        &[9, 2, 11, 4, 6, 0, 3, 8, 10, 5, 7, 1],
+        0,
+        3,
+        192,
+        2056,
+    );
+    one(
+        b"order 11 2 1 4 6 0 10 8 7 5 3 9",
+        &[11, 2, 1, 4, 6, 0, 10, 8, 7, 5, 3, 9],
+        0,
+        3,
+        192,
+        2056,
+    );
+    one(
+        b"order 5 2 11 4 6 0 8 1 3 10 9 7",
+        &[5, 2, 11, 4, 6, 0, 8, 1, 3, 10, 9, 7],
+        0,
+        3,
+        192,
+        2056,
+    );
+    one(b"order 0 1, output 0", &[0, 1], 0, 3, 32, 0);
+    one(b"order 1 0, output 0", &[1, 0], 0, 3, 32, 0);
+    one(
+        b"order 5 2 4 0 1 3, output 0",
+        &[5, 2, 4, 0, 1, 3],
+        0,
+        3,
+        96,
+        0,
+    );
+    one(b"order 0 1 2 3, output 0", &[0, 1, 2, 3], 0, 3, 64, 0);
+    one(
+        b"order 3 2 4 5 1 0, output 0",
+        &[3, 2, 4, 5, 1, 0],
+        0,
+        3,
+        96,
+        0,
+    );
+    one(b"order 5 2 1 4 3 0, work area 95", &triangle, 0, 3, 95, 0);
+    one(b"order 5 2 1 4 3 0, output 7", &triangle, 0, 3, 96, 7);
+    one(b"order 5 2 1 4 3 0, output 8", &triangle, 0, 3, 96, 8);
 }
 
 // The plan with this outside is written, with all the room that a plan may need.
@@ -421,6 +481,7 @@ fn main() {
     small();
     spur();
     any_plan();
+    meshes();
     refused();
     short();
     counts();

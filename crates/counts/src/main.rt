@@ -1,6 +1,6 @@
-// Reads every payload of a record with one, two or three edges, in all kinds, and prints kind, edges, payloads and how many records are read: that is how
-// many plans there are up to renumbering. In a kind with the outside each payload is read behind every number from 0 to 2m. The file stdout has what it must
-// write.
+// Reads every payload of a record with one, two or three edges, in all kinds, and every payload of two bytes of a mesh with up to six, and prints kind, edges,
+// payloads and how many records are read: that is how many plans there are up to renumbering. In a kind with the outside each payload is read behind every
+// number from 0 to 2m. The file stdout has what it must write.
 ghost use Prim.Native.Nat.{_≤_};
 use model::ReadBack;
 
@@ -8,8 +8,8 @@ use model::ReadBack;
 fn plans(record: &[u8]) -> u32
     ensures { λ r. ⌜ r ≤ 1 ⌝ }
 {
-    let mut work = [0u16; 96];
-    let mut out = [0u16; 6];
+    let mut work = [0u16; 192];
+    let mut out = [0u16; 12];
     match reading::read(tables::standard(), record, &mut work, &mut out) {
         ReadBack::Edges(m, x) => {
             return 1;
@@ -98,6 +98,12 @@ fn main() {
     line(2, 1, 8, 65536);
     line(2, 2, 8, 65536);
     line(2, 3, 8, 65536);
+    line(3, 1, 8, 65536);
+    line(3, 2, 8, 65536);
+    line(3, 3, 8, 65536);
+    line(3, 4, 8, 65536);
+    line(3, 5, 8, 65536);
+    line(3, 6, 8, 65536);
     line(4, 1, 7, 256);
     line(4, 2, 7, 256);
     line(4, 3, 8, 65536);

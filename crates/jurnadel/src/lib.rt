@@ -16,12 +16,15 @@ ghost use Rattle.model.specs.Exports.{WriteExport, ReadExport, MeasureExport, S
 
 // ---- sizes
 
-// The length of a record of this kind with so many trails; 0 if there is none.
+// The length of a record of this kind with so many trails; 0 if there is none, and in kind 3, where the trails do not fix it.
 #[no_mangle]
 pub extern "C" fn jurnadel_record_length(kind: u16, trails: u16) -> u16
     ensures { λ r. ⌜ r ≡ lengthFor kind trails ⌝ }
 {
     if !heads::is_kind(kind) {
+        return 0;
+    }
+    if kind == 3 {
         return 0;
     }
     if trails == 0 {

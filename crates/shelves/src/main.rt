@@ -185,9 +185,9 @@ fn shelve_again(shelf: &mut [u8], used: usize) {
 // Refusals 1 and 2, each twice: what is wrong with the kind or the number of edges comes after.
 fn shelve_1_2(shelf: &mut [u8], used: usize) {
     shelve(&[5, 0, 1, 0, 2], shelf, used);
-    shelve(&[8, 0, 3, 0, 0, 0, 0xC8], shelf, used);
+    shelve(&[8, 0, 5, 0, 0, 0, 0xC8], shelf, used);
     shelve(&[7, 0, 0, 0, 0, 0, 0xC8], shelf, used);
-    shelve(&[7, 0, 3, 0, 2, 0, 0xC8], shelf, used);
+    shelve(&[7, 0, 5, 0, 2, 0, 0xC8], shelf, used);
 }
 
 // Refusals 3 and 5, each twice: no edge and 4,097 edges, and lengths for other numbers of edges.
