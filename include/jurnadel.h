@@ -57,9 +57,9 @@ extern "C" {
 /* ---- Version ---------------------------------------------------------------------- */
 
 #define JURNADEL_VERSION_MAJOR 0
-#define JURNADEL_VERSION_MINOR 7
+#define JURNADEL_VERSION_MINOR 8
 #define JURNADEL_VERSION_PATCH 0
-#define JURNADEL_VERSION "0.7.0"
+#define JURNADEL_VERSION "0.8.0"
 
 /* ---- Sizes ------------------------------------------------------------------------ */
 
@@ -79,12 +79,14 @@ extern "C" {
 #define JURNADEL_AREAS_LEN(m) ((size_t)(m) + 1)
 
 /*
- * A record of this kind (1, 2, 4, 0x101, 0x102 or 0x104) and m trails (1 to 4,096), in bytes. Kind 0x104 is the longest, but for
- * 1, 2 and 6 trails, where kind 0x102 has a byte more.
+ * A record of this kind (1, 2, 3, 4, 0x101, 0x102 or 0x104) and m trails (1 to 4,096), in bytes. In kind 3 the length varies with
+ * the plan, and this is a length that it never exceeds: 8 for 3 trails, 792 for 4,095, the most that a mesh has. Kind 0x104 is
+ * the longest, but for 1, 2 and 6 trails, where kind 0x102 has a byte more.
  */
 #define JURNADEL_RECORD_LEN(kind, m) \
     ((size_t)((kind) & 0x100 ? 8 : 6) + (((kind) & 0xFF) == 1   ? (3 * (size_t)(m) + 7) / 8 \
                                          : ((kind) & 0xFF) == 2 ? (2 * (size_t)(m) + 7) / 8 + ((size_t)(m) + 4) / 5 \
+                                         : ((kind) & 0xFF) == 3 ? ((size_t)(m) + 9) / 8 + ((size_t)(m) + 12) / 15 \
                                                                 : ((size_t)(m) + 1) / 2))
 
 /* Lengths that serve every plan and every record. */
@@ -98,7 +100,10 @@ extern "C" {
 /* The work area, in 16-bit numbers: 32 * trails. */
 size_t jurnadel_work_length(uint16_t trails);
 
-/* The record, in bytes; 0 where there is none: the kind is not one of the six, or trails is 0 or above 4,096. */
+/*
+ * The record, in bytes; 0 where kind and trails don't tell: the kind is 3, whose records vary in length, or none of the seven, or
+ * trails is 0 or above 4,096.
+ */
 uint16_t jurnadel_record_length(uint16_t kind, uint16_t trails);
 
 /* ---- Refusals --------------------------------------------------------------------- */
@@ -106,31 +111,32 @@ uint16_t jurnadel_record_length(uint16_t kind, uint16_t trails);
 enum {
     JURNADEL_DONE = 0,            /* not refused */
     JURNADEL_RECORD_CUT = 1,      /* The record has fewer than 6 bytes, or its length field isn't the number of bytes lent. */
-    JURNADEL_BAD_KIND = 2,        /* The kind is not 1, 2, 4, 101h, 102h or 104h. */
+    JURNADEL_BAD_KIND = 2,        /* The kind is not 1, 2, 3, 4, 101h, 102h or 104h. */
     JURNADEL_BAD_COUNT = 3,       /* The dart count is 0, odd or above 8,192; in a record, m is 0 or above 4,096. */
     JURNADEL_BAD_START = 4,       /* The start is not below the dart count. */
-    JURNADEL_BAD_LENGTH = 5,      /* The length is not the one for this kind and m. */
+    JURNADEL_BAD_LENGTH = 5,      /* The kind is not 3, and the length is not the one for this kind and m. */
     JURNADEL_BAD_ENTRY = 6,       /* An entry of the turning order is not below the dart count, or two entries are equal. */
     JURNADEL_SHORT_WORK = 7,      /* The work area (16-bit numbers) is shorter than 32 x m. */
     JURNADEL_SHORT_OUTPUT = 8,    /* The output is shorter than the record, than 2m entries, or than the list of areas. */
     JURNADEL_NOT_CONNECTED = 9,   /* The plan is not connected. */
     JURNADEL_NOT_PLANAR = 10,     /* It is not planar; this answer also gives the characteristic, as a signed number. */
-    JURNADEL_HAS_LOOP = 11,       /* Kind 1, 2, 101h or 102h, and it has a loop. */
+    JURNADEL_HAS_LOOP = 11,       /* Kind 1, 2, 3, 101h or 102h, and it has a loop. */
     JURNADEL_HAS_DEGREE_ONE = 12, /* Kind 1 or 101h, and a junction other than the start's has degree one. */
     JURNADEL_NO_FIT_PLAN = 13,    /* No fit plan of this kind has this record. */
     JURNADEL_SHELF_BROKEN = 14,   /* The used length exceeds the shelf, or the used bytes are not records end to end that each pass 1, 2, 3 and 5. */
     JURNADEL_NO_SUCH_RECORD = 15, /* The shelf holds no record with this number, counting from 0. */
     JURNADEL_SHELF_FULL = 16,     /* The record isn't on the shelf and exceeds the bytes past the used length. */
     JURNADEL_BAD_OUTSIDE = 17,    /* Kind 101h, 102h or 104h, and the outside dart is not below the dart count. */
+    JURNADEL_NOT_TRIANGLES = 18,  /* Kind 3, and an area is not three darts of three different trails. */
     JURNADEL_BAD_TABLE = 19       /* The group table is not 243 bytes, or two of them are equal, or a call is handed a table that loading never gives. */
 };
 
 /* ---- Group tables ----------------------------------------------------------------- */
 
 /*
- * Kinds 2 and 0x102 store labels in groups of five; a group has a value from 0 to 242. A group
- * table says which byte stands for each value. The standard table has byte v for value v; a
- * maker who stores groups under other bytes loads a table of its own.
+ * Kinds 2 and 0x102 store labels, and kind 3 node types, in groups of five; a group has a value
+ * from 0 to 242. A group table says which byte stands for each value. The standard table has byte
+ * v for value v; a maker who stores groups under other bytes loads a table of its own.
  *
  * A table is plain data, handed over by value. It may be copied, kept in ROM, or filled in by the
  * caller: each call that is handed one tests all of it, in every kind, and refuses by 19, before
@@ -164,20 +170,23 @@ jurnadel_table jurnadel_standard_table(void);
 /*
  * Writes the record of a plan.
  *
- *   table                the group table; kinds 2 and 0x102 have its bytes
+ *   table                the group table; kinds 2, 3 and 0x102 have its bytes
  *   order, darts         the turning order, darts = 2m entries
  *   start                the start dart
- *   outside              the outside dart, any of its area; kinds 1, 2 and 4 ignore it
+ *   outside              the outside dart, any of its area; kinds 1, 2, 3 and 4 ignore it
  *   kind                 1: no loop, no junction of degree one but the start's; 2: no loop;
- *                        4: any connected planar plan; 0x101, 0x102, 0x104 (101h, 102h, 104h):
- *                        the same with the outside area, in two bytes more
+ *                        3, triangle meshes: no loop, and every area, the one outside included,
+ *                        is three darts of three different trails; 4: any connected planar plan;
+ *                        0x101, 0x102, 0x104 (101h, 102h, 104h): as 1, 2 and 4, with the outside
+ *                        area, in two bytes more
  *   work, work_len       JURNADEL_WORK_LEN(m) numbers or more, any content; zeros on return
- *   output, output_len   JURNADEL_RECORD_LEN(kind, m) bytes or more; the first *length are filled
+ *   output, output_len   JURNADEL_RECORD_LEN(kind, m) bytes always serve; the first *length are filled
  *   length               the record's length; 0 if refused
  *   characteristic       of refusal 10: junctions minus trails plus areas; else 0
  *
  * Refusals: 19, 2, 3, 4, 17 in kinds 101h, 102h and 104h, 6, 7, 8, 9, 10, then 11 in kinds 1, 2, 101h
- * and 102h and 12 in kinds 1 and 101h. Two plans that are not refused get equal bytes in one kind, under
+ * and 102h and 12 in kinds 1 and 101h. In kind 3: 19, 2, 3, 4, 6, 7, 9, 10, 11, 18, then 8, as the
+ * record's length is known only then. Two plans that are not refused get equal bytes in one kind, under
  * one table, exactly when one is the other with its darts renumbered: start to start, opposite ends to
  * opposite ends, turning order to turning order; in kinds 101h, 102h and 104h outside area to outside
  * area too.
@@ -194,12 +203,12 @@ uint16_t jurnadel_write(jurnadel_table table, const uint16_t *order, size_t dart
  *   work, work_len       JURNADEL_WORK_LEN(m) numbers or more, any content; zeros on return
  *   order, order_len     JURNADEL_ORDER_LEN(m) numbers or more; the first 2m are filled with the turning order
  *   trails               m; 0 if refused
- *   outside              the lowest dart of the outside area, which in kinds 1, 2 and 4 is the
+ *   outside              the lowest dart of the outside area, which in kinds 1, 2, 3 and 4 is the
  *                        start's: 0; 0 if refused
  *
- * Refusals: 19, 1, 2, 3, 5, 7, 8, 13. Writing the plan with this outside in the record's kind, under
- * the same table, gives the record; a stored outside that isn't the lowest dart of an area is 13, and
- * so is a group's byte that is none of the table's.
+ * Refusals: 19, 1, 2, 3, 5 but in kind 3, 7, 8, 13. Writing the plan with this outside in the record's
+ * kind, under the same table, gives the record; a stored outside that isn't the lowest dart of an area
+ * is 13, and so are a group's byte that is none of the table's and, in kind 3, a wrong length.
  */
 uint16_t jurnadel_read(jurnadel_table table, const uint8_t *record, size_t record_len,
                        uint16_t *work, size_t work_len, uint16_t *order, size_t order_len,
@@ -228,8 +237,8 @@ uint16_t jurnadel_area_lengths(const uint16_t *order, size_t darts,
 /*
  * A shelf is a lent run of bytes with a used length; the used bytes are records end to
  * end, and records are numbered from 0. These calls look at heads and lengths only: they
- * take a record that cannot be read like any other. Nothing on a shelf tells which table a
- * record was written under.
+ * take a record that cannot be read like any other, and one of kind 3 with any length from
+ * 6 on. Nothing on a shelf tells which table a record was written under.
  */
 
 /*
@@ -244,7 +253,7 @@ uint16_t jurnadel_area_lengths(const uint16_t *order, size_t darts,
  *   number               the record's number; 0 if refused
  *   new_used             the used length now; used if refused or already there
  *
- * Refusals: 19, 1, 2, 3, 5, 14, 16.
+ * Refusals: 19, 1, 2, 3, 5 but in kind 3, 14, 16.
  */
 uint16_t jurnadel_shelve(jurnadel_table table, const uint8_t *record, size_t record_len, uint8_t *shelf, size_t shelf_len,
                          size_t used, size_t *number, size_t *new_used);

@@ -58,6 +58,8 @@ int main(void) {
         {"three parallel trails", 1, 0, 6, {5, 2, 4, 0, 1, 3}},
         {"dead end inside a pair", 2, 0, 6, {4, 2, 1, 0, 3, 5}},
         {"triangle, numbered otherwise", 1, 0, 6, {3, 4, 5, 0, 1, 2}},
+        {"triangle, as a mesh", 3, 0, 6, {5, 2, 1, 4, 3, 0}},
+        {"three parallel trails, as a mesh", 3, 0, 6, {5, 2, 4, 0, 1, 3}},
         {"one trail in from the start", 1, 0, 6, {0, 2, 5, 4, 3, 1}},
         {"a loop around a dead end", 4, 0, 6, {2, 1, 4, 0, 3, 5}},
         {"trails that cross", 4, 0, 6, {3, 2, 4, 5, 1, 0}},

@@ -105,7 +105,7 @@ static void records(void) {
 static void writing(void) {
     static const uint16_t pair[] = {3, 2, 1, 0}, apart[] = {0, 1, 2, 3}, crossing[] = {3, 2, 4, 5, 1, 0}, ring[] = {1, 0}, stick[] = {0, 1},
                           twice[] = {3, 3, 1, 0}, spur[] = {0, 2, 5, 4, 3, 1};
-    CHECK(refusal_of(pair, 4, 0, 3, 64, 8) == JURNADEL_BAD_KIND);
+    CHECK(refusal_of(pair, 4, 0, 5, 64, 8) == JURNADEL_BAD_KIND);
     CHECK(refusal_of(pair, 3, 0, 1, 64, 8) == JURNADEL_BAD_COUNT);
     CHECK(refusal_of(pair, 0, 0, 1, 64, 8) == JURNADEL_BAD_COUNT);
     CHECK(refusal_of(pair, 4, 4, 1, 64, 8) == JURNADEL_BAD_START);
@@ -168,6 +168,56 @@ static void outsides(void) {
     CHECK(refusal_with(1, triangle, 6, 1, 0x101, 96, 10) == JURNADEL_DONE && output[6] == 0);
 }
 
+/* Whether a mesh of m trails has these two bytes of payload from each of the first starts, and is read back as it is. */
+static void mesh_has(uint16_t m, const uint16_t *rotation, uint16_t starts, uint8_t code, uint8_t group) {
+    const uint8_t record[] = {8, 0, 3, 0, (uint8_t)m, 0, code, group};
+    uint16_t start;
+    for (start = 0; start < starts; start++) {
+        CHECK(refusal_of(rotation, 2 * m, start, 3, JURNADEL_WORK_LEN(m), 8) == JURNADEL_DONE);
+        CHECK(length == 8 && memcmp(output, record, 8) == 0);
+    }
+    dirty();
+    CHECK(jurnadel_read(table, record, 8, work, JURNADEL_WORK_LEN(m), order, JURNADEL_ORDER_LEN(m), &trails, &outside) == JURNADEL_DONE);
+    CHECK(trails == m && outside == 0 && memcmp(order, rotation, 4 * m) == 0 && order[2 * m] == 0x5a5a && cleared(JURNADEL_WORK_LEN(m)));
+}
+
+/* Kind 3: the meshes of 3 and of 6 trails; each refusal before those that come after it, 8 last. */
+static void meshes(void) {
+    static const uint16_t triangle[] = {5, 2, 1, 4, 3, 0}, six[4][12] = {
+        {11, 2, 6, 4, 3, 0, 8, 5, 1, 10, 9, 7},
+        {9, 2, 11, 4, 6, 0, 3, 8, 10, 5, 7, 1},
+        {11, 2, 1, 4, 6, 0, 10, 8, 7, 5, 3, 9},
+        {5, 2, 11, 4, 6, 0, 8, 1, 3, 10, 9, 7},
+    };
+    static const uint16_t stick[] = {0, 1}, ring[] = {1, 0}, parallel[] = {5, 2, 4, 0, 1, 3}, twice[] = {3, 3, 1, 0}, apart[] = {0, 1, 2, 3},
+                          crossing[] = {3, 2, 4, 5, 1, 0}, square[] = {7, 2, 1, 4, 3, 6, 5, 0}, handle[] = {2, 3, 0, 4, 5, 1};
+    mesh_has(3, triangle, 6, 0x80, 0xA2);
+    mesh_has(6, six[0], 1, 0x70, 0x36);
+    mesh_has(6, six[1], 12, 0x70, 0x87);
+    mesh_has(6, six[2], 1, 0xB0, 0x36);
+    mesh_has(6, six[3], 1, 0xB0, 0x87);
+    CHECK(refusal_of(twice, 3, 3, 3, 0, 0) == JURNADEL_BAD_COUNT);
+    CHECK(refusal_of(twice, 4, 4, 3, 0, 0) == JURNADEL_BAD_START);
+    CHECK(refusal_of(twice, 4, 3, 3, 0, 0) == JURNADEL_BAD_ENTRY);
+    CHECK(refusal_of(apart, 4, 3, 3, 63, 0) == JURNADEL_SHORT_WORK);
+    CHECK(refusal_of(triangle, 6, 0, 3, 95, 0) == JURNADEL_SHORT_WORK);
+    CHECK(refusal_of(apart, 4, 3, 3, 64, 0) == JURNADEL_NOT_CONNECTED);
+    CHECK(refusal_of(crossing, 6, 3, 3, 96, 0) == JURNADEL_NOT_PLANAR && characteristic == 0);
+    CHECK(refusal_of(ring, 2, 0, 3, 32, 0) == JURNADEL_HAS_LOOP);
+    CHECK(refusal_of(handle, 6, 0, 3, 96, 0) == JURNADEL_HAS_LOOP);
+    CHECK(refusal_of(stick, 2, 0, 3, 32, 0) == JURNADEL_NOT_TRIANGLES);
+    CHECK(refusal_of(stick, 2, 0, 3, 32, 8) == JURNADEL_NOT_TRIANGLES);
+    CHECK(refusal_of(parallel, 6, 0, 3, 96, 0) == JURNADEL_NOT_TRIANGLES);
+    CHECK(refusal_of(square, 8, 0, 3, 128, sizeof output) == JURNADEL_NOT_TRIANGLES);
+    CHECK(refusal_of(triangle, 6, 0, 3, 96, 0) == JURNADEL_SHORT_OUTPUT);
+    CHECK(refusal_of(triangle, 6, 0, 3, 96, 7) == JURNADEL_SHORT_OUTPUT);
+    CHECK(refusal_of(six[0], 12, 0, 3, 192, 7) == JURNADEL_SHORT_OUTPUT);
+    /* The outside is ignored, whatever it is. */
+    CHECK(refusal_with(1, triangle, 6, 0, 3, 96, 8) == JURNADEL_DONE && length == 8 && output[7] == 0xA2);
+    CHECK(refusal_with(6, triangle, 6, 0, 3, 96, 8) == JURNADEL_DONE && length == 8 && output[7] == 0xA2);
+    CHECK(refusal_with(1, triangle, 6, 0, 0x103, 96, 10) == JURNADEL_BAD_KIND);
+}
+
 /* A round of 4,096 trails, the longest plan: dart 2e+1 and dart 2e+2 share a junction. */
 static void longest(void) {
     static uint16_t round[JURNADEL_MAX_DARTS];
@@ -189,6 +239,46 @@ static void longest(void) {
     CHECK(trails == JURNADEL_MAX_TRAILS && outside == 1 && cleared(JURNADEL_MAX_WORK_LEN));
 }
 
+/* Adds node types to the payload of a mesh, whose code is at first and whose digits are at digits: the codes of 1 to 5 are 00, 01
+   and three times 1, and 3, 4 and 5 have the digits 0, 1 and 2, five of them in a byte. */
+static void add_types(const char *types, uint8_t *first, size_t *bits, uint8_t *digits, size_t *count) {
+    static const uint8_t place[] = {81, 27, 9, 3, 1};
+    for (; *types; types++) {
+        if (*types < '3') {
+            ++*bits;
+            first[*bits / 8] |= (uint8_t)((*types - '1') << (7 - *bits % 8));
+        } else {
+            first[*bits / 8] |= (uint8_t)(1 << (7 - *bits % 8));
+            digits[*count / 5] = (uint8_t)(digits[*count / 5] + (*types - '3') * place[*count % 5]);
+            ++*count;
+        }
+        ++*bits;
+    }
+}
+
+/* The mesh of 4,095 trails that has the longest record of kind 3: four of its 2,729 nodes have two children. */
+static void longest_mesh(void) {
+    static uint8_t record[JURNADEL_RECORD_LEN(3, 4095)], code[1024], digits[1024];
+    static uint16_t rotation[2 * 4095];
+    size_t bits = 0, count = 0, i;
+    for (i = 0; i < 4; i++) add_types("2215", code, &bits, digits, &count);
+    for (i = 0; i < 1356; i++) add_types("23", code, &bits, digits, &count);
+    add_types("5", code, &bits, digits, &count);
+    CHECK((bits + 7) / 8 == 513 && (count + 4) / 5 == 273 && sizeof record == 792);
+    record[0] = 792 & 0xff, record[1] = 792 >> 8, record[2] = 3, record[4] = 4095 & 0xff, record[5] = 4095 >> 8;
+    memcpy(record + 6, code, 513);
+    memcpy(record + 519, digits, 273);
+    dirty();
+    CHECK(jurnadel_read(table, record, 792, work, JURNADEL_WORK_LEN(4095), order, JURNADEL_ORDER_LEN(4095), &trails, &outside) == JURNADEL_DONE);
+    CHECK(trails == 4095 && outside == 0 && order[2 * 4095] == 0x5a5a && cleared(JURNADEL_WORK_LEN(4095)));
+    memcpy(rotation, order, sizeof rotation);
+    CHECK(refusal_of(rotation, 2 * 4095, 0, 3, JURNADEL_WORK_LEN(4095), 791) == JURNADEL_SHORT_OUTPUT);
+    CHECK(refusal_of(rotation, 2 * 4095, 0, 3, JURNADEL_WORK_LEN(4095), 792) == JURNADEL_DONE);
+    CHECK(length == 792 && memcmp(output, record, 792) == 0);
+    /* In kind 1 it takes twice as much. */
+    CHECK(refusal_of(rotation, 2 * 4095, 0, 1, JURNADEL_WORK_LEN(4095), sizeof output) == JURNADEL_DONE && length == 1542);
+}
+
 static uint16_t reads(const uint8_t *record, size_t record_len, size_t work_len, size_t order_len) {
     uint16_t refusal;
     dirty();
@@ -203,7 +293,7 @@ static void reading(void) {
     CHECK(reads(record, 7, 64, 4) == JURNADEL_DONE && trails == 2 && outside == 0);
     CHECK(reads(record, 6, 64, 4) == JURNADEL_RECORD_CUT);
     CHECK(reads(record, 0, 64, 4) == JURNADEL_RECORD_CUT);
-    record[2] = 3;
+    record[2] = 5;
     CHECK(reads(record, 7, 64, 4) == JURNADEL_BAD_KIND);
     record[2] = 4;
     CHECK(reads(record, 7, 64, 4) == JURNADEL_NO_FIT_PLAN);
@@ -236,6 +326,30 @@ static void reading(void) {
     CHECK(reads(with_outside, 10, 96, 6) == JURNADEL_BAD_KIND);
     with_outside[2] = 1, with_outside[3] = 0;
     CHECK(reads(with_outside, 10, 96, 6) == JURNADEL_BAD_LENGTH);
+}
+
+/* Records of kind 3 that no mesh has, a wrong length among them; 7 and 8 come before. */
+static void reading_meshes(void) {
+    static const struct { uint16_t m, length; uint8_t payload[3]; } cases[] = {
+        {3, 7, {0x80}}, {3, 9, {0x80, 0xA2, 0x00}}, {3, 8, {0x80, 0x51}}, {3, 8, {0xC0, 0xA2}}, {3, 8, {0x80, 0xA3}},
+        {3, 8, {0x80, 0xF3}}, {3, 6, {0}}, {4, 8, {0x80, 0xA2}}, {1, 8, {0x80, 0xA2}}, {4096, 8, {0x80, 0xA2}},
+        /* Each leaf finds a place, and the plan has a loop. */
+        {9, 8, {0x17, 0xD8}},
+    };
+    uint8_t record[9] = {8, 0, 3, 0, 3, 0, 0x80, 0xA2};
+    size_t i;
+    CHECK(reads(record, 8, 96, 6) == JURNADEL_DONE && trails == 3 && outside == 0);
+    CHECK(reads(record, 7, 96, 6) == JURNADEL_RECORD_CUT);
+    for (i = 0; i < sizeof cases / sizeof cases[0]; i++) {
+        uint16_t m = cases[i].m;
+        record[0] = (uint8_t)cases[i].length, record[4] = (uint8_t)m, record[5] = (uint8_t)(m >> 8);
+        memcpy(record + 6, cases[i].payload, 3);
+        CHECK(reads(record, cases[i].length, JURNADEL_WORK_LEN(m) - 1, 0) == JURNADEL_SHORT_WORK);
+        CHECK(reads(record, cases[i].length, JURNADEL_WORK_LEN(m), JURNADEL_ORDER_LEN(m) - 1) == JURNADEL_SHORT_OUTPUT);
+        CHECK(reads(record, cases[i].length, JURNADEL_WORK_LEN(m), JURNADEL_ORDER_LEN(m)) == JURNADEL_NO_FIT_PLAN);
+    }
+    record[4] = 0, record[5] = 0;
+    CHECK(reads(record, 8, 96, 6) == JURNADEL_BAD_COUNT);
 }
 
 /* Whether the list is these areas, and untouched past them. */
@@ -299,7 +413,7 @@ static void areas(void) {
 }
 
 static void shelves(void) {
-    static const uint8_t outer[] = {9, 0, 4, 1, 1, 0, 9, 9, 0xB0};
+    static const uint8_t outer[] = {9, 0, 4, 1, 1, 0, 9, 9, 0xB0}, head[] = {6, 0, 3, 0, 1, 0}, mesh[] = {9, 0, 3, 0, 3, 0, 0x80, 0xA2, 0};
     static const uint8_t pair[] = {7, 0, 1, 0, 2, 0, 0xC8}, stick[] = {8, 0, 2, 0, 1, 0, 0x80, 0xA2}, odd[] = {7, 0, 1, 0, 2, 0, 0xC9};
     uint8_t shelf[16];
     size_t number = 99, used = 0, at = 99, part = 99;
@@ -327,6 +441,13 @@ static void shelves(void) {
     CHECK(jurnadel_shelve(table, outer, sizeof outer, shelf, sizeof shelf, 7, &number, &used) == 0 && number == 1 && used == 16);
     CHECK(jurnadel_walk_step(shelf, sizeof shelf, used, 7) == 9 && memcmp(shelf + 7, outer, 9) == 0);
     CHECK(jurnadel_shelve(table, outer, 8, shelf, sizeof shelf, used, &number, &used) == JURNADEL_RECORD_CUT && used == 16);
+    /* And a record of kind 3 with any length from 6 on. */
+    CHECK(jurnadel_shelve(table, head, sizeof head, shelf, sizeof shelf, 0, &number, &used) == 0 && number == 0 && used == 6);
+    CHECK(jurnadel_shelve(table, mesh, sizeof mesh, shelf, sizeof shelf, used, &number, &used) == 0 && number == 1 && used == 15);
+    CHECK(jurnadel_shelve(table, head, sizeof head, shelf, sizeof shelf, used, &number, &used) == 0 && number == 0 && used == 15);
+    CHECK(jurnadel_fetch(shelf, sizeof shelf, used, 1, &at, &part) == 0 && at == 6 && part == 9);
+    CHECK(jurnadel_walk_step(shelf, sizeof shelf, used, 0) == 6 && jurnadel_walk_step(shelf, sizeof shelf, used, 6) == 9);
+    CHECK(jurnadel_walk_step(shelf, sizeof shelf, 14, 6) == 0 && jurnadel_fetch(shelf, sizeof shelf, 14, 0, &at, &part) == JURNADEL_SHELF_BROKEN);
 }
 
 /* A table between two guards, which a call that gives it must leave alone. */
@@ -348,12 +469,12 @@ static uint16_t loads(const uint8_t *bytes, size_t n) {
 
 /* Whether writing, reading and shelving refuse the table first of all, in every kind, and touch nothing. */
 static void refuses(void) {
-    static const uint16_t kinds[] = {1, 2, 4, 0x101, 0x102, 0x104, 9}, pair[] = {3, 2, 1, 0};
+    static const uint16_t kinds[] = {1, 2, 3, 4, 0x101, 0x102, 0x104, 9}, pair[] = {3, 2, 1, 0};
     static const uint8_t record[] = {8, 0, 2, 0, 2, 0, 0xC0, 0x51}, shelf[16] = {7, 0, 1, 0, 2, 0, 0xC8, 0xEE, 0xEE};
     const jurnadel_table given = table;
     uint8_t after[16];
     size_t i, number = 99, used = 99;
-    for (i = 0; i < 7; i++) {
+    for (i = 0; i < 8; i++) {
         CHECK(refusal_of(pair, 4, 0, kinds[i], 64, 10) == JURNADEL_BAD_TABLE);
         CHECK(refusal_of(pair, 0, 0, kinds[i], 64, 0) == JURNADEL_BAD_TABLE);
     }
@@ -383,8 +504,10 @@ static void written_as(const uint16_t *rotation, uint16_t m, uint8_t byte) {
 }
 
 static void tables(void) {
-    static const uint16_t stick[] = {0, 1}, path[] = {0, 2, 1, 3}, pair[] = {3, 2, 1, 0};
+    static const uint16_t stick[] = {0, 1}, path[] = {0, 2, 1, 3}, pair[] = {3, 2, 1, 0}, triangle[] = {5, 2, 1, 4, 3, 0},
+                          mesh[] = {11, 2, 6, 4, 3, 0, 8, 5, 1, 10, 9, 7};
     static const uint8_t of_13_more[] = {8, 0, 2, 0, 1, 0, 0x80, 0xAF}, of_none[] = {8, 0, 2, 0, 1, 0, 0x80, 0x05},
+                         mesh_of_none[] = {8, 0, 3, 0, 3, 0, 0x80, 0x05},
                          bits[] = {7, 0, 1, 0, 2, 0, 0xC8}, letters[] = {7, 0, 4, 0, 1, 0, 0xB0};
     const jurnadel_table standard = jurnadel_standard_table();
     uint8_t bytes[256], other[256], shelf[8];
@@ -398,6 +521,8 @@ static void tables(void) {
     written_as(stick, 1, 0xA2);
     written_as(path, 2, 0x36);
     written_as(pair, 2, 0x51);
+    mesh_has(3, triangle, 6, 0x80, 0xA2);
+    mesh_has(6, mesh, 1, 0x70, 0x36);
 
     /* Two entries exchanged. */
     memcpy(other, bytes, sizeof other);
@@ -405,11 +530,16 @@ static void tables(void) {
     CHECK(loads(other, 243) == JURNADEL_DONE && table.inverse[0x36] == 0x51 && table.inverse[0x51] == 0x36 && table.inverse[243] == 243);
     written_as(path, 2, 0x51);
     written_as(pair, 2, 0x36);
+    mesh_has(3, triangle, 6, 0x80, 0xA2);
+    mesh_has(6, mesh, 1, 0x70, 0x51);
 
     /* Each byte 13 more: the bytes below 13 stand for no value. */
     CHECK(loads(bytes + 13, 243) == JURNADEL_DONE && table.inverse[12] == 243 && table.inverse[13] == 0 && table.inverse[255] == 242);
     written_as(stick, 1, 0xAF);
     written_as(path, 2, 0x43);
+    mesh_has(3, triangle, 6, 0x80, 0xAF);
+    mesh_has(6, mesh, 1, 0x70, 0x43);
+    CHECK(reads(mesh_of_none, 8, 96, 6) == JURNADEL_NO_FIT_PLAN);
     CHECK(reads(of_13_more, 8, 32, 2) == JURNADEL_DONE && trails == 1 && order[0] == 0 && order[1] == 1);
     CHECK(reads(of_none, 8, 32, 2) == JURNADEL_NO_FIT_PLAN);
     /* Kinds without groups, and the shelf, which takes bytes as they are. */
@@ -458,6 +588,7 @@ static void tables(void) {
 static void sizes(void) {
     static const uint16_t kinds[] = {1, 2, 4, 0x101, 0x102, 0x104};
     uint16_t i, kind, m;
+    size_t k, p;
     for (i = 0; i < 6; i++)
         for (m = 1, kind = kinds[i]; m <= JURNADEL_MAX_TRAILS; m++)
             if (jurnadel_record_length(kind, m) != JURNADEL_RECORD_LEN(kind, m) || jurnadel_work_length(m) != JURNADEL_WORK_LEN(m)) {
@@ -465,7 +596,16 @@ static void sizes(void) {
                 return;
             }
     CHECK(jurnadel_record_length(1, 0) == 0 && jurnadel_record_length(2, 4097) == 0 && jurnadel_record_length(0, 1) == 0);
-    CHECK(jurnadel_record_length(3, 1) == 0 && jurnadel_record_length(5, 1) == 0 && jurnadel_record_length(4, 4097) == 0);
+    CHECK(jurnadel_record_length(5, 1) == 0 && jurnadel_record_length(4, 4097) == 0);
+    CHECK(jurnadel_record_length(3, 0) == 0 && jurnadel_record_length(3, 1) == 0 && jurnadel_record_length(3, 3) == 0 && jurnadel_record_length(3, 4095) == 0);
+    /* A mesh of 3k trails with p nodes of two children has 3k - 2 + p bits and k - p digits; 2p is below k. */
+    for (k = 1; k <= 1365; k++)
+        for (p = 0; 2 * p < k; p++)
+            if (6 + (3 * k + p + 5) / 8 + (k - p + 4) / 5 > JURNADEL_RECORD_LEN(3, 3 * k)) {
+                CHECK(!"the macro serves every mesh");
+                return;
+            }
+    CHECK(JURNADEL_RECORD_LEN(3, 3) == 8 && JURNADEL_RECORD_LEN(3, 6) == 8 && JURNADEL_RECORD_LEN(3, 4095) == 792);
     CHECK(jurnadel_record_length(0x100, 1) == 0 && jurnadel_record_length(0x103, 3) == 0 && jurnadel_record_length(0x204, 1) == 0);
     CHECK(jurnadel_record_length(0x101, 0) == 0 && jurnadel_record_length(0x104, 4097) == 0 && jurnadel_record_length(65535, 65535) == 0);
     /* As numbers, and as bytes. */
@@ -488,8 +628,11 @@ int main(void) {
     records();
     writing();
     outsides();
+    meshes();
     longest();
+    longest_mesh();
     reading();
+    reading_meshes();
     areas();
     shelves();
     tables();

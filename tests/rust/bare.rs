@@ -38,10 +38,11 @@ fn steps() -> Result<bool, Refusal> {
     let back = read(&table, &record[..length], &mut work, &mut order)?;
     let areas = area_lengths(&order, &mut work, &mut list)?;
     let shelved = shelve(&table, &record, &mut shelf, 0)?;
-    let fetched = fetch(&shelf, shelved.used, shelved.number)?;
+    let fetched = fetch(&shelf, shelved.used, shelved.number)? == record;
     let walked = walk(&shelf, shelved.used, 0)?.count();
+    let mesh = write(&table, &order, 0, 0, 3, &mut work, &mut shelf)?;
     let told = back.trails == 3 && back.outside == 1 && order == [5, 2, 1, 4, 3, 0] && areas == 2 && list == [3, 3];
-    Ok(told && fetched == record && walked == 1)
+    Ok(told && fetched && walked == 1 && shelf[..mesh] == [8, 0, 3, 0, 3, 0, 0x80, 0xA2])
 }
 
 #[no_mangle]

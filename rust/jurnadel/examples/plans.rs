@@ -27,12 +27,14 @@ fn makers_table() -> Result<(), Refusal> {
 fn main() -> Result<(), Refusal> {
     let table = Table::standard();
     // Name, kind, outside, turning order.
-    let plans: [(&str, u16, u16, [u16; 6]); 8] = [
+    let plans: [(&str, u16, u16, [u16; 6]); 10] = [
         ("triangle", 1, 0, [5, 2, 1, 4, 3, 0]),
         ("triangle, the other area outside", 0x101, 5, [5, 2, 1, 4, 3, 0]),
         ("three parallel trails", 1, 0, [5, 2, 4, 0, 1, 3]),
         ("dead end inside a pair", 2, 0, [4, 2, 1, 0, 3, 5]),
         ("triangle, numbered otherwise", 1, 0, [3, 4, 5, 0, 1, 2]),
+        ("triangle, as a mesh", 3, 0, [5, 2, 1, 4, 3, 0]),
+        ("three parallel trails, as a mesh", 3, 0, [5, 2, 4, 0, 1, 3]),
         ("one trail in from the start", 1, 0, [0, 2, 5, 4, 3, 1]),
         ("a loop around a dead end", 4, 0, [2, 1, 4, 0, 3, 5]),
         ("trails that cross", 4, 0, [3, 2, 4, 5, 1, 0]),

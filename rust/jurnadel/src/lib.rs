@@ -7,10 +7,11 @@
 //!
 //! A record is the plan in about 3 bits a trail (kind 1: no loop, and no dead end but the start), 3.6 (kind 2: no loop) or 4
 //! (kind 4: any connected planar plan). Kinds 0x101, 0x102 and 0x104 are the same with the outside area, in two bytes more.
-//! A shelf is records end to end, of any kinds.
+//! Kind 3 is for triangle meshes: no loop, and every area, the one outside included, is three darts of three different trails.
+//! It takes about 1.5 bits a trail, and its length varies with the plan. A shelf is records end to end, of any kinds.
 //!
-//! Kinds 2 and 0x102 store labels in groups of five, a byte each. Which byte stands for which group says a [`Table`]:
-//! [`Table::standard`], or a maker's own. A record is read under the table that it was written under.
+//! Kinds 2 and 0x102 store labels, and kind 3 node types, in groups of five, a byte each. Which byte stands for which group
+//! says a [`Table`]: [`Table::standard`], or a maker's own. A record is read under the table that it was written under.
 //!
 //! [`write()`], [`read()`], [`area_lengths()`], [`shelve()`], [`fetch()`] and [`walk()`] are the library's calls on lent
 //! buffers, one for one: no allocation, no state. `record_of`, `plan_of` and `areas_of` allocate what they need.
@@ -98,15 +99,15 @@ pub fn work_length(trails: u16) -> usize {
     unsafe { sys::jurnadel_work_length(trails) }
 }
 
-/// The length of a record of this kind with this many trails. Nothing where there is none: another kind than 1, 2, 4, 0x101,
-/// 0x102 or 0x104, no trail, or more than [`MAX_TRAILS`].
+/// The length of a record of this kind with this many trails. Nothing where these don't tell it: kind 3, whose records vary in
+/// length ([`record_room`]), another kind than 1, 2, 4, 0x101, 0x102 or 0x104, no trail, or more than [`MAX_TRAILS`].
 ///
 /// ```
 /// assert_eq!(jurnadel::record_length(1, 4096), Some(1542));
 /// assert_eq!(jurnadel::record_length(2, 4096), Some(1850));
 /// assert_eq!(jurnadel::record_length(4, 4096), Some(2054));
 /// assert_eq!(jurnadel::record_length(0x104, 4096), Some(2056));
-/// assert_eq!(jurnadel::record_length(3, 1), None);
+/// assert_eq!(jurnadel::record_length(3, 3), None);
 /// ```
 #[must_use]
 pub fn record_length(kind: u16, trails: u16) -> Option<usize> {
@@ -117,15 +118,37 @@ pub fn record_length(kind: u16, trails: u16) -> Option<usize> {
     }
 }
 
-/// Writes the record of a plan into the first bytes of `output`, and returns its length. Kinds 1, 2 and 4 ignore `outside`;
-/// the bytes of kinds 2 and 0x102 are those of this table.
+/// A length that no record of this kind with this many trails exceeds: in kind 3 about a fifth of a byte for each trail, in the
+/// other kinds [`record_length`]. Nothing where there is no such record: in kind 3 the number of trails is divisible by 3.
 ///
-/// `work` has [`work_length`] numbers or more, of any content; it is zeros on return.
+/// ```
+/// assert_eq!(jurnadel::record_room(3, 3), Some(8));
+/// assert_eq!(jurnadel::record_room(3, 4095), Some(792));
+/// assert_eq!(jurnadel::record_room(3, 4096), None);
+/// assert_eq!(jurnadel::record_room(1, 4096), Some(1542));
+/// ```
+#[must_use]
+pub fn record_room(kind: u16, trails: u16) -> Option<usize> {
+    match (kind, trails) {
+        (3, 3..=MAX_TRAILS) if trails % 3 == 0 => {
+            let trails = usize::from(trails);
+            Some(6 + (trails + 9) / 8 + (trails + 12) / 15)
+        }
+        _ => record_length(kind, trails),
+    }
+}
+
+/// Writes the record of a plan into the first bytes of `output`, and returns its length. Kinds 1, 2, 3 and 4 ignore `outside`;
+/// the bytes of kinds 2, 3 and 0x102 are those of this table.
+///
+/// `work` has [`work_length`] numbers or more, of any content; it is zeros on return. An `output` of [`record_room`] bytes
+/// always serves.
 ///
 /// # Errors
 ///
 /// Refusals 19, 2, 3, 4, 17 in kinds 101h, 102h and 104h, 6 to 10, then 11 in kinds 1, 2, 101h and 102h and 12 in kinds 1
-/// and 101h. A refused call leaves `output` untouched.
+/// and 101h. In kind 3 refusals 19, 2, 3, 4, 6, 7, 9, 10, 11, 18, then 8, as the record's length is known only then. A refused
+/// call leaves `output` untouched.
 ///
 /// ```
 /// let table = jurnadel::Table::standard();
@@ -140,6 +163,15 @@ pub fn record_length(kind: u16, trails: u16) -> Option<usize> {
 /// let mut output = [0; 9];
 /// assert_eq!(jurnadel::write(&table, &[1, 0], 0, 1, 0x104, &mut work, &mut output), Ok(9));
 /// assert_eq!(output, [0x09, 0, 0x04, 0x01, 0x01, 0, 0x01, 0, 0xB0]);
+///
+/// // A triangle mesh: a triangle with a junction inside, which is joined to its corners.
+/// let (order, mut work, mut output) = ([9, 2, 11, 4, 6, 0, 3, 8, 10, 5, 7, 1], [0; 192], [0; 8]);
+/// assert_eq!(jurnadel::write(&table, &order, 0, 0, 3, &mut work, &mut output), Ok(8));
+/// assert_eq!(output, [0x08, 0, 0x03, 0, 0x06, 0, 0x70, 0x87]);
+///
+/// // Three parallel trails: areas of two trails each.
+/// let parallel = jurnadel::write(&table, &[5, 2, 4, 0, 1, 3], 0, 0, 3, &mut work, &mut output);
+/// assert_eq!(parallel.unwrap_err().number(), 18);
 /// ```
 pub fn write(
     table: &Table,
@@ -176,7 +208,7 @@ pub fn write(
 pub struct ReadBack {
     /// The number of trails, m.
     pub trails: usize,
-    /// The lowest dart of the outside area; in kinds 1, 2 and 4 that is the start's area, and this is 0.
+    /// The lowest dart of the outside area; in kinds 1, 2, 3 and 4 that is the start's area, and this is 0.
     pub outside: u16,
 }
 
@@ -187,7 +219,7 @@ pub struct ReadBack {
 ///
 /// # Errors
 ///
-/// Refusals 19, 1, 2, 3, 5, 7, 8, 13. A refused call leaves `order` untouched.
+/// Refusals 19, 1, 2, 3, 5 but in kind 3, 7, 8, 13. A wrong length is 13 in kind 3. A refused call leaves `order` untouched.
 ///
 /// ```
 /// let table = jurnadel::Table::standard();
@@ -270,7 +302,7 @@ pub struct Shelved {
 ///
 /// # Errors
 ///
-/// Refusals 19, 1, 2, 3, 5, 14, 16. A refused call leaves the shelf untouched.
+/// Refusals 19, 1, 2, 3, 5 but in kind 3, 14, 16. A refused call leaves the shelf untouched.
 ///
 /// ```
 /// let record = [0x08, 0, 0x02, 0, 0x01, 0, 0x80, 0xA2];
@@ -360,8 +392,8 @@ impl core::iter::FusedIterator for Walk<'_> {}
 /// Refusals 14, 15; so a walk from the number just past the last record is 15.
 ///
 /// ```
-/// // Records of kinds 1, 2 and 4.
-/// let shelf = [7, 0, 1, 0, 2, 0, 0xC8, 8, 0, 2, 0, 1, 0, 0x80, 0xA2, 7, 0, 4, 0, 1, 0, 0xB0];
+/// // Records of kinds 1, 3 and 4.
+/// let shelf = [7, 0, 1, 0, 2, 0, 0xC8, 8, 0, 3, 0, 3, 0, 0x80, 0xA2, 7, 0, 4, 0, 1, 0, 0xB0];
 /// let walk = jurnadel::walk(&shelf, shelf.len(), 0)?;
 /// assert!(walk.eq([&shelf[..7], &shelf[7..15], &shelf[15..]]));
 /// # Ok::<(), jurnadel::Refusal>(())

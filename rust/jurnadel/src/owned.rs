@@ -1,6 +1,6 @@
 //! The calls with buffers of their own.
 
-use crate::{area_lengths, read, record_length, work_length, write, ReadBack, Refusal, Table, MAX_TRAILS};
+use crate::{area_lengths, read, record_room, work_length, write, ReadBack, Refusal, Table, MAX_TRAILS};
 use alloc::{vec, vec::Vec};
 
 /// The number of trails of a plan with this turning order, as far as the library asks: at most one more than the most.
@@ -12,8 +12,8 @@ fn trails_of(order: &[u16]) -> u16 {
 ///
 /// # Errors
 ///
-/// Refusals 19, 2, 3, 4, 17 in kinds 101h, 102h and 104h, 6, 9, 10, then 11 in kinds 1, 2, 101h and 102h and 12 in kinds 1
-/// and 101h.
+/// Refusals 19, 2, 3, 4, 17 in kinds 101h, 102h and 104h, 6, 9, 10, then 11 in kinds 1, 2, 3, 101h and 102h, 12 in kinds 1
+/// and 101h and 18 in kind 3.
 ///
 /// ```
 /// let table = jurnadel::Table::standard();
@@ -27,6 +27,12 @@ fn trails_of(order: &[u16]) -> u16 {
 /// assert_eq!(jurnadel::record_of(&table, &[0, 1], 0, 2, 0x102).unwrap_err().number(), 17);
 /// assert!(jurnadel::record_of(&table, &[0, 1], 0, 2, 2).is_ok());
 ///
+/// // The tetrahedron is a triangle mesh: 8 bytes in kind 3, 9 in kind 1. A square is none.
+/// let tetrahedron = [9, 2, 11, 4, 6, 0, 3, 8, 10, 5, 7, 1];
+/// assert_eq!(jurnadel::record_of(&table, &tetrahedron, 0, 0, 3)?, [0x08, 0, 0x03, 0, 0x06, 0, 0x70, 0x87]);
+/// assert_eq!(jurnadel::record_of(&table, &tetrahedron, 0, 0, 1)?.len(), 9);
+/// assert_eq!(jurnadel::record_of(&table, &[7, 2, 1, 4, 3, 6, 5, 0], 0, 0, 3).unwrap_err().number(), 18);
+///
 /// // A maker's own table, in which group values 36h and 51h have each other's bytes.
 /// let mut bytes = table.bytes;
 /// bytes.swap(0x36, 0x51);
@@ -38,7 +44,7 @@ fn trails_of(order: &[u16]) -> u16 {
 pub fn record_of(table: &Table, order: &[u16], start: u16, outside: u16, kind: u16) -> Result<Vec<u8>, Refusal> {
     let trails = trails_of(order);
     let mut work = vec![0; work_length(trails)];
-    let mut output = vec![0; record_length(kind, trails).unwrap_or(0)];
+    let mut output = vec![0; record_room(kind, trails).unwrap_or(0)];
     let length = write(table, order, start, outside, kind, &mut work, &mut output)?;
     output.truncate(length);
     Ok(output)
@@ -57,12 +63,13 @@ pub struct Plan {
 ///
 /// # Errors
 ///
-/// Refusals 19, 1, 2, 3, 5, 13.
+/// Refusals 19, 1, 2, 3, 5 but in kind 3, 13.
 ///
 /// ```
 /// let table = jurnadel::Table::standard();
 /// let plan = jurnadel::plan_of(&table, &[0x08, 0, 0x01, 0, 0x03, 0, 0xE2, 0x00])?;
 /// assert_eq!(plan, jurnadel::Plan { order: vec![5, 2, 1, 4, 3, 0], outside: 0 });
+/// assert_eq!(jurnadel::plan_of(&table, &[0x08, 0, 0x03, 0, 0x03, 0, 0x80, 0xA2])?, plan);
 /// assert_eq!(jurnadel::plan_of(&table, &[0x08, 0, 0x04, 0, 0x03, 0, 0x09, 0x70])?, plan);
 /// assert_eq!(jurnadel::plan_of(&table, &[0x07, 0, 0x01, 0, 0x02, 0, 0xCC]).unwrap_err().number(), 13);
 ///

@@ -25,22 +25,23 @@ macro_rules! refusals {
 
 refusals! {
     RECORD_CUT = 1: "The record has fewer than 6 bytes, or its length field isn't the number of bytes lent.",
-    BAD_KIND = 2: "The kind is not 1, 2, 4, 101h, 102h or 104h.",
+    BAD_KIND = 2: "The kind is not 1, 2, 3, 4, 101h, 102h or 104h.",
     BAD_COUNT = 3: "The dart count is 0, odd or above 8,192; in a record, m is 0 or above 4,096.",
     BAD_START = 4: "The start is not below the dart count.",
-    BAD_LENGTH = 5: "The length is not the one for this kind and m.",
+    BAD_LENGTH = 5: "The kind is not 3, and the length is not the one for this kind and m.",
     BAD_ENTRY = 6: "An entry of the turning order is not below the dart count, or two entries are equal.",
     SHORT_WORK = 7: "The work area (16-bit numbers) is shorter than 32 x m.",
     SHORT_OUTPUT = 8: "The output is shorter than the record, than 2m entries, or than the list of areas.",
     NOT_CONNECTED = 9: "The plan is not connected.",
     NOT_PLANAR = 10: "It is not planar.",
-    HAS_LOOP = 11: "Kind 1, 2, 101h or 102h, and it has a loop.",
+    HAS_LOOP = 11: "Kind 1, 2, 3, 101h or 102h, and it has a loop.",
     HAS_DEGREE_ONE = 12: "Kind 1 or 101h, and a junction other than the start's has degree one.",
     NO_FIT_PLAN = 13: "No fit plan of this kind has this record.",
     SHELF_BROKEN = 14: "The used length exceeds the shelf, or the used bytes are not records end to end that each pass 1, 2, 3 and 5.",
     NO_SUCH_RECORD = 15: "The shelf holds no record with this number, counting from 0.",
     SHELF_FULL = 16: "The record isn't on the shelf and exceeds the bytes past the used length.",
     BAD_OUTSIDE = 17: "Kind 101h, 102h or 104h, and the outside dart is not below the dart count.",
+    NOT_TRIANGLES = 18: "Kind 3, and an area is not three darts of three different trails.",
     BAD_TABLE = 19: "The group table is not 243 bytes, or two of them are equal, or a call is handed a table that loading never gives.",
 }
 
@@ -66,7 +67,7 @@ impl Refusal {
         Refusal { number, characteristic }
     }
 
-    /// Its number, 1 to 17 or 19.
+    /// Its number, 1 to 19.
     #[must_use]
     pub fn number(self) -> u16 {
         self.number

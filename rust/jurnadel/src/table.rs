@@ -2,7 +2,8 @@
 
 use crate::{settle, sys, Refusal};
 
-/// A group table: which byte stands for each value of a group of five labels in the payloads of kinds 2 and 0x102.
+/// A group table: which byte stands for each value of a group of five, of labels in the payloads of kinds 2 and 0x102, of node
+/// types in those of kind 3.
 ///
 /// [`Table::standard`] has the byte v for value v, from 0 to 242. A maker who stores groups under other bytes loads those by
 /// [`Table::load`]. Records written under a table are read under the same one; equal bytes under two tables may be two

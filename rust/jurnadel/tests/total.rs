@@ -5,7 +5,7 @@ use jurnadel::{Refusal, Table};
 use std::collections::{HashMap, HashSet};
 
 /// The kinds of records.
-const KINDS: [u16; 6] = [1, 2, 4, 0x101, 0x102, 0x104];
+const KINDS: [u16; 7] = [1, 2, 3, 4, 0x101, 0x102, 0x104];
 
 /// A sequence of numbers that look random.
 struct Numbers(u64);
@@ -75,15 +75,45 @@ impl Numbers {
         order
     }
 
+    /// A turning order as [`Numbers::order`] gives it; of kind 3 mostly that of a triangle mesh.
+    fn order_for(&mut self, kind: u16) -> Vec<u16> {
+        match kind == 3 && self.below(4) > 0 {
+            true => {
+                let junctions = self.below(3);
+                self.mesh(junctions)
+            }
+            false => self.order(),
+        }
+    }
+
+    /// The turning order of a triangle mesh: a triangle in which so many junctions were put, each into an area and joined to its
+    /// three corners.
+    fn mesh(&mut self, junctions: usize) -> Vec<u16> {
+        let mut order: Vec<u16> = vec![5, 2, 1, 4, 3, 0];
+        for _ in 0..junctions {
+            let (first, dart) = (self.below(order.len()), order.len());
+            // The corners of an area in the order of its walk, each named by the dart that it follows.
+            let after = |corner: usize| usize::from(order[corner]) ^ 1;
+            let corners = [first, after(first), after(after(first))];
+            // Around the new junction they come the other way round.
+            for (place, corner) in corners.into_iter().enumerate() {
+                let (at, next) = (dart + 2 * place, dart + 2 * ((place + 2) % 3) + 1);
+                order.extend([order[corner], next as u16]);
+                order[corner] = at as u16;
+            }
+        }
+        order
+    }
+
     /// A plan's record under this table, or bytes with the head of one; now and then a bit is turned, or it is cut.
     fn record(&mut self, table: &Table) -> Vec<u8> {
         let (kind, trails) = (KINDS[self.below(KINDS.len())], 1 + self.below(4) as u16);
-        let length = jurnadel::record_length(kind, trails).unwrap_or(0);
+        let length = jurnadel::record_length(kind, trails).unwrap_or(6 + self.below(4));
         let mut record = self.bytes(length);
         for (place, field) in [length as u16, kind, trails].into_iter().enumerate() {
             record[2 * place..][..2].copy_from_slice(&field.to_le_bytes());
         }
-        let (order, outside) = (self.order(), self.mostly(4) as u16);
+        let (order, outside) = (self.order_for(kind), self.mostly(4) as u16);
         record = jurnadel::record_of(table, &order, 0, outside, kind).unwrap_or(record);
         if self.below(5) == 0 {
             let place = self.below(record.len());
@@ -149,18 +179,20 @@ fn plans_and_records() {
     for _ in 0..60_000 {
         let table = numbers.table();
         refused += u32::from(!is_loaded(&table));
-        let (order, start, outside) = (numbers.order(), numbers.mostly(4) as u16, numbers.mostly(4) as u16);
         let kind = numbers.kind();
+        let (order, start, outside) = (numbers.order_for(kind), numbers.mostly(4) as u16, numbers.mostly(4) as u16);
         let (mut work, mut output) = (vec![7; numbers.below(200)], vec![7; numbers.below(14)]);
         let answer = jurnadel::write(&table, &order, start, outside, kind, &mut work, &mut output);
         assert!(tested(&answer, &table));
-        met(answer, &[19, 2, 3, 4, 6, 7, 8, 9, 10, 11, 12, 17]);
+        met(answer, &[19, 2, 3, 4, 6, 7, 8, 9, 10, 11, 12, 17, 18]);
         assert!(kind > 0x100 || answer.map_err(Refusal::number) != Err(Refusal::BAD_OUTSIDE));
+        assert!(kind == 3 || answer.map_err(Refusal::number) != Err(Refusal::NOT_TRIANGLES));
         assert!(work.iter().all(|&number| number == 0));
         assert!(output[answer.unwrap_or(0)..].iter().all(|&byte| byte == 7));
         let record = jurnadel::record_of(&table, &order, start, outside, kind);
         assert!(tested(&record, &table));
-        if let Some(record) = met(record, &[19, 2, 3, 4, 6, 9, 10, 11, 12, 17]) {
+        if let Some(record) = met(record, &[19, 2, 3, 4, 6, 9, 10, 11, 12, 17, 18]) {
+            assert!(Some(record.len()) <= jurnadel::record_room(kind, order.len() as u16 / 2));
             let plan = jurnadel::plan_of(&table, &record).expect("a record");
             assert_eq!(plan.order.len(), order.len());
             assert!(plan.outside == 0 || kind > 0x100);
@@ -172,6 +204,7 @@ fn plans_and_records() {
         assert!(tested(&answer, &table));
         assert!(work.iter().all(|&number| number == 0));
         met(answer, &[19, 1, 2, 3, 5, 7, 8, 13]);
+        assert!(record.get(2..4) != Some(&[3, 0]) || answer.map_err(Refusal::number) != Err(Refusal::BAD_LENGTH));
         assert!(order[answer.map_or(0, |read| 2 * read.trails)..].iter().all(|&entry| entry == 9));
         if let Some(plan) = met(jurnadel::plan_of(&table, &record), &[19, 1, 2, 3, 5, 13]) {
             let kind = u16::from_le_bytes([record[2], record[3]]);
@@ -184,6 +217,23 @@ fn plans_and_records() {
         assert!(counts.iter().all(|&count| count > 100), "kind {kind:X}h: {counts:?} written and read");
     }
     assert!(refused > 100, "{refused} tables refused");
+}
+
+/// Meshes up to the largest: each has a record of kind 3 that is read as the plan of its record of kind 1, within the room for it.
+#[test]
+fn meshes() {
+    let (mut numbers, table) = (Numbers(1812), Table::standard());
+    for junctions in (0..40).chain([300, 1363, 1364]) {
+        let order = numbers.mesh(junctions);
+        let start = numbers.below(order.len()) as u16;
+        let record = |kind| jurnadel::record_of(&table, &order, start, u16::MAX, kind).expect("a mesh");
+        let (mesh, bits) = (record(3), record(1));
+        assert!(Some(mesh.len()) <= jurnadel::record_room(3, order.len() as u16 / 2));
+        assert!(mesh.len() < bits.len() || junctions == 0);
+        assert_eq!(jurnadel::plan_of(&table, &mesh), jurnadel::plan_of(&table, &bits));
+        let longer = [&(mesh.len() as u16 + 1).to_le_bytes(), &mesh[2..], &[0]].concat();
+        assert_eq!(jurnadel::plan_of(&table, &longer).map_err(Refusal::number), Err(Refusal::NO_FIT_PLAN));
+    }
 }
 
 #[test]
@@ -246,6 +296,12 @@ fn sizes() {
     let lengths = KINDS.map(|kind| jurnadel::record_length(kind, jurnadel::MAX_TRAILS));
     assert_eq!(lengths.into_iter().flatten().max(), Some(jurnadel::MAX_RECORD_LENGTH));
     assert!(KINDS.iter().all(|&kind| jurnadel::record_length(kind, jurnadel::MAX_TRAILS + 1).is_none()));
+    assert!(KINDS.iter().all(|&kind| jurnadel::record_room(kind, jurnadel::MAX_TRAILS + 1).is_none()));
+    for trails in 0..=jurnadel::MAX_TRAILS {
+        assert_eq!(jurnadel::record_room(3, trails).is_some(), trails > 0 && trails % 3 == 0);
+        let others = KINDS.iter().filter(|&&kind| kind != 3);
+        assert!(others.copied().all(|kind| jurnadel::record_room(kind, trails) == jurnadel::record_length(kind, trails)));
+    }
     assert_eq!(jurnadel::MAX_ORDER_LENGTH, 2 * usize::from(jurnadel::MAX_TRAILS));
     assert_eq!(jurnadel::MAX_AREAS_LENGTH, usize::from(jurnadel::MAX_TRAILS) + 1);
 }
