@@ -57,11 +57,46 @@ impl Growing {
         dart
     }
 
+    /// Turns a trail between two triangles, so that it joins their other two corners, unless these are of one junction.
+    fn turn(&mut self, dart: u16) {
+        // The corner after an end is of the triangle on its left, and the next one is across from the trail.
+        let ends = [dart, dart ^ 1];
+        let corners = ends.map(|end| self.corner(end, 1));
+        let junctions = crate::shape::junctions(&self.order).of;
+        if junctions[usize::from(corners[0])] == junctions[usize::from(corners[1])] {
+            return;
+        }
+        for end in ends {
+            let before = self.order.iter().position(|&next| next == end).expect("an order has each dart once");
+            self.order[before] = self.order[usize::from(end)];
+        }
+        ends.into_iter().zip(corners).for_each(|(end, corner)| self.put_after(corner, end));
+    }
+
     /// Puts a new dart right after another.
     fn put_after(&mut self, after: u16, dart: u16) {
         self.order[usize::from(dart)] = self.order[usize::from(after)];
         self.order[usize::from(after)] = dart;
     }
+}
+
+/// The turning order of a random triangle mesh: junctions are put into areas and joined to their corners, and trails between two
+/// areas are turned to join the other corners of these, where that makes no loop.
+pub fn mesh(trails: usize, random: &mut Random) -> Vec<u16> {
+    let mut plan = Growing { order: vec![5, 2, 1, 4, 3, 0] };
+    while plan.order.len() < 2 * trails {
+        let corner = random.below(plan.order.len()) as u16;
+        let dart = plan.dead_end(corner);
+        // From the new junction to the area's other corners: each trail leaves a triangle behind.
+        for _ in 0..2 {
+            plan.across(dart + 1, 2);
+        }
+        for _ in 0..random.below(4) {
+            let dart = random.below(plan.order.len()) as u16;
+            plan.turn(dart);
+        }
+    }
+    plan.order
 }
 
 /// How a random plan grows: out of ten steps so many are dead ends; the other trails go so many corners on, below a bound.

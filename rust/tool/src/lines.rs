@@ -203,6 +203,7 @@ mod tests {
         assert_eq!(written("0 3 2 1 0\n0 0 1\n0 1 0\n"), "070001000200C8\n08000200010080A2\n070004000100B0\n");
         assert_eq!(answers(Way::Write(Some(2)), b"0 3 2 1 0"), "080002000200C051\n");
         assert_eq!(answers(Way::Write(Some(4)), b"0 5 2 1 4 3 0"), "0800040003000970\n");
+        assert_eq!(answers(Way::Write(Some(3)), b"0 5 2 1 4 3 0\n1/5 5 2 1 4 3 0"), "08000300030080A2\n".repeat(2));
         assert_eq!(written(" 0\t3  2 1 0 \r\n000 3 2 0001 0"), "070001000200C8\n070001000200C8\n");
     }
 
@@ -232,7 +233,8 @@ mod tests {
         assert_eq!(written("0 0 1 2 3\n0 3 2 4 5 1 0\n"), "refused 9\nrefused 10 0\n");
         assert_eq!(answers(Way::Write(Some(2)), b"0 1 0\n"), "refused 11\n");
         assert_eq!(answers(Way::Write(Some(1)), b"0 0 1\n"), "refused 12\n");
-        assert_eq!(answers(Way::Write(Some(3)), b"0 0 1\n"), "refused 2\n");
+        assert_eq!(answers(Way::Write(Some(5)), b"0 0 1\n"), "refused 2\n");
+        assert_eq!(answers(Way::Write(Some(3)), b"0 0 1\n0 1 0\n0 5 2 4 0 1 3\n"), "refused 18\nrefused 11\nrefused 18\n");
         assert_eq!(written("0\n0 0 65536\n99999999999999999999999 0 1\n"), "refused 3\nrefused 6\nrefused 4\n");
         assert_eq!(written(&"0 ".repeat(9000)), "refused 3\n");
         let path: String = (0..8192).map(|dart| format!(" {dart}")).collect();
@@ -253,9 +255,10 @@ mod tests {
     fn records() {
         let read = |line: &[u8]| answers(Way::Read, line);
         assert_eq!(read(b"070001000200C8\n07 00 01 00\t02 00 c8\r\n"), "0 3 2 1 0\n0 3 2 1 0\n");
-        assert_eq!(read(b"07\n070003000200C8\n070001000000C8\n"), "refused 1\nrefused 2\nrefused 3\n");
+        assert_eq!(read(b"07\n070005000200C8\n070001000000C8\n"), "refused 1\nrefused 2\nrefused 3\n");
         assert_eq!(read(b"070001000300C8\n070001000200CC\n"), "refused 5\nrefused 13\n");
         assert_eq!(read(b"070004000100B0\n070004000100B8\n"), "0 1 0\nrefused 13\n");
+        assert_eq!(read(b"08000300030080A2\n07000300030080\n070003000200C8\n"), "0 5 2 1 4 3 0\nrefused 13\nrefused 13\n");
         assert_eq!(read(b"0A00010103000100E200\n0900040101000000B0\n"), "0/1 5 2 1 4 3 0\n0/0 1 0\n");
         // No lowest dart of an area; no dart; a kind with no outside in its head.
         assert_eq!(

@@ -51,7 +51,7 @@ impl Problem {
 pub fn in_words(refusal: Refusal) -> String {
     let words = match refusal.number() {
         Refusal::RECORD_CUT => "the record is cut short or too long: its length field and its bytes don't agree",
-        Refusal::BAD_KIND => "there is no such kind of record; the kinds are 1, 2, 4, 101h, 102h and 104h",
+        Refusal::BAD_KIND => "there is no such kind of record; the kinds are 1, 2, 3, 4, 101h, 102h and 104h",
         Refusal::BAD_COUNT => "a plan has 1 to 4,096 trails with two ends each",
         Refusal::BAD_START => "the start is none of the plan's trail ends",
         Refusal::BAD_OUTSIDE => "the outside is none of the plan's trail ends",
@@ -61,6 +61,7 @@ pub fn in_words(refusal: Refusal) -> String {
         Refusal::NOT_PLANAR => "in this turning order the plan cannot be drawn without crossings",
         Refusal::HAS_LOOP => "a trail leads back to the junction that it comes from, a loop, which only kinds 4 and 104h take",
         Refusal::HAS_DEGREE_ONE => "the plan has a dead end other than its start, which kinds 1 and 101h don't take",
+        Refusal::NOT_TRIANGLES => "an area is not a triangle; in kind 3 every area is one, the one outside too",
         Refusal::NO_FIT_PLAN => "no plan has this record; it may have been damaged",
         Refusal::SHELF_BROKEN => "the shelf is damaged: its bytes are not records end to end",
         Refusal::NO_SUCH_RECORD => "the shelf has no record with this number; numbers count from 0",

@@ -1,10 +1,12 @@
 //! What stands on a shelf file that may be damaged.
 //!
 //! Records are taken one after another. Where none stands, or one that no plan has and that no record follows, the search goes on
-//! byte by byte to the next record that a plan has; what is passed over is a gap. Up to the first gap a record's number is how
-//! many stand before it. Past it the checksums tell, if they are kept: a run of records stands where its checksums do.
+//! byte by byte to the next record that a plan has; what is passed over is a gap. So it does at a record of kind 3 that no plan has
+//! and whose length no mesh's record has: the shelf takes it with any length, and other records may stand within it. Up to the
+//! first gap a record's number is how many stand before it. Past it the checksums tell, if they are kept: a run of records
+//! stands where its checksums do.
 
-use crate::sums;
+use crate::{kinds, sums};
 use jurnadel::{Refusal, Table};
 use std::ops::Range;
 
@@ -41,7 +43,7 @@ pub fn parts<'a>(table: &Table, shelf: &'a [u8], kept: &[u32]) -> Vec<Part<'a>> 
     let mut parts = Vec::new();
     let (mut at, mut least) = (0, 0);
     while at < shelf.len() {
-        let run = run_at(table, shelf, at);
+        let run = run_at(table, shelf, at, kept);
         let first = if at == 0 { Some(0) } else { first_number(&run, kept, least) };
         least = first.map_or(least, |first| first + run.len());
         for (index, record) in run.into_iter().enumerate() {
@@ -58,12 +60,13 @@ pub fn parts<'a>(table: &Table, shelf: &'a [u8], kept: &[u32]) -> Vec<Part<'a>> 
 }
 
 /// The records that stand one after another from a place on.
-fn run_at<'a>(table: &Table, shelf: &'a [u8], at: usize) -> Vec<&'a [u8]> {
+fn run_at<'a>(table: &Table, shelf: &'a [u8], at: usize, kept: &[u32]) -> Vec<&'a [u8]> {
     let mut walk = jurnadel::walk_from(shelf, shelf.len(), at);
     let mut run = Vec::new();
     while let Some(record) = walk.next() {
         let followed = walk.place() == shelf.len() || walk.clone().next().is_some();
-        if !followed && jurnadel::plan_of(table, record).is_err() {
+        let measured = || kinds::may_have_its_length(record) || kept.contains(&sums::crc(record));
+        if !(followed && measured()) && jurnadel::plan_of(table, record).is_err() {
             break;
         }
         run.push(record);
@@ -104,10 +107,14 @@ mod tests {
     const TRIANGLE: [u8; 8] = [8, 0, 1, 0, 3, 0, 0xE2, 0];
     const THREE: [u8; 8] = [8, 0, 1, 0, 3, 0, 0xD2, 0x80];
     const STICK: [u8; 8] = [8, 0, 2, 0, 1, 0, 0x80, 0xA2];
+    const MESH: [u8; 8] = [8, 0, 3, 0, 6, 0, 0x70, 0x87];
 
     /// The shelf with one byte changed: its parts in a line, records by number or `?`, with `!` where not whole.
     fn line(place: usize, value: u8, sums: bool) -> String {
-        let records: [&[u8]; 4] = [&PAIR, &TRIANGLE, &THREE, &STICK];
+        line_of([&PAIR, &TRIANGLE, &THREE, &STICK], place, value, sums)
+    }
+
+    fn line_of(records: [&[u8]; 4], place: usize, value: u8, sums: bool) -> String {
         let kept: Vec<u32> = if sums { records.map(sums::crc).to_vec() } else { Vec::new() };
         let mut shelf = records.concat();
         shelf[place] = value;
@@ -126,8 +133,13 @@ mod tests {
         assert_eq!(line(0, 7, false), "0 1 2 3");
         assert_eq!(line(0, 9, true), "0..7 1 2 3");
         assert_eq!(line(0, 9, false), "0..7 ? ? ?");
-        assert_eq!(line(9, 3, true), "0 7..15 2 3");
-        assert_eq!(line(9, 3, false), "0 7..15 ? ?");
+        assert_eq!(line(9, 5, true), "0 7..15 2 3");
+        assert_eq!(line(9, 5, false), "0 7..15 ? ?");
+        // Another kind, in which its length is right, and one in which it isn't.
+        assert_eq!(line(9, 3, true), "0 1! 2 3");
+        assert_eq!(line(9, 3, false), "0 1! 2 3");
+        assert_eq!(line(2, 3, true), "0..7 1 2 3");
+        assert_eq!(line(2, 3, false), "0..7 ? ? ?");
         // Another plan's record, or none's.
         assert_eq!(line(13, 0xD2, true), "0 1! 2 3");
         assert_eq!(line(13, 0xFF, false), "0 1! 2 3");
@@ -137,25 +149,48 @@ mod tests {
         assert_eq!(line(30, 0xFF, false), "0 1 2 3!");
     }
 
-    /// With checksums no turned bit goes unnoticed; without them some do, which make another plan's record.
+    /// A record of kind 3 may have any length on a shelf; so it may reach over the next one, or over all the others.
+    #[test]
+    fn damage_of_a_mesh() {
+        let line = |place, value, sums| line_of([&PAIR, &MESH, &THREE, &STICK], place, value, sums);
+        for length in [16, 24] {
+            assert_eq!(line(7, length, true), "0 7..15 2 3");
+            assert_eq!(line(7, length, false), "0 7..15 ? ?");
+        }
+        // It ends within the next record, before its own payload, or past the shelf.
+        for length in [6, 7, 9, 12, 25] {
+            assert_eq!(line(7, length, true), "0 7..15 2 3");
+        }
+        // Another number of trails: a mesh's or not.
+        assert_eq!(line(11, 9, true), "0 1! 2 3");
+        assert_eq!(line(11, 7, true), "0 7..15 2 3");
+        assert_eq!(line(13, 0x71, true), "0 1! 2 3");
+        // A record that no plan has and that was shelved like this.
+        let odd = [9, 0, 3, 0, 6, 0, 0x70, 0x87, 0];
+        let shelf = |records| line_of(records, 0, 7, true);
+        assert_eq!(shelf([&PAIR, &odd, &THREE, &STICK]), "0 1 2 3");
+    }
+
+    /// With checksums no turned bit goes unnoticed, and all records but one are whole; without them some do, which make another
+    /// plan's record.
     #[test]
     fn a_turned_bit() {
         let valley =
             [26, 24, 15, 4, 3, 25, 29, 0, 7, 10, 28, 27, 22, 14, 16, 20, 13, 18, 17, 19, 1, 21, 11, 23, 2, 6, 8, 12, 9, 5];
         let valley = jurnadel::record_of(&Table::standard(), &valley, 7, 7, 2).unwrap();
-        let shelf = [&PAIR[..], &TRIANGLE, &valley, &STICK].concat();
+        let shelf = [&PAIR[..], &MESH, &TRIANGLE, &valley, &STICK].concat();
         let kept: Vec<u32> = jurnadel::walk_from(&shelf, shelf.len(), 0).map(sums::crc).collect();
         let mut unnoticed = 0;
         for bit in 0..8 * shelf.len() {
             let mut turned = shelf.clone();
             turned[bit / 8] ^= 1 << (bit % 8);
             let whole = |kept: &[u32]| {
-                parts(&Table::standard(), &turned, kept)
-                    .iter()
-                    .all(|part| matches!(part, Part::Record(found) if found.is_whole()))
+                let parts = parts(&Table::standard(), &turned, kept);
+                let whole = parts.iter().filter(|part| matches!(part, Part::Record(found) if found.is_whole())).count();
+                (whole, whole == parts.len())
             };
-            assert!(!whole(&kept), "bit {bit}");
-            unnoticed += usize::from(whole(&[]));
+            assert_eq!(whole(&kept), (kept.len() - 1, false), "bit {bit}");
+            unnoticed += usize::from(whole(&[]).1);
         }
         assert!(unnoticed > 0);
     }

@@ -1,4 +1,4 @@
-//! The group table: the bytes under which records of kinds 2 and 102h have their groups of labels.
+//! The group table: the bytes under which records of kinds 2, 3 and 102h have their groups.
 
 use crate::commands::counted;
 use crate::files::bytes_of;

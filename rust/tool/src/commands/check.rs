@@ -2,7 +2,7 @@
 
 use super::{counts, record_of, Command, Done};
 use crate::inputs::{self, FILES_FROM};
-use crate::kinds;
+use crate::kinds::{self, MESH};
 use crate::options::{Options, Word};
 use crate::plan_file::Plan;
 use crate::report::{Problem, Report};
@@ -18,9 +18,10 @@ usage: jurnadel check [--kind KIND] [--table FILE] [--files-from LIST] PLAN..
 Says of each plan file how many junctions, trails and areas it has, and the kind
 and length of its record: kind 1, or 2 for a plan with a dead end other than its
 start, or 4 for one with a loop; of a plan that names an outside 101h, 102h or
-104h.
+104h. Of a triangle mesh, a plan without loops and with three trails around each
+area, the one outside included, also its length in kind 3, if that is shorter.
 
-  --kind KIND         the record in this kind: 1, 2, 4, 101h, 102h or 104h
+  --kind KIND         the record in this kind: 1, 2, 3, 4, 101h, 102h or 104h
   --table FILE        under this group table (jurnadel write --help), which
                       changes neither kind nor length
   --files-from LIST   also the files that LIST names, a line each or
@@ -49,8 +50,17 @@ fn check_one(path: &Word, table: &Table, kind: Option<u16>) -> Result<String, Pr
     let plan = Plan::load(path)?;
     let record = record_of(&plan, path, table, kind)?;
     let taken = kinds::of(&record);
-    let why = if kind.is_none() { why(taken) } else { "" };
-    Ok(format!("{path}: {}; kind {}{why}, {} bytes", counts(&plan.order), kinds::name(taken), record.len()))
+    let (why, mesh) = match kind {
+        None => (why(taken), mesh(&plan, table, record.len())),
+        Some(_) => ("", String::new()),
+    };
+    Ok(format!("{path}: {}; kind {}{why}, {} bytes{mesh}", counts(&plan.order), kinds::name(taken), record.len()))
+}
+
+/// Where kind 3 takes a plan too, in fewer bytes, what there is to say of that. It would leave an outside out.
+fn mesh(plan: &Plan, table: &Table, bytes: usize) -> String {
+    let mesh = plan.record(table, Some(MESH)).ok().filter(|mesh| plan.outside.is_none() && mesh.len() < bytes);
+    mesh.map_or(String::new(), |mesh| format!(", or kind 3 (every area is a triangle), {} bytes", mesh.len()))
 }
 
 /// Why a plan gets this kind.

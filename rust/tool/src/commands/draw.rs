@@ -26,8 +26,8 @@ trail 3 has darts 6 and 7. Loops, parallel trails and dead ends are drawn too.
                    trail as one leaves the junction, or 'JUNCTION TRAIL right'.
                    Without it, the outside that the plan names, or else the area
                    of the start dart
-  --table FILE     the group table of a record of kind 2 or 102h (jurnadel write
-                   --help)
+  --table FILE     the group table of a record of kind 2, 3 or 102h (jurnadel
+                   write --help)
   -o FILE          to this file, which must not be there; else to standard
                    output
   --force          replace the file if it is there

@@ -20,12 +20,12 @@ usage: jurnadel find [--kind KIND] [--table FILE] [--files-from LIST] SHELF
 Says of each plan file under which number it is on the shelf, in whatever kind:
 'NUMBER there NAME', or '- not there NAME'. A plan that names an outside is
 looked for with this outside (kinds 101h, 102h, 104h), another one without (1,
-2, 4). Nothing is shelved.
+2, 3, 4). Nothing is shelved.
 
   --kind KIND         look for records of this kind only
   --table FILE        the group table that the shelf was written under; under
-                      another one a plan in kind 2 or 102h may not be found, or
-                      another one be taken for it
+                      another one a plan in kind 2, 3 or 102h may not be found,
+                      or another one be taken for it
   --files-from LIST   also the files that LIST names, a line each or
                       NUL-separated; - is standard input
 
@@ -57,7 +57,7 @@ fn run(words: &[Word], report: &mut Report) -> Done {
 /// that no kind takes is refused.
 fn numbers(shelf: &Shelf, path: &Word, table: &Table, kind: Option<u16>) -> Result<Vec<usize>, Problem> {
     let plan = Plan::load(path)?;
-    let kinds = kind.map_or(kinds::group(plan.outside.is_some()).to_vec(), |kind| vec![kind]);
+    let kinds = kind.map_or(kinds::all(plan.outside.is_some()), |kind| vec![kind]);
     let records = kinds.iter().map(|&kind| plan.record(table, Some(kind)));
     let (records, refused): (Vec<_>, Vec<_>) = records.partition(Result::is_ok);
     match refused.into_iter().next_back() {

@@ -20,8 +20,8 @@ plan as a plan file, in standard numbering with start 0, and with a line of
 outside if the record is of kind 101h, 102h or 104h.
 
   --table FILE  the group table that the record was written under (jurnadel
-                write --help), if it is of kind 2 or 102h. Under another one it
-                may be refused (13), or be another plan's
+                write --help), if it is of kind 2, 3 or 102h. Under another one
+                it may be refused (13), or be another plan's
   --raw         the record is bytes, not hexadecimal
   --junctions   the plan file by junctions, as jurnadel show prints it
   -o FILE       to this file, which must not be there

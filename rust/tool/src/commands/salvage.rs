@@ -21,7 +21,7 @@ Prints which numbers the records had and have now; OLD is not changed, and NEW
 must not be there.
 
   --table FILE   the group table that the shelf was written under; under another
-                 one records of kinds 2 and 102h that have no checksum may be
+                 one records of kinds 2, 3 and 102h that have no checksum may be
                  left out though they are whole
 
 Exit status 1 if something was not kept.

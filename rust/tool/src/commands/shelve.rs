@@ -25,13 +25,16 @@ name. A plan that is refused is reported, and the others are shelved. A SHELF
 that isn't there is made. PLAN is a plan file, or a folder: the .plan files in
 it.
 
-  --kind KIND         1, 2, 4, 101h, 102h or 104h; else 1, or 2 for a plan with
-                      a dead end other than its start, or 4 for one with a loop;
-                      for a plan that names an outside 101h, 102h or 104h, which
-                      are the same with the outside; the others leave it out
+  --kind KIND         1, 2, 3, 4, 101h, 102h or 104h; else 1, or 2 for a plan
+                      with a dead end other than its start, or 4 for one with a
+                      loop; for a plan that names an outside 101h, 102h or 104h,
+                      which are the same with the outside; the others leave it
+                      out. Kind 3 takes triangle meshes, in about half the bytes
+                      of kind 1: plans without loops and with three trails
+                      around each area, the one outside included
   --table FILE        the group table (jurnadel write --help), one for all of a
                       shelf: the file doesn't say which it is, and under another
-                      one a plan in kind 2 or 102h isn't known again
+                      one a plan in kind 2, 3 or 102h isn't known again
   --size BYTES        the shelf's whole length; a record that exceeds it is
                       refused (16). Else the shelf grows
   --raw               the files are records, as bytes; of a folder, the .record
@@ -109,7 +112,7 @@ fn shelve_plan(shelf: &mut ShelfFile, file: &Word, table: &Table, kind: Option<u
         return Ok((number, THERE));
     }
     let taken = kinds::of(&record);
-    let others = kinds::group(kinds::has_outside(taken)).into_iter().filter(|&other| other != taken);
+    let others = kinds::all(kinds::has_outside(taken)).into_iter().filter(|&other| other != taken);
     let found = |other| Some((other, shelf.shelf.find(&plan.record(table, Some(other)).ok()?)?));
     let elsewhere: Vec<(u16, usize)> = others.filter_map(found).collect();
     // The tool's own choice of a kind makes no plan new: an earlier version chose kind 2 for more plans.

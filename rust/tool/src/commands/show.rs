@@ -26,8 +26,8 @@ bytes) or on a shelf; - is standard input.
                 of its own the plan gets A, B, .. for its junctions and a, b, ..
                 for its trails, in the order of the contour walk
   --numbers     by numbers
-  --table FILE  the group table of a record of kind 2 or 102h (jurnadel write
-                --help)
+  --table FILE  the group table of a record of kind 2, 3 or 102h (jurnadel
+                write --help)
   -o FILE       to this file, which must not be there
   --force       replace the file if it is there
 ";

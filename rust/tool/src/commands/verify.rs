@@ -18,11 +18,14 @@ that it has the checksum that is kept for it (SHELF.sums). Says which are not,
 where bytes are no record, and which records stand there twice.
 
   --table FILE   the group table that the shelf was written under; under another
-                 one its records of kinds 2 and 102h may be no plan's
+                 one its records of kinds 2, 3 and 102h may be no plan's
 
 Exit status 1 if something is wrong; a record that stands there twice, or one
 without a checksum, is not.
 ";
+
+/// Why bytes of a shelf that the library takes are no record.
+const WRONG_LENGTH: &str = "the shelf is damaged: a record of kind 3 has a length that no mesh's record has";
 
 fn run(words: &[Word], report: &mut Report) -> Done {
     let options = Options::parse(words, &[], &[TABLE])?;
@@ -34,12 +37,16 @@ fn run(words: &[Word], report: &mut Report) -> Done {
     parts.iter().for_each(|part| report_fault(path, part, report));
     let records: Vec<&Found> = records(&parts).collect();
     report_doubles(path, &records, report);
-    if let Err(refusal) = shelf::sound(&bytes, bytes.len()) {
+    let damage = match shelf::sound(&bytes, bytes.len()) {
+        Err(refusal) => Some(in_words(refusal)),
+        Ok(()) => parts.iter().any(|part| matches!(part, Part::Gap(_))).then(|| String::from(WRONG_LENGTH)),
+    };
+    if let Some(damage) = damage {
         let advice = match records.iter().filter(|found| found.is_whole()).count() {
             0 => String::from("no record is whole; is it a shelf at all?"),
             whole => format!("{} whole, which 'salvage' keeps", counted(whole, "record")),
         };
-        return Err(Problem::Refused(format!("{path}: {}; {advice}", in_words(refusal))));
+        return Err(Problem::Refused(format!("{path}: {damage}; {advice}")));
     }
     let unreadable = records.iter().filter(|found| found.unreadable.is_some()).count();
     let readable = if unreadable == 0 { String::from("each is a plan's") } else { format!("{unreadable} cannot be read") };

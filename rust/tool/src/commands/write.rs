@@ -18,14 +18,17 @@ usage: jurnadel write [--kind KIND] [--table FILE] [--raw] [-o FILE [--force]]
 
 Writes the record of each plan file, a line of hexadecimal bytes each.
 
-  --kind KIND         1, 2, 4, 101h, 102h or 104h; else 1, or 2 for a plan with
-                      a dead end other than its start, or 4 for one with a loop;
-                      for a plan that names an outside 101h, 102h or 104h, which
-                      are the same with the outside; the others leave it out
+  --kind KIND         1, 2, 3, 4, 101h, 102h or 104h; else 1, or 2 for a plan
+                      with a dead end other than its start, or 4 for one with a
+                      loop; for a plan that names an outside 101h, 102h or 104h,
+                      which are the same with the outside; the others leave it
+                      out. Kind 3 takes triangle meshes, in about half the bytes
+                      of kind 1: plans without loops and with three trails
+                      around each area, the one outside included
   --table FILE        a maker's own group table: 243 bytes, all different, byte
-                      n for group value n, from 0 on. Records of kinds 2 and
-                      102h have these bytes, and are read back under the same
-                      table only; other kinds don't depend on it. Else the
+                      n for group value n, from 0 on. Records of kinds 2, 3
+                      and 102h have these bytes, and are read back under the
+                      same table only; other kinds don't depend on it. Else the
                       standard table, bytes 0, 1, .., 242
   --raw               bytes in place of hexadecimal; several records stand end
                       to end

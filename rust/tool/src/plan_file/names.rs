@@ -3,7 +3,7 @@
 use super::{Plan, Wrong};
 use crate::names::beginning;
 use crate::report::{in_words, with_number};
-use crate::shape::{walk, Walk};
+use crate::shape::{areas, walk, Walk};
 use jurnadel::Refusal;
 use std::collections::HashSet;
 
@@ -63,6 +63,7 @@ impl Names {
             Refusal::NOT_CONNECTED => self.in_pieces(plan),
             Refusal::HAS_LOOP => self.loops(),
             Refusal::HAS_DEGREE_ONE => self.dead_end(plan),
+            Refusal::NOT_TRIANGLES => self.no_triangle(plan),
             _ => None,
         };
         match found {
@@ -102,6 +103,17 @@ impl Names {
         let name = &self.junctions.iter().find(ends)?.name;
         Some((name.line, format!("junction {} is a dead end, which kinds 1 and 101h don't take", name.shown())))
     }
+
+    /// The first mention of a trail with an area on its left that is no triangle, of a plan without loops.
+    fn no_triangle(&self, plan: &Plan) -> Option<Wrong> {
+        let (area, lengths) = (areas(&plan.order).of, jurnadel::areas_of(&plan.order).ok()?);
+        let sides = |dart: usize| lengths[area[dart ^ 1]];
+        let mut mentions = self.junctions.iter().flat_map(|junction| junction.darts.iter().map(move |&dart| (junction, dart)));
+        let (junction, dart) = mentions.find(|&(_, dart)| sides(dart) != 3)?;
+        let (name, trail, sides) = (&junction.name, self.trails[dart / 2].shown(), sides(dart));
+        let place = format!("the area on the left of trail {trail} as one leaves junction {}", name.shown());
+        Some((name.line, format!("{place} has {sides} sides; in kind 3 every area is a triangle, the one outside too")))
+    }
 }
 
 #[cfg(test)]
@@ -132,9 +144,27 @@ mod tests {
         assert_eq!(refusal(Some(1), "A: a b\nB: b a c\nC: c\nstart: A b\n"), dead);
         assert_eq!(refusal(Some(1), "A: a\nB: a b\nC: b\nstart: A a\n"), dead);
         assert_eq!(
-            refusal(Some(3), "A: a\nB: a\nstart: A a\n"),
-            "x: there is no such kind of record; the kinds are 1, 2, 4, 101h, 102h and 104h (refusal 2)"
+            refusal(Some(5), "A: a\nB: a\nstart: A a\n"),
+            "x: there is no such kind of record; the kinds are 1, 2, 3, 4, 101h, 102h and 104h (refusal 2)"
         );
+    }
+
+    #[test]
+    fn areas_that_are_no_triangles() {
+        let sides = |line, trail, junction, sides| {
+            let place = format!("the area on the left of trail {trail} as one leaves junction {junction}");
+            let rule = "in kind 3 every area is a triangle, the one outside too";
+            format!("x:{line}: {place} has {sides} sides; {rule} (refusal 18)")
+        };
+        assert_eq!(refusal(Some(3), "start: A a\nA: a b\nB: b a\n"), sides(2, "a", "A", 2));
+        assert_eq!(refusal(Some(3), "start: A a\nA: a\nB: a\n"), sides(2, "a", "A", 2));
+        // A triangle with a dead end inside, and outside.
+        assert_eq!(refusal(Some(3), "start: A a\nA: a c\nB: b a\nC: c d b\nD: d\n"), sides(2, "a", "A", 5));
+        assert_eq!(refusal(Some(3), "start: A a\nA: a c\nB: b a\nC: c b d\nD: d\n"), sides(2, "c", "A", 5));
+        // Two triangles side by side, in the sketch of a square: the outside has four sides.
+        assert_eq!(refusal(Some(3), "start: A a\n\nA: a d\nB: b e a\nC: c b\nD: d e c\n"), sides(3, "d", "A", 4));
+        // A loop comes first.
+        assert!(refusal(Some(3), "start: A a\nA: a b\nB: b d d a\n").ends_with("(refusal 11)"));
     }
 
     #[test]

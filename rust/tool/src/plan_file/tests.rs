@@ -2,8 +2,9 @@
 
 use super::*;
 use crate::growing::{self, Random, Shape};
-use crate::kinds::{group, has_outside};
+use crate::kinds::{all, group, has_outside, MESH};
 use crate::shape::{areas, junctions};
+use std::collections::HashSet;
 
 impl Plan {
     /// The record under the standard group table.
@@ -175,6 +176,7 @@ fn kinds() {
     assert_eq!(kind("start: 0\n3 2 1 0\noutside: 1\n"), Ok(0x101));
     assert_eq!(kind("start: 0\n0 1\noutside: 0\n"), Ok(0x102));
     assert_eq!(kind("start: A a\nA: a a\noutside: A a\n"), Ok(0x104));
+    assert_eq!(kind("start: 0\n5 2 1 4 3 0\n"), Ok(1));
     assert_eq!(kind("start: 0\n3 2 1 0\noutside: 4\n").unwrap_err().number(), 17);
     assert_eq!(kind("start: 0\n3 2 4 5 1 0\n").unwrap_err().number(), 10);
 }
@@ -191,6 +193,28 @@ fn kinds_in_their_order() {
     }
 }
 
+/// A mesh is written in kind 1 unless kind 3 is asked for, which takes fewer bytes but for the triangle; both are read as one plan.
+#[test]
+fn meshes() {
+    let mut random = Random(7);
+    let mut parallel = 0;
+    for turn in 0..500 {
+        let trails = if turn == 0 { 4095 } else { 3 * (1 + random.below(20)) };
+        let order = growing::mesh(trails, &mut random);
+        let mesh = Plan { start: random.below(order.len()) as u16, ..Plan::of_order(order) };
+        assert!(jurnadel::areas_of(&mesh.order).unwrap().iter().all(|&length| length == 3));
+        let [bits, record] = [None, Some(MESH)].map(|kind| mesh.standard_record(kind).unwrap());
+        assert_eq!((kinds::of(&bits), kinds::of(&record)), (1, MESH));
+        assert!(record.len() < bits.len() || trails == 3);
+        assert!(kinds::may_have_its_length(&record));
+        let read = |record: &[u8]| Plan::of_record(&Table::standard(), record).unwrap();
+        assert_eq!(read(&record), read(&bits));
+        assert_eq!(renumbered(&read(&record)), renumbered(&mesh));
+        parallel += usize::from(junctions(&mesh.order).of.chunks(2).collect::<HashSet<_>>().len() < trails);
+    }
+    assert!(parallel > 50, "{parallel}");
+}
+
 /// Kinds without the outside take no notice of it, and those with it have the start's where a plan names none.
 #[test]
 fn kinds_that_were_asked_for() {
@@ -198,7 +222,7 @@ fn kinds_that_were_asked_for() {
     for _ in 0..1000 {
         let trails = 1 + random.below(6);
         let plan = plan_or_sheet(&mut random, trails);
-        for kind in [group(false), group(true)].concat() {
+        for kind in [all(false), all(true)].concat() {
             let other = Plan { outside: Some(plan.start).filter(|_| has_outside(kind) && plan.outside.is_none()), ..of(&plan) };
             let wanted = if has_outside(kind) && plan.outside.is_some() { &plan } else { &other };
             assert_eq!(plan.standard_record(Some(kind)), wanted.standard_record(Some(kind)));
