@@ -27,9 +27,9 @@ ON_FULL = [
     STARRED[4],
     STARRED[7],
     "05 00 01 00 02",
-    "08 00 03 00 00 00 C8",
+    "08 00 05 00 00 00 C8",
     "07 00 00 00 00 00 C8",
-    "07 00 03 00 02 00 C8",
+    "07 00 05 00 02 00 C8",
     "07 00 01 00 00 00 C8",
     "07 00 01 00 01 10 C8",
     "07 00 01 00 03 00 C8",
@@ -108,7 +108,7 @@ def standing(used_bytes, place):
         return b""
     length, kind, m = struct.unpack("<3H", rest[:6])
     lengths = {1: 6 + (3 * m + 7) // 8, 2: 6 + (2 * m + 7) // 8 + (m + 4) // 5, 4: 6 + (m + 1) // 2}
-    lengths |= {0x100 + plain: length + 2 for plain, length in lengths.items()}
+    lengths |= {0x100 + plain: fixed + 2 for plain, fixed in lengths.items()} | {3: length}
     passes = 6 <= length <= len(rest) and kind in lengths and 1 <= m <= 4096 and length == lengths[kind]
     return rest[:length] if passes else b""
 

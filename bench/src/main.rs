@@ -16,10 +16,13 @@ use std::hint::black_box;
 use std::time::Instant;
 
 const SIZES: [usize; 5] = [16, 64, 256, 1024, 4096];
+/// Sizes of meshes: multiples of three.
+const MESH_SIZES: [usize; 5] = [15, 63, 255, 1023, 4095];
 /// Sizes under group tables, which are tested in each call: short records show it.
 const TABLE_SIZES: [usize; 3] = [16, 40, 256];
-/// The kinds without the outside; with it a kind is `OUTSIDE` more.
-const KINDS: [u16; 3] = [1, 2, 4];
+/// The kinds without the outside, and those with it, which are `OUTSIDE` more.
+const KINDS: [u16; 4] = [1, 2, 3, 4];
+const WITH_OUTSIDE: [u16; 3] = [0x101, 0x102, 0x104];
 const OUTSIDE: u16 = 0x100;
 const ROUNDS: usize = 60;
 /// A round takes about this long, or one call.
@@ -62,17 +65,28 @@ struct Lent<'a> {
     list: Vec<u16>,
 }
 
+/// The length of the plan's record, which in kind 3 is the plan's own.
+fn length(table: &Table, plan: &Plan, kind: u16) -> usize {
+    let Plan {
+        order,
+        start,
+        outside,
+        ..
+    } = plan;
+    let record = jurnadel::record_of(&table.proved, order, *start, *outside, kind);
+    record.expect("a fit plan").len()
+}
+
 impl<'a> Lent<'a> {
     fn new(coder: Coder, table: &'a Table, plan: &'a Plan, kind: u16) -> Self {
         let m = plan.order.len() / 2;
-        let length = jurnadel::record_length(kind, m as u16).expect("a kind and a size");
         Lent {
             coder,
             table,
             plan,
             kind,
             work: vec![0; jurnadel::work_length(m as u16)],
-            record: vec![0; length],
+            record: vec![0; length(table, plan, kind)],
             order: vec![0; 2 * m],
             list: vec![0; m + 1],
         }
@@ -225,15 +239,16 @@ fn print_heading(first: &str) {
 
 fn print_growths(rows: &[Row]) {
     println!();
-    println!(
-        "growth of the proved library's time per edge from m = 256 to m = 4,096 (1 is linear)"
-    );
+    println!("growth of the proved library's time per edge from m = 256 to m = 4,096, of meshes from 255 to 4,095 (1 is linear)");
     println!();
     for Row {
-        name, kind, times, ..
-    } in rows.iter().filter(|row| row.m == 4096)
+        name,
+        kind,
+        m,
+        times,
+    } in rows.iter().filter(|row| row.m >= 4095)
     {
-        let of_same = |row: &&Row| (row.name, row.kind, row.m) == (*name, *kind, 256);
+        let of_same = |row: &&Row| (row.name, row.kind, row.m) == (*name, *kind, m / 16);
         if let Some(before) = rows.iter().find(of_same) {
             let [write, read] = [0, 1].map(|i| times[i][0] / before.times[i][0]);
             let kind = named(*kind);
@@ -261,8 +276,8 @@ fn time_beside(plan: &Plan, choices: [(u16, &Table); 2]) -> Ratios {
     [writing, reading].map(|[one, other]| one / other)
 }
 
-/// A kind beside another: geometric means over all plans that both take, and the worst.
-fn print_kinds(kind: u16, other: u16) {
+/// A kind beside another: geometric means over all of these plans that both take, and the worst.
+fn print_kinds(plans: impl Iterator<Item = Timed>, kind: u16, other: u16) {
     let mut names = Vec::new();
     let mut ratios = Vec::new();
     let takes = |plan: &Plan| {
@@ -270,7 +285,7 @@ fn print_kinds(kind: u16, other: u16) {
             .iter()
             .all(|kind| plan.kinds.contains(&(kind % OUTSIDE)))
     };
-    for (name, m, plan) in all_plans().filter(|(_, _, plan)| takes(plan)) {
+    for (name, m, plan) in plans.filter(|(_, _, plan)| takes(plan)) {
         names.push(format!("{name}, m = {m}"));
         ratios.push(time_beside(&plan, [(kind, &STANDARD), (other, &STANDARD)]));
     }
@@ -290,7 +305,6 @@ fn print_kinds(kind: u16, other: u16) {
 /// The ratios to the peer: their geometric means, for each kind, for all without the outside, for all with it and for areas,
 /// then the worst.
 fn print_ratios(rows: &[Row], areas: &[[f64; 1]]) {
-    let with_outside = KINDS.map(|kind| OUTSIDE + kind);
     let ratios = |kinds: &[u16]| -> Vec<Ratios> {
         let of_kinds = rows.iter().filter(|row| kinds.contains(&row.kind));
         of_kinds.map(Row::to_peer).collect()
@@ -302,31 +316,42 @@ fn print_ratios(rows: &[Row], areas: &[[f64; 1]]) {
             "geometric mean of {count} ratios to peer{name}: write {write:.2}, read {read:.2}"
         );
     };
-    for kind in KINDS.into_iter().chain(with_outside) {
+    for kind in KINDS.into_iter().chain(WITH_OUTSIDE) {
         print_mean(&[kind], &format!(", kind {}", named(kind)));
     }
-    print_mean(&with_outside, ", with the outside");
+    print_mean(&WITH_OUTSIDE, ", with the outside");
     print_mean(&KINDS, "");
     let (count, [mean]) = (areas.len(), geometric_mean(areas));
     println!("geometric mean of {count} ratios to peer, areas: {mean:.2}");
-    let [write, read] = worst(&ratios(&with_outside));
+    let [write, read] = worst(&ratios(&WITH_OUTSIDE));
     println!("worst ratio to peer, with the outside: write {write:.2}, read {read:.2}");
     let ([write, read], [areas]) = (worst(&ratios(&KINDS)), worst(areas));
     println!("worst ratio to peer: write {write:.2}, read {read:.2}, areas {areas:.2}");
 }
 
+/// The name of a shape, a size, and the plan.
+type Timed = (&'static str, usize, Plan);
+
 /// The plans that are timed: of each shape one of each size.
-fn all_plans() -> impl Iterator<Item = (&'static str, usize, Plan)> {
+fn all_plans() -> impl Iterator<Item = Timed> {
     let of_shape =
         |(name, shape)| SIZES.map(|m| (name, m, plans::plan(shape, m, &mut Rng::new(m as u64))));
     plans::SHAPES.into_iter().flat_map(of_shape)
 }
 
-/// Times of the coders for all plans, in kinds without the outside (`more` 0) or with it (`OUTSIDE`).
-fn time_coders(more: u16) -> Vec<Row> {
+/// The same of meshes.
+fn all_meshes() -> impl Iterator<Item = Timed> {
+    let of_shape = |(name, shape)| {
+        MESH_SIZES.map(|m| (name, m, plans::mesh(shape, m, &mut Rng::new(m as u64))))
+    };
+    plans::MESHES.into_iter().flat_map(of_shape)
+}
+
+/// Times of the coders for these plans, in kinds without the outside (`more` 0) or with it (`OUTSIDE`).
+fn time_coders(plans: impl Iterator<Item = Timed>, more: u16) -> Vec<Row> {
     print_heading("shape");
     let mut rows = Vec::new();
-    for (name, m, plan) in all_plans() {
+    for (name, m, plan) in plans {
         for kind in plan.kinds.iter().map(|kind| more + kind) {
             let times = time_plan(&STANDARD, &plan, kind);
             let row = Row {
@@ -341,6 +366,30 @@ fn time_coders(more: u16) -> Vec<Row> {
     }
     print_growths(&rows);
     rows
+}
+
+/// How many bits of the payload of a mesh there are to an edge, in each kind without the outside; then kind 3 beside the others.
+fn print_meshes() {
+    println!();
+    println!("bits an edge of meshes, without the six bytes of the head");
+    println!();
+    print!("{:<16}{:>11}", "shape", "m");
+    for kind in KINDS {
+        print!("{:>9}", format!("kind {kind}"));
+    }
+    println!();
+    for (name, m, plan) in all_meshes() {
+        print!("{name:<16}{m:>11}");
+        for kind in KINDS {
+            let bits = 8 * (length(&STANDARD, &plan, kind) - 6);
+            print!("{:>9.2}", bits as f64 / m as f64);
+        }
+        println!();
+    }
+    println!();
+    for other in [1, 2, 4] {
+        print_kinds(all_meshes(), 3, other);
+    }
 }
 
 /// Times of the coders for the areas of all plans; the proved library's by the peer's.
@@ -548,18 +597,24 @@ fn main() {
     println!();
     println!("ns per edge (proved, second coder, peer), and the proved library's time by that of the others");
     println!();
-    let mut rows = time_coders(0);
+    let mut rows = time_coders(all_plans(), 0);
     println!();
     println!("the same with the outside area in the record");
     println!();
-    rows.extend(time_coders(OUTSIDE));
+    rows.extend(time_coders(all_plans(), OUTSIDE));
+    println!();
+    println!("meshes of triangles; of these rows, those of kind 3 count in the means at the end");
+    println!();
+    let meshes = time_coders(all_meshes(), 0);
+    rows.extend(meshes.into_iter().filter(|row| row.kind == 3));
+    print_meshes();
     let areas = time_all_areas();
     time_tables();
     time_shelf();
     println!();
-    print_kinds(4, 2);
-    for kind in KINDS {
-        print_kinds(OUTSIDE + kind, kind);
+    print_kinds(all_plans(), 4, 2);
+    for kind in WITH_OUTSIDE {
+        print_kinds(all_plans(), kind, kind - OUTSIDE);
     }
     print_ratios(&rows, &areas);
 }

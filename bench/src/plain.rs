@@ -13,6 +13,7 @@ fn passes(record: &[u8]) -> bool {
     let length = match kind {
         1 => 6 + (3 * m).div_ceil(8),
         2 => 6 + (2 * m).div_ceil(8) + m.div_ceil(5),
+        3 => record.len(),
         4 => 6 + m.div_ceil(2),
         0x101 => 8 + (3 * m).div_ceil(8),
         0x102 => 8 + (2 * m).div_ceil(8) + m.div_ceil(5),

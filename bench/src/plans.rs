@@ -17,6 +17,13 @@ pub const SHAPES: [(&str, Maker); 8] = [
     ("loops", loops),
 ];
 
+/// The same of meshes, whose trails are a multiple of three.
+pub const MESHES: [(&str, Maker); 3] = [
+    ("nested mesh", nested),
+    ("flipped mesh", flipped),
+    ("parallel mesh", widened),
+];
+
 /// A plan: its turning order, renumbered at random, an outside dart, and the kinds that it is timed in, with and without the
 /// outside. With one dead end and no loop it starts there.
 pub struct Plan {
@@ -51,6 +58,15 @@ pub fn plan(shape: Maker, m: usize, rng: &mut Rng) -> Plan {
         start,
         outside: rng.below(2 * m) as u16,
         kinds,
+    }
+}
+
+/// A mesh of this shape with m trails; it is timed in kind 3 too, which has no form with the outside.
+pub fn mesh(shape: Maker, m: usize, rng: &mut Rng) -> Plan {
+    let plan = plan(shape, m, rng);
+    Plan {
+        kinds: &[1, 2, 3, 4],
+        ..plan
     }
 }
 
@@ -108,6 +124,47 @@ fn path(m: usize, _: &mut Rng) -> Growth {
     let mut end = 1;
     while growth.trails() < m {
         end = growth.hang(end);
+    }
+    growth
+}
+
+/// A new junction in the triangle that this corner is of, joined to its three.
+fn put_centre(growth: &mut Growth, corner: usize) {
+    let second = growth.next_corner(corner);
+    let third = growth.next_corner(second);
+    let centre = growth.hang(corner);
+    growth.join(centre, second);
+    growth.join(centre, third);
+}
+
+/// A mesh of triangles within triangles.
+fn nested(m: usize, rng: &mut Rng) -> Growth {
+    let mut growth = Growth::round(3);
+    while growth.trails() < m {
+        let corner = rng.below(growth.darts());
+        put_centre(&mut growth, corner);
+    }
+    growth
+}
+
+/// The same, with trails turned into the other diagonal of their two triangles, three times as often as there are trails.
+fn flipped(m: usize, rng: &mut Rng) -> Growth {
+    let mut growth = nested(m, rng);
+    for _ in 0..3 * m {
+        growth.flip(rng.below(growth.trails()));
+    }
+    growth
+}
+
+/// A mesh in which every other new junction lies between a trail and a new one beside it.
+fn widened(m: usize, rng: &mut Rng) -> Growth {
+    let mut growth = Growth::round(3);
+    while growth.trails() < m {
+        let corner = rng.below(growth.darts());
+        match rng.below(2) {
+            0 => growth.widen(corner / 2),
+            _ => put_centre(&mut growth, corner),
+        }
     }
     growth
 }

@@ -151,17 +151,21 @@ fn write(
     hold(output.untouched_but(0, usize::from(length)), "output")?;
     hold((refusal == 0) == (length != 0), "length")?;
     hold(refusal == 10 || characteristic == 0, "characteristic")?;
-    let m = (order.len() / 2).min(1 << 15) as u16;
-    if refusal == 0 {
-        hold(
-            length == unsafe { sys::jurnadel_record_length(kind, m) },
-            "record length",
-        )?;
+    if refusal != 0 {
+        return Ok(refused(refusal, characteristic));
     }
-    Ok(match refusal {
-        0 => format!("ok {}", to_hex(&output.now()[..usize::from(length)])),
-        _ => refused(refusal, characteristic),
-    })
+    let m = (order.len() / 2).min(1 << 15) as u16;
+    let fixed = unsafe { sys::jurnadel_record_length(kind, m) };
+    let record = &output.now()[..usize::from(length)];
+    hold(
+        match kind {
+            // m does not fix the length; the record has it in its head.
+            3 => fixed == 0 && record.starts_with(&length.to_le_bytes()),
+            _ => fixed == length,
+        },
+        "record length",
+    )?;
+    Ok(format!("ok {}", to_hex(record)))
 }
 
 /// A refusal of a plan; 10 with the characteristic.
