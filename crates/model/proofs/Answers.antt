@@ -4,8 +4,8 @@
 --   written-zero         0 is a record's length
 --   number-of-measured   the number of measuring's answer is its first refusal
 --   measured-zero        0 is the number of faces
---   number-of-shelved    the number of shelving's answer is its first refusal
---   shelved-zero         0 is a record's number with the new used length
+--   number-of-unread, number-of-planless, number-of-shelved   the number of shelving's answer: a refusal met while reading, 13, or the first of 14 and 16
+--   shelved-zero         0 is a record's number with the new used length, of a record that a fit plan has
 --   number-of-read       the number of reading's answer is the first of its refusals but 13, if one holds
 --   number-of-readable   0 if none holds and a fit plan has the record
 --   number-of-unreadable 13 if none holds and no fit plan has it
@@ -24,13 +24,14 @@ use Rattle.model.specs.declared.Written.the-variants as written
 use Rattle.model.specs.declared.ReadBack.{ReadBack}
 use Rattle.model.specs.declared.ReadBack.the-variants as readback
 use Rattle.model.specs.declared.Measured.the-variants as measured
+use Rattle.model.specs.declared.Shelved.{Shelved}
 use Rattle.model.specs.declared.Shelved.the-variants as shelved
 use Rattle.model.specs.Map.{Plan, faceLengths, characteristic}
 use Rattle.model.specs.Record.{recordOf}
 use Rattle.model.specs.Shelf.{kindOf, edgesOf, recordsIn, firstEqual}
 use Rattle.model.specs.Calls.{writeRefusal, answerOf, writeAnswer, numberOfWritten, readRefusal, HasRecord, outsideRead, Reads, refused, read, unreadable, numberOfRead}
 use Rattle.model.specs.Calls.{measureRefusal, measureAnswer, numberOfMeasured}
-use Rattle.model.specs.Calls.{shelveRefusal, shelveAnswer, numberOfShelved}
+use Rattle.model.specs.Calls.{recordRefusal, shelveRefusal, shelveAnswer, Shelves, unread, planless, readable, numberOfShelved}
 
 -- ---- writing
 
@@ -67,24 +68,45 @@ measured-zero rot w l z = let e = sym (number-of-measured rot w l) ∙ z in simp
 
 -- ---- shelving
 
-module _ (t : Table) (r s : List ℕ) (u : ℕ) where
+module _ (r s : List ℕ) (u : ℕ) where
   abbrev found : ℕ
   found = firstEqual r (recordsIn (take u s))
 
   abbrev used-after : ℕ
   used-after = cond (eqb found (length (recordsIn (take u s)))) (u + length r) u
 
-  pub number-of-shelved : numberOfShelved (shelveAnswer t r s u) ≡ shelveRefusal t r s u
+  of-answer : numberOfShelved (shelveAnswer r s u) ≡ shelveRefusal r s u
   unfolding shelveAnswer
-  number-of-shelved = go (shelveRefusal t r s u) (eqb (shelveRefusal t r s u) 0) refl
+  of-answer = go (shelveRefusal r s u) (eqb (shelveRefusal r s u) 0) refl
     where
       go : (x : ℕ) (b : Bool) → eqb x 0 ≡ b → numberOfShelved (cond b (shelved.At found used-after) (shelved.Refused x)) ≡ x
       go x true e = sym (eqb-true x 0 e)
       go x false e = refl
 
-  pub shelved-zero : numberOfShelved (shelveAnswer t r s u) ≡ 0 → shelveAnswer t r s u ≡ shelved.At found used-after
+  answer-zero : numberOfShelved (shelveAnswer r s u) ≡ 0 → shelveAnswer r s u ≡ shelved.At found used-after
   unfolding shelveAnswer
-  shelved-zero z = let e = sym number-of-shelved ∙ z in simp (eq-eqb (shelveRefusal t r s u) 0 e)
+  answer-zero z = let e = sym of-answer ∙ z in simp (eq-eqb (shelveRefusal r s u) 0 e)
+
+module _ (t : Table) (r : List ℕ) (w : ℕ) (s : List ℕ) (u : ℕ) (a : Shelved) (s′ : List ℕ) where
+  pub number-of-unread : Shelves t r w s u a s′ → recordRefusal t r w ≢ 0 → numberOfShelved a ≡ recordRefusal t r w
+  number-of-unread (unread d e f) n = ap numberOfShelved e
+  number-of-unread (planless z never e f) n = absurd (n z)
+  number-of-unread (readable z p has e f) n = absurd (n z)
+
+  pub number-of-planless : Shelves t r w s u a s′ → recordRefusal t r w ≡ 0 → ((p : Plan) → HasRecord t r p → ⊥) → numberOfShelved a ≡ 13
+  number-of-planless (unread d e f) n none = absurd (d n)
+  number-of-planless (planless z never e f) n none = ap numberOfShelved e
+  number-of-planless (readable z p has e f) n none = absurd (none p has)
+
+  pub number-of-shelved : Shelves t r w s u a s′ → recordRefusal t r w ≡ 0 → (p : Plan) → HasRecord t r p → numberOfShelved a ≡ shelveRefusal r s u
+  number-of-shelved (unread d e f) n q h = absurd (d n)
+  number-of-shelved (planless z never e f) n q h = absurd (never q h)
+  number-of-shelved (readable z p has e f) n q h = ap numberOfShelved e ∙ of-answer r s u
+
+  pub shelved-zero : Shelves t r w s u a s′ → numberOfShelved a ≡ 0 → (p : Plan) × HasRecord t r p × (a ≡ shelved.At (found r s u) (used-after r s u))
+  shelved-zero (unread d e f) n = absurd (d (sym (ap numberOfShelved e) ∙ n))
+  shelved-zero (planless z never e f) n = absurd (suc-ne-zero 12 (sym (ap numberOfShelved e) ∙ n))
+  shelved-zero (readable z p has e f) n = (p, has, e ∙ answer-zero r s u (sym (ap numberOfShelved e) ∙ n))
 
 -- ---- reading
 

@@ -11,6 +11,7 @@ pub mod Characteristic
 pub mod Standard
 pub mod Refusals
 pub mod Heads
+pub mod Reading
 pub mod Answers
 pub mod Line
 mod Opened

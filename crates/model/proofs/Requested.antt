@@ -8,26 +8,36 @@
 --   loading-hold         what loading refuses
 --   table-refusals-hold  tables that loading never gives
 --   nineteen-first-hold  19 is given before all other refusals
+--   unreadable-hold      shelving a record that no plan has
+--   readable-hold        shelving one that a plan has, on an empty shelf that it just fits
 --   compared-hold        how many records a search compares
 --   lengths-hold         how many darts the areas have, and the list after measuring
 --   measured-hold        what measuring refuses
-use mathlib.Core.Path.{_≡_, refl}
+use mathlib.Core.Path.{_≡_, refl, sym, ap, _∙_}
 use mathlib.Core.Bool.{true}
 use mathlib.Core.List.{List, [], _∷_, _++_}
-use Prim.Native.Nat.{ℕ, _+_, _%_}
+use Prim.Native.Nat.{ℕ, _+_, _%_, _≤_, _<_}
+use native.Mathlib.Nat.{suc-ne-zero}
+use native.Mathlib.Omega.{arith}
 use lib.Dec.{T}
 use lib.IntN.{pos}
-use lib.ListN.{getD, set, take}
+use lib.ListN.{getD, set, take, replicate}
 use Rattle.model.specs.declared.Measured.the-variants.{Count, Refused, NotPlanar}
+use Rattle.model.specs.declared.Shelved.{Shelved}
+use Rattle.model.specs.declared.Shelved.the-variants as answered
 use Rattle.model.specs.Numbers.{elem, distinct, allBelow, position, tabulate, firstRefusal}
 use Rattle.model.specs.Groups.{isTable, inverseOf, loaded, standardTable, noTable}
-use Rattle.model.specs.Shelf.{word16, headRefusals, headRefusal, same, firstEqual, met, asLong, compared}
-use Rattle.model.specs.Map.{Plan, family, faceLengths}
-use Rattle.model.specs.Calls.{tableRefused, loadRefusal, earlyRefusals, lateRefusals, lastRefusals, writeRefusal, readRefusal, shelveRefusal, measureAnswer, measuredList}
+use Rattle.model.specs.Shelf.{word16, headRefusals, headRefusal, passes, cutInto, recordsIn, allPass, endToEnd, same, firstEqual, met, asLong, compared, shelfRefused}
+use Rattle.model.specs.Map.{Plan, isFamily, storesOutside, isKind, family, faceLengths}
+use Rattle.model.specs.Record.{headLength, payloadLength, recordLength}
+use Rattle.model.specs.Calls.{tableRefused, loadRefusal, earlyRefusals, lateRefusals, lastRefusals, writeRefusal, readRefusal, recordRefusal, recordRefusals, measureAnswer, measuredList}
+use Rattle.model.specs.Calls.{front, HasRecord, shelveRefusal, shelveAnswer, shelvedBytes, Shelves, unread, planless, readable}
 use Rattle.model.proofs.Line.{Writes, record-is, standard-is, refused, not-planar, allHold, allHeld, all-held}
 use Rattle.model.proofs.Opened.{writing-opened, measuring-opened}
 use Rattle.model.proofs.Refusals.{table-stands}
+use Rattle.model.proofs.Reading.{record-room, clear-record}
 use Rattle.model.proofs.Tables.{standard-stands, loaded-stands, no-table-refused}
+use Rattle.model.proofs.Unreadable.{two-edges, unreadable-CC}
 
 -- (a) "Order 0 2 5 4 3 1, start 0, is then 08 00 01 00 03 00 E1 00": from any other start its dead end is not the start's. One trail has two dead ends.
 unfoldable pub requested : List Writes
@@ -165,10 +175,54 @@ pub table-refusals-hold : (tableRefused noTable ≡ true) × (tableRefused (reco
 unfolding exchanged tabulate tableRefused isTable inverseOf position same allBelow distinct elem
 table-refusals-hold = (no-table-refused, refl)
 
--- where 2, 1 and 14 hold too
-pub nineteen-first-hold : (p : Plan) → (writeRefusal noTable 9 p 0 0 ≡ 19) × (readRefusal noTable [] 0 0 ≡ 19) × (shelveRefusal noTable [] [] 1 ≡ 19)
-unfolding writeRefusal readRefusal shelveRefusal firstRefusal
+-- where 2 and 1 hold too; shelving meets it as reading does
+pub nineteen-first-hold : (p : Plan) → (writeRefusal noTable 9 p 0 0 ≡ 19) × (readRefusal noTable [] 0 0 ≡ 19) × (recordRefusal noTable [] 0 ≡ 19)
+unfolding writeRefusal readRefusal recordRefusal recordRefusals firstRefusal
 nineteen-first-hold p = (rw no-table-refused, rw no-table-refused, rw no-table-refused)
+
+-- (b) "A refusal met while reading the record is passed on: 7 and 13 may now come from shelving, after 5 and before 14": on whatever shelf
+pub unreadable-hold : (w : ℕ) (s : List ℕ) (u : ℕ) (a : Shelved) (s′ : List ℕ) → Shelves standardTable (two-edges 0xCC) w s u a s′
+    → (64 ≤ w → (a ≡ answered.Refused 13) × (s′ ≡ s)) × (w < 64 → (a ≡ answered.Refused 7) × (s′ ≡ s))
+unfolding passes headRefusal headRefusals firstRefusal word16 elem isFamily storesOutside isKind family headLength payloadLength recordLength
+unreadable-hold w s u a s′ c = (λ h. long c h, λ h. short c h)
+  where
+    clear : 64 ≤ w → recordRefusal standardTable (two-edges 0xCC) w ≡ 0
+    clear h = clear-record standardTable (two-edges 0xCC) w (record { stands = standard-stands; passed = refl; room = h })
+
+    seven : w < 64 → 7 ≡ recordRefusal standardTable (two-edges 0xCC) w
+    seven h = record-room standardTable (two-edges 0xCC) w standard-stands refl h
+
+    not-none : w < 64 → recordRefusal standardTable (two-edges 0xCC) w ≡ 0 → ⊥
+    not-none h z = suc-ne-zero 6 (seven h ∙ z)
+
+    long : Shelves standardTable (two-edges 0xCC) w s u a s′ → 64 ≤ w → (a ≡ answered.Refused 13) × (s′ ≡ s)
+    long (unread d e f) h = absurd (d (clear h))
+    long (planless z never e f) h = (e, f)
+    long (readable z p has e f) h = absurd (unreadable-CC p has)
+
+    short : Shelves standardTable (two-edges 0xCC) w s u a s′ → w < 64 → (a ≡ answered.Refused 7) × (s′ ≡ s)
+    short (unread d e f) h = (e ∙ ap answered.Refused (sym (seven h)), f)
+    short (planless z never e f) h = absurd (not-none h z)
+    short (readable z p has e f) h = absurd (not-none h z)
+
+pub readable-hold : (a : Shelved) (s′ : List ℕ) → Shelves standardTable (two-edges 0xC8) 64 (replicate 7 0xEE) 0 a s′ → (a ≡ answered.At 0 7) × (s′ ≡ two-edges 0xC8)
+unfolding passes headRefusal headRefusals firstRefusal word16 elem isFamily storesOutside isKind family headLength payloadLength recordLength writing-opened
+    shelveRefusal shelveAnswer shelvedBytes shelfRefused endToEnd allPass recordsIn cutInto firstEqual front
+readable-hold a s′ c = go c
+  where
+    pair : Plan
+    pair = record { rotation = 3 ∷ 2 ∷ 1 ∷ 0 ∷ []; root = 0; outside = 0 }
+
+    has : HasRecord standardTable (two-edges 0xC8) pair
+    has = (refl, refl)
+
+    clear : recordRefusal standardTable (two-edges 0xC8) 64 ≡ 0
+    clear = clear-record standardTable (two-edges 0xC8) 64 (record { stands = standard-stands; passed = refl; room = omega arith })
+
+    go : Shelves standardTable (two-edges 0xC8) 64 (replicate 7 0xEE) 0 a s′ → (a ≡ answered.At 0 7) × (s′ ≡ two-edges 0xC8)
+    go (unread d e f) = absurd (d clear)
+    go (planless z never e f) = absurd (never pair has)
+    go (readable z p q e f) = (e, f)
 
 -- (g) "as many as those it meets of the new one's length, an equal one included"
 unfoldable pub shelved : List (List ℕ)

@@ -11,7 +11,7 @@ use mathlib.Core.List.{List, [], _∷_}
 use Prim.Native.Nat.{ℕ, _*_, _/_, _%_, _≤_, _<_}
 use native.Mathlib.Omega.{arith}
 use lib.ListN.{length, getD}
-use borrow.Author.Tests.{le-ltb, not-true}
+use borrow.Author.Tests.{eq-eqb, not-true}
 use Rattle.model.specs.declared.Table.{Table}
 use Rattle.model.specs.declared.ReadBack.{ReadBack}
 use Rattle.model.specs.declared.ReadBack.the-variants as readback
@@ -19,10 +19,10 @@ use Rattle.model.specs.Numbers.{elem, distinct, allBelow, isPermutation,
 use Rattle.model.specs.Map.{Plan, darts, edges, isFamily, storesOutside, isKind, family, fit}
 use Rattle.model.specs.Groups.{standardTable}
 use Rattle.model.specs.Record.{le16, headLength, payloadLength, recordLength, headed, recordOf}
-use Rattle.model.specs.Shelf.{same, word16, edgesOf, headRefusals, headRefusal}
+use Rattle.model.specs.Shelf.{same, word16, edgesOf, headRefusals, headRefusal, passes}
 use Rattle.model.specs.Calls.{tableRefused, readRefusal, HasRecord, Reads, refused, read, unreadable}
 use Rattle.model.proofs.Booleans.{and-left, all, at}
-use Rattle.model.proofs.Heads.{head-first}
+use Rattle.model.proofs.Reading.{clear-record, clear-read}
 use Rattle.model.proofs.Line.{on-reading, Holds}
 use Rattle.model.proofs.Opened.{record-opened}
 use Rattle.model.proofs.Tables.{standard-stands}
@@ -32,8 +32,8 @@ use Rattle.model.proofs.Fitness.{below-all, Fit, fit-parts, count-parts
 
 pub room-clear : (t : Table) (r : List ℕ) (w o : ℕ) → tableRefused t ≡ false → headRefusal r ≡ 0 → 32 * edgesOf r ≤ w → 2 * edgesOf r ≤ o
     → readRefusal t r w o ≡ 0
-unfolding readRefusal firstRefusal
-room-clear t r w o stands passed h l = rw (stands, head-first r, passed, le-ltb w (32 * edgesOf r) h, le-ltb o (2 * edgesOf r) l)
+unfolding passes
+room-clear t r w o stands passed h l = clear-read t r w o (clear-record t r w (record { stands = stands; passed = eq-eqb _ 0 passed; room = h })) l
 
 pub unreadable-refused : (r : List ℕ) → headRefusal r ≡ 0 → ((p : Plan) → HasRecord standardTable r p → ⊥) → Holds (on-reading r 13)
 unreadable-refused r passed never w out h l = record { refused-so = unreadable clear never refl refl; only-so = λ a o c. go a o c }

@@ -11,6 +11,7 @@
 --   writeAnswer           the answer of writing
 --   writtenOutput         the output after writing
 --   Wrote                 all that writing promises
+--   recordRefusals        the refusals of a record that reading and shelving share, but 13; recordRefusal, the first of them, 0 if none
 --   readRefusal           the first of reading's refusals but 13; 0 if none
 --   HasRecord t r p       p is fit for the kind that r names, and r is its record under the table t
 --   outsideRead k p       the dart of the outer face that reading returns
@@ -20,7 +21,8 @@
 --   measureAnswer         the answer of measuring
 --   measuredList          the list after measuring
 --   Measures              all that measuring promises
---   shelveRefusal, shelveAnswer, shelvedBytes   shelving: first refusal, answer, the shelf afterwards
+--   shelveRefusal, shelveAnswer, shelvedBytes   shelving a record that is read: first refusal, answer, the shelf afterwards
+--   Shelves               what shelving answers and the shelf after it
 --   Stored                all that shelving promises
 --   fetchRefusal, fetched fetching: the number that is set, and the part that is returned
 --   Fetched               the bytes and the number that fetching promises
@@ -131,14 +133,15 @@ pub record Wrote (t : Table) (k : ℕ) (p : Plan) (work out : List ℕ) (answer 
 
 -- ---- reading
 
--- "reading 1, 2, 3, 5, 7, 8, 13"; 19 is refused "before all others"
+-- "reading 1, 2, 3, 5, 7, 8, 13"; 19 is refused "before all others". Shelving reads with no output, so without 8.
+unfoldable pub recordRefusals : Table → List ℕ → ℕ → List Refusal
+recordRefusals t r workLength = refuse 19 (tableRefused t) ∷ (headRefusals r ++ (refuse 7 (ltb workLength (32 * edgesOf r)) ∷ []))
+
+unfoldable pub recordRefusal : Table → List ℕ → ℕ → ℕ
+recordRefusal t r workLength = firstRefusal (recordRefusals t r workLength)
+
 unfoldable pub readRefusal : Table → List ℕ → ℕ → ℕ → ℕ
-readRefusal t r workLength outLength = firstRefusal
-    (refuse 19 (tableRefused t)
-    ∷ (headRefusals r
-    ++ (refuse 7 (ltb workLength (32 * edgesOf r))
-    ∷ refuse 8 (ltb outLength (2 * edgesOf r))
-    ∷ [])))
+readRefusal t r workLength outLength = firstRefusal (recordRefusals t r workLength ++ (refuse 8 (ltb outLength (2 * edgesOf r)) ∷ []))
 
 -- the plan p is fit for the kind that the record r names, and r is its record under the table t
 abbrev pub HasRecord : Table → List ℕ → Plan → Type 0
@@ -191,33 +194,41 @@ pub record Measures (rot work list : List ℕ) (answer : Measured) (work′ list
 
 -- ---- the shelf
 
--- "shelving 1, 2, 3, 5, 14, 16"; 19 is refused "before all others". 16. "The record isn't on the shelf and exceeds the bytes past the used length."
-unfoldable pub shelveRefusal : Table → List ℕ → List ℕ → ℕ → ℕ
-shelveRefusal t r shelf used =
+-- "shelving 1, 2, 3, 5, 14, 16", of which these two look at the shelf. 16. "The record isn't on the shelf and exceeds the bytes past the used length."
+unfoldable pub shelveRefusal : List ℕ → List ℕ → ℕ → ℕ
+shelveRefusal r shelf used =
     let rs = recordsIn (take used shelf) in
     firstRefusal
-    (refuse 19 (tableRefused t)
-    ∷ (headRefusals r
-    ++ (refuse 14 (shelfRefused shelf used)
+    (refuse 14 (shelfRefused shelf used)
     ∷ refuse 16 (eqb (firstEqual r rs) (length rs) && ltb (length shelf - used) (length r))
-    ∷ [])))
+    ∷ [])
 
 -- "Shelving returns the record's number and the new used length: if equal bytes are already there, the first such number, with nothing stored; else
 -- they are put just past the used bytes."
-unfoldable pub shelveAnswer : Table → List ℕ → List ℕ → ℕ → Shelved
-shelveAnswer t r shelf used =
+unfoldable pub shelveAnswer : List ℕ → List ℕ → ℕ → Shelved
+shelveAnswer r shelf used =
     let rs = recordsIn (take used shelf) in
     let n = firstEqual r rs in
-    cond (eqb (shelveRefusal t r shelf used) 0) (shelved.At n (cond (eqb n (length rs)) (used + length r) used)) (shelved.Refused (shelveRefusal t r shelf used))
+    cond (eqb (shelveRefusal r shelf used) 0) (shelved.At n (cond (eqb n (length rs)) (used + length r) used)) (shelved.Refused (shelveRefusal r shelf used))
 
-unfoldable pub shelvedBytes : Table → List ℕ → List ℕ → ℕ → List ℕ
-shelvedBytes t r shelf used =
+unfoldable pub shelvedBytes : List ℕ → List ℕ → ℕ → List ℕ
+shelvedBytes r shelf used =
     let rs = recordsIn (take used shelf) in
-    cond (eqb (shelveRefusal t r shelf used) 0 && eqb (firstEqual r rs) (length rs)) (take used shelf ++ front r (drop used shelf)) shelf
+    cond (eqb (shelveRefusal r shelf used) 0 && eqb (firstEqual r rs) (length rs)) (take used shelf ++ front r (drop used shelf)) shelf
 
-pub record Stored (t : Table) (r shelf : List ℕ) (used : ℕ) (answer : Shelved) (shelf′ : List ℕ) : Type 0 where
-  pub answered : answer ≡ shelveAnswer t r shelf used
-  pub bytes : shelf′ ≡ shelvedBytes t r shelf used
+-- Document 02 (b): "It shall take a work area and read each new record first. A refusal met while reading the record is passed on: 7 and 13 may now come from
+-- shelving, after 5 and before 14." Every record handed in is new, equal bytes on the shelf or not.
+pub data Shelves (t : Table) (r : List ℕ) (workLength : ℕ) (shelf : List ℕ) (used : ℕ) (answer : Shelved) (shelf′ : List ℕ) : Type 0 where
+  unread : (recordRefusal t r workLength ≢ 0) → answer ≡ shelved.Refused (recordRefusal t r workLength) → shelf′ ≡ shelf
+      → Shelves t r workLength shelf used answer shelf′
+  planless : (recordRefusal t r workLength ≡ 0) → ((p : Plan) → HasRecord t r p → ⊥) → answer ≡ shelved.Refused 13 → shelf′ ≡ shelf
+      → Shelves t r workLength shelf used answer shelf′
+  readable : (recordRefusal t r workLength ≡ 0) → (p : Plan) → HasRecord t r p → answer ≡ shelveAnswer r shelf used → shelf′ ≡ shelvedBytes r shelf used
+      → Shelves t r workLength shelf used answer shelf′
+
+pub record Stored (t : Table) (r work shelf : List ℕ) (used : ℕ) (answer : Shelved) (work′ shelf′ : List ℕ) : Type 0 where
+  pub outcome : Shelves t r (length work) shelf used answer shelf′
+  pub cleared : work′ ≡ zeros work
 
 -- "fetching 14, 15". 15. "The shelf holds no record with this number, counting from 0."
 unfoldable pub fetchRefusal : List ℕ → ℕ → ℕ → ℕ

@@ -14,12 +14,13 @@ use lib.IntN.{ℤ}
 use lib.ListN.{length, take, drop}
 use Rattle.model.specs.declared.Table.{Table}
 use Rattle.model.specs.declared.ReadBack.{ReadBack}
+use Rattle.model.specs.declared.Shelved.{Shelved}
 use Rattle.model.specs.Map.{Plan, isKind, edgeCountFits}
 use Rattle.model.specs.Record.{lengthVaries, recordLength}
 use Rattle.model.specs.Calls.{zeros, writeAnswer, writtenOutput, numberOfWritten, lengthOfWritten, characteristicOfWritten}
 use Rattle.model.specs.Calls.{Reads, numberOfRead, edgesOfRead, outsideOfRead}
 use Rattle.model.specs.Calls.{measureAnswer, measuredList, numberOfMeasured, countOfMeasured, characteristicOfMeasured}
-use Rattle.model.specs.Calls.{shelveAnswer, shelvedBytes, numberOfShelved, recordNumberOfShelved, usedOfShelved, fetchRefusal, fetched}
+use Rattle.model.specs.Calls.{Shelves, numberOfShelved, recordNumberOfShelved, usedOfShelved, fetchRefusal, fetched}
 use Rattle.model.specs.Parts.{fetchedPlace}
 
 -- ---- writing
@@ -53,11 +54,14 @@ pub record MeasureExport (rot work list : List ℕ) (r c : ℕ) (x : ℤ) (work�
 
 -- ---- the shelf
 
-pub record ShelveExport (t : Table) (bytes shelf : List ℕ) (used : ℕ) (r n used′ : ℕ) (shelf′ : List ℕ) : Type 0 where
-  pub refusal-is : r ≡ numberOfShelved (shelveAnswer t bytes shelf used)
-  pub number-is : n ≡ recordNumberOfShelved (shelveAnswer t bytes shelf used)
-  pub used-is : used′ ≡ usedOfShelved used (shelveAnswer t bytes shelf used)
-  pub bytes-are : shelf′ ≡ shelvedBytes t bytes shelf used
+-- the numbers are those of the answer that shelving gives
+pub record ShelveExport (t : Table) (bytes work shelf : List ℕ) (used : ℕ) (r n used′ : ℕ) (work′ shelf′ : List ℕ) : Type 0 where
+  pub answer : Shelved
+  pub outcome : Shelves t bytes (length work) shelf used answer shelf′
+  pub refusal-is : r ≡ numberOfShelved answer
+  pub number-is : n ≡ recordNumberOfShelved answer
+  pub used-is : used′ ≡ usedOfShelved used answer
+  pub cleared : work′ ≡ zeros work
 
 -- the fetched record is the part of the shelf at this place and of this length
 pub record FetchExport (shelf : List ℕ) (used n : ℕ) (r at l : ℕ) : Type 0 where

@@ -7,6 +7,7 @@ pub mod Groups
 pub mod Record
 pub mod Shelf
 pub mod Calls
+pub mod Histories
 pub mod ShelfWalk
 pub mod Parts
 pub mod Renumbering
