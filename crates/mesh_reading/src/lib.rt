@@ -10,8 +10,8 @@ ghost use Rattle.coding.specs.Payloads.{decodeMesh};
 ghost use Rattle.mesh_reading.specs.Read.{MeshRead};
 ghost use Rattle.mesh_reading.specs.Stages.{Spelt, WordThere, PutFrom, DualThere, meshOf};
 
-// The word of the dual that the payload holds, at LETTERS; whether there is one.
-fn spell(payload: &[u8], inverse: &[u8], m: usize, w: &mut [u16]) -> bool
+// The word of the dual that the payload holds, at LETTERS; whether there is one, which is whether the payload is a mesh's.
+pub fn spell(payload: &[u8], inverse: &[u8], m: usize, w: &mut [u16]) -> bool
     requires { ⌜ (length (now inverse) ≡ 256) × (1 ≤ m) × (m ≤ 4096) × (length (now payload) < 65536) × (32 * m ≤ length (now w)) ⌝ }
     ensures { λ r. ⌜ Spelt (decodeMesh m (undone (now (inverse .entry)) 3 m (now (payload .entry)))) m r (now (w .entry)) (now (w .exit)) ⌝ }
 {

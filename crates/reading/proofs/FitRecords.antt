@@ -5,6 +5,7 @@
 --   one-standard, one-outside   plans with one record have one standard rotation, and reading returns one outside for them
 --   read-plan            what reading gives back has the record
 --   standard-record      the standard plan is fit and has the same record
+--   clear-stands         where no refusal but 13 holds, the table is one that loading gives
 --   reads-one            reading is determined: what it answers, and the output after it
 --   has-edges, has-passes   bytes that are a fit plan's record name its number of edges and pass 1, 2, 3 and 5
 use Prim.Native.Nat.{ℕ}
@@ -20,13 +21,13 @@ use Rattle.model.specs.Map.{Plan, edges, fit}
 use Rattle.model.specs.Traversal.{standardRotation, standardPlan}
 use Rattle.model.specs.Record.{lengthVaries, recordLength, recordOf}
 use Rattle.model.specs.Shelf.{kindOf, edgesOf, passes}
-use Rattle.model.specs.Calls.{front, tableRefused, HasRecord, outsideRead, Reads, refused, read, unreadable}
+use Rattle.model.specs.Calls.{front, tableRefused, readRefusal, HasRecord, outsideRead, Reads, refused, read, unreadable}
 use Rattle.model.proofs.Outside.{withOutside}
+use Rattle.model.proofs.Reading.{record-clear, read-clear}
 use Rattle.words.specs.Word.{rooted}
 use Rattle.lists.specs.Coder.{outsideOf}
 use Rattle.lists.proofs.Records as coded
 use Rattle.coding.proofs.Records.{coderOf}
-use Rattle.reading.proofs.Checks.{clear-stands}
 
 module _ (t : Table) (r : List ℕ) (p : Plan) (has : HasRecord t r p) where
   pub has-edges : edgesOf r ≡ edges (p .rotation)
@@ -70,6 +71,10 @@ module _ (t : Table) (k : ℕ) (p : Plan) (fits : fit k p ≡ true) where
   pub standard-record : (fit k (standardPlan p) ≡ true) × (recordOf t k (standardPlan p) ≡ recordOf t k p)
   standard-record = coded.standard-record t k (coderOf k p fits) p fits
 
+-- where no early refusal of reading holds, the table is one that loading gives
+pub clear-stands : (t : Table) (r : List ℕ) (w o : ℕ) → readRefusal t r w o ≡ 0 → tableRefused t ≡ false
+clear-stands t r w o e = record-clear t r w (read-clear t r w o e .0) .stands
+
 pub reads-one : (t : Table) (r : List ℕ) (w : ℕ) (out : List ℕ) (a b : ReadBack) (o o′ : List ℕ) → Reads t r w out a o → Reads t r w out b o′ → (a ≡ b) × (o ≡ o′)
 unfolding standardPlan
 reads-one t r w out a b o o′ (refused d e f) (refused d′ e′ f′) = (e ∙ sym e′, f ∙ sym f′)
@@ -77,8 +82,8 @@ reads-one t r w out a b o o′ (refused d e f) (read z q g e′ f′) = absurd (
 reads-one t r w out a b o o′ (refused d e f) (unreadable z never e′ f′) = absurd (d z)
 reads-one t r w out a b o o′ (read z p h e f) (refused d e′ f′) = absurd (d z)
 reads-one t r w out a b o o′ (read z p h e f) (read z′ q g e′ f′) = (
-  e ∙ ap (readback.Edges (edgesOf r)) (one-outside t (clear-stands r w (length out) t z) r q p g h) ∙ sym e′,
-  f ∙ ap (λ (rot : List ℕ). front rot out) (one-standard t (clear-stands r w (length out) t z) r q p g h) ∙ sym f′,
+  e ∙ ap (readback.Edges (edgesOf r)) (one-outside t (clear-stands t r w (length out) z) r q p g h) ∙ sym e′,
+  f ∙ ap (λ (rot : List ℕ). front rot out) (one-standard t (clear-stands t r w (length out) z) r q p g h) ∙ sym f′,
 )
 reads-one t r w out a b o o′ (read z p h e f) (unreadable z′ never e′ f′) = absurd (never p h)
 reads-one t r w out a b o o′ (unreadable z never e f) (refused d e′ f′) = absurd (d z)

@@ -30,11 +30,11 @@ use Rattle.model.specs.Calls.{front, tableRefused, earlyRefusals, lateRefusals,
 use Rattle.model.specs.Writings.{Writing, MeetsContract, isAccepted, bytesWritten}
 use Rattle.model.proofs.Fitness.{fit-parts, even-darts}
 use Rattle.model.proofs.Outside.{withOutside}
+use Rattle.model.proofs.Reading.{clear-record, clear-read}
 use Rattle.words.specs.Word.{rooted}
 use Rattle.lists.proofs.Calls.{accepted-stands, accepted-fit, accepted-bytes}
-use Rattle.reading.proofs.Answers.{not-both}
-use Rattle.reading.proofs.Checks.{past-table, clear-stands, facts-early}
-use Rattle.reading.proofs.FitRecords.{record-length, record-kind, own-record, one-standard, one-outside, read-plan, has-edges, has-passes}
+use Rattle.decoding.proofs.Answers.{not-both}
+use Rattle.reading.proofs.FitRecords.{record-length, record-kind, own-record, one-standard, one-outside, read-plan, clear-stands, has-edges, has-passes}
 
 -- ---- reading what writing wrote
 
@@ -50,8 +50,8 @@ module _ (t : Table) (stands : tableRefused t ≡ false) (r : List ℕ) (p : Pla
       clear : readRefusal t r (length work) (length out) ≡ 0
       clear =
           let e = has-edges t r p has in
-          past-table r (length work) (length out) t stands
-          ∙ facts-early r (length work) (length out) (record { passed = has-passes t r p has; work-room = omega arith; out-room = omega arith })
+          clear-read t r (length work) (length out)
+          (clear-record t r (length work) (record { stands = stands; passed = has-passes t r p has; room = omega arith })) (omega arith)
 
       go : Reads t r (length work) out answer out′ → Given
       go (refused d a o) = absurd (d clear)
@@ -149,7 +149,7 @@ module _ (t : Table) (r work out : List ℕ) (m x : ℕ) (work′ out′ : List 
       go : Reads t r (length work) out (readback.Edges m x) out′ → tableRefused t ≡ false
       go (refused d a o) = absurd (not-both m x _ a)
       go (unreadable e never a o) = absurd (not-both m x _ a)
-      go (read e p has a o) = clear-stands r (length work) (length out) t e
+      go (read e p has a o) = clear-stands t r (length work) (length out) e
 
   pub given-plan : (edgesOf r ≡ m) × HasRecord t r (planIn m x out′)
   unfolding front standardPlan

@@ -1,100 +1,15 @@
-// Reading, the call: any bytes come back as the plan in its standard numbering, or as one refusal. It puts the test of the table, the head checks and the
-// decoder in order and clears the work area; how a payload is decoded is not known here.
+// Reading, the call: any bytes come back as the plan in its standard numbering, or as one refusal. It tests the output's room between the refusals of the record
+// and 13, copies the plan out and clears the work area; how a record is decoded is not known here.
 ghost use mathlib.Core.Path.{_≡_};
-ghost use mathlib.Core.Logic.{_≢_};
-ghost use mathlib.Core.Bool.{true, _&&_};
+ghost use mathlib.Core.Bool.{true};
 ghost use Prim.Native.Nat.{_*_, _≤_};
-ghost use lib.Dec.{eqb, ltb};
 ghost use lib.ListN.{length};
-ghost use Rattle.model.specs.Numbers.{isPermutation};
-ghost use Rattle.model.specs.Map.{faceOf, storesOutside, dartCountFits};
 ghost use Rattle.model.specs.Shelf.{kindOf, edgesOf, passes};
 ghost use Rattle.model.specs.Calls.{Reads, ReadCall};
-ghost use Rattle.packing.specs.Payload.{Sized};
-ghost use Rattle.packing.specs.Groups.{undone};
-ghost use Rattle.coding.specs.Payloads.{decodePayload};
-ghost use Rattle.work.specs.Area.{region};
-ghost use Rattle.builder.specs.Decoded.{Answered};
-ghost use Rattle.reading.specs.Early.{earlyRefusal};
-ghost use Rattle.reading.specs.Planned.{Inverse, PlannedUnder, MeshUnder};
+ghost use Rattle.decoding.specs.Planned.{Inverse};
+ghost use Rattle.reading.specs.Planned.{MeshUnder};
 use model::ReadBack;
 use model::Table;
-
-// The first of 1, 2, 3, 5, 7, 8 that concerns the record, with a work area and an output of these lengths; 0 if none does.
-fn early(record: &[u8], work: usize, out: usize) -> u16
-    ensures { λ r. ⌜ r ≡ earlyRefusal (now («record» .entry)) work out ⌝ }
-{
-    let h = heads::head_refusal(record);
-    if h != 0 {
-        return h;
-    }
-    let m = heads::field(record, 4) as usize;
-    if work < 32 * m {
-        return 7;
-    }
-    if out < 2 * m {
-        return 8;
-    }
-    0
-}
-
-// The standard plan of a payload of this family, which is not 3, under the table with this inverse: whether there is one, and its rotation in the first 2m entries.
-fn decode(payload: &[u8], family: u16, inverse: &[u8], m: usize, w: &mut [u16]) -> bool
-    requires { ⌜ Sized family m (now payload) × (length (now inverse) ≡ 256) × (family ≢ 3) ⌝ }
-    requires { ⌜ 32 * m ≤ length (now w) ⌝ }
-    ensures { λ r. ⌜ Answered (decodePayload family m (undone (now (inverse .entry)) family m (now (payload .entry)))) (2 * m) r (now (w .exit)) ⌝ }
-{
-    if family == 4 {
-        return letter_decoder::decode(payload, m, w);
-    }
-    decoder::decode(payload, family, inverse, m, w)
-}
-
-// x is the lowest dart of a face of the rotation in the first n entries.
-fn is_face(w: &[u16], n: usize, x: usize) -> bool
-    requires { ⌜ (dartCountFits n ≡ true) × (n ≤ length (now w)) × (isPermutation (region 0 n (now w)) ≡ true) ⌝ }
-    ensures { λ r. ⌜ r ≡ (ltb x n && eqb (faceOf (region 0 n (now (w .entry))) x) x) ⌝ }
-{
-    if x == 0 {
-        return true;
-    }
-    if x >= n {
-        return false;
-    }
-    outside::is_lowest(&w[..n], x)
-}
-
-// The standard plan and the outside of a record of a kind that stores it, whose head passes; or 13.
-fn read_outer(inverse: &[u8], record: &[u8], kind: u16, m: u16, w: &mut [u16]) -> ReadBack
-    requires { ⌜ Inverse (now inverse) × (passes (now «record») ≡ true) × (kind ≡ kindOf (now «record»)) × (m ≡ edgesOf (now «record»)) × (storesOutside kind ≡ true)
-        × (32 * edgesOf (now «record») ≤ length (now w)) ⌝ }
-    ensures { λ r. ⌜ PlannedUnder (now (inverse .entry)) (now («record» .entry)) r (now (w .exit)) ⌝ }
-{
-    let x = heads::field(record, 6);
-    if decode(&record[8..], heads::family(kind), inverse, m as usize, w) {
-        if is_face(w, 2 * (m as usize), x as usize) {
-            return ReadBack::Edges(m, x);
-        }
-    }
-    ReadBack::Refused(13)
-}
-
-// The standard plan of a record of a kind other than 3 whose head passes, in the first 2m entries of a work area with room, or 13. The work area is not cleared.
-fn read_core(inverse: &[u8], record: &[u8], w: &mut [u16]) -> ReadBack
-    requires { ⌜ Inverse (now inverse) × (passes (now «record») ≡ true) × (32 * edgesOf (now «record») ≤ length (now w)) × (kindOf (now «record») ≢ 3) ⌝ }
-    ensures { λ r. ⌜ PlannedUnder (now (inverse .entry)) (now («record» .entry)) r (now (w .exit)) ⌝ }
-{
-    let kind = heads::field(record, 2);
-    let m = heads::field(record, 4);
-    if heads::stores_outside(kind) {
-        return read_outer(inverse, record, kind, m, w);
-    }
-    let found = decode(&record[6..], kind, inverse, m as usize, w);
-    if found {
-        return ReadBack::Edges(m, 0);
-    }
-    ReadBack::Refused(13)
-}
 
 // The standard plan of a record of kind 3 whose head passes, in the output, or 13. The work area is not cleared.
 fn read_mesh(inverse: &[u8], record: &[u8], w: &mut [u16], out: &mut [u16]) -> ReadBack
@@ -110,7 +25,7 @@ fn read_mesh(inverse: &[u8], record: &[u8], w: &mut [u16], out: &mut [u16]) -> R
     ReadBack::Edges(m, 0)
 }
 
-// The table, the checks, then 13, then the plan to the output.
+// The refusals of the record, 8, then 13, then the plan to the output.
 fn read_out<'a>(
     bytes: &'a [u8],
     inverse: &'a [u8],
@@ -121,20 +36,21 @@ fn read_out<'a>(
     requires { ⌜ (length (now bytes) ≡ 243) × (length (now inverse) ≡ 256) ⌝ }
     ensures { λ r. ⌜ Reads (record { bytes = now (bytes .entry); inverse = now (inverse .entry) }) (now («record» .entry)) (length (now (work .entry))) (now (out .entry)) r (now (out .exit)) ⌝ }
 {
-    if !tables::is_loaded(bytes, inverse) {
-        return ReadBack::Refused(19);
-    }
-    let e = early(record, work.len(), out.len());
+    let e = decoding::refusal(bytes, inverse, record, work.len());
     if e != 0 {
         return ReadBack::Refused(e);
+    }
+    let m = heads::field(record, 4) as usize;
+    if out.len() < 2 * m {
+        return ReadBack::Refused(8);
     }
     if heads::field(record, 2) == 3 {
         return read_mesh(inverse, record, work, out);
     }
-    match read_core(inverse, record, work) {
-        ReadBack::Edges(m, x) => {
-            work::copy_front(work, 2 * (m as usize), out);
-            return ReadBack::Edges(m, x);
+    match decoding::read_core(inverse, record, work) {
+        ReadBack::Edges(edges, x) => {
+            work::copy_front(work, 2 * m, out);
+            return ReadBack::Edges(edges, x);
         }
         ReadBack::Refused(r) => {
             return ReadBack::Refused(r);

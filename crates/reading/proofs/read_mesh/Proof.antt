@@ -1,15 +1,17 @@
 use Prim.Native.Nat.{_≤_}
-use mathlib.Core.Path.{_≡_}
+use mathlib.Core.Path.{_≡_, subst}
 use mathlib.Core.Bool.{true}
 use native.Mathlib.Omega.{arith}
 use lib.ListN.{length}
 use Rattle.model.specs.Numbers.{allBelow}
 use Rattle.model.proofs.Permutations.{all-below}
 use Rattle.model.proofs.Heads.{passes-facts}
+use Rattle.words.specs.Word.{Found}
 use Rattle.coding.specs.Payloads.{decodeMeshRecord}
 use Rattle.mesh_reading.specs.Read.{MeshRead}
-use Rattle.reading.proofs.Payloads.{mesh-asked, mesh-decoded}
-use Rattle.reading.proofs.Outcomes.{mesh-under, inverse-wide, mesh-read, mesh-unreadable}
+use Rattle.decoding.proofs.Payloads.{mesh-asked, mesh-decoded}
+use Rattle.decoding.proofs.Outcomes.{inverse-wide}
+use Rattle.reading.proofs.Outcomes.{mesh-under, mesh-read, mesh-unreadable}
 use borrow.Author.Tests.{not-true, not-false}
 use borrow.Author.Needs.{needs}
 use Rattle.reading.proofs.read_mesh.Statement.{statement}
@@ -35,14 +37,18 @@ read-requires c κs =
     let f = c .before .before .before in
     let st = f .before .before .before .before .before in
     let p = st .pre in
-    mesh-asked _ (p .1) _ (f .field .ensures) (st .args .inverse .now) (st .args .w .now) (st .args .out .now) (inverse-wide _ (p .0)) (bytes (f .before)) (p .3) (p .4)
+    let size = f .field .ensures in
+    let (wide, some, few, short, room) = mesh-asked _ (p .1) _ size (st .args .inverse .now) (st .args .w .now) (inverse-wide _ (p .0)) (bytes (f .before)) (p .3) in
+    (wide, some, few, short, room, omega (arith, size, p .4))
 
 -- what is read of the payload is read of the record
 decoded : (c : tie.After-read) → let a = c .before .before .before .before .before .before .before .before .before .args in
     MeshRead (decodeMeshRecord (a .inverse .now) (a .«record» .now)) (c .read .result) (a .out .now) (c .read .last .1 .1 .1 .1 .0)
 decoded c =
     let f = c .before .before .before .before in
-    mesh-decoded _ (f .before .before .before .before .before .pre .1) _ (f .field .ensures) _ _ _ _ (c .read .ensures)
+    let a = f .before .before .before .before .before .args in
+    subst (λ (w : Found). MeshRead w (c .read .result) (a .out .now) (c .read .last .1 .1 .1 .1 .0))
+    (mesh-decoded _ (f .before .before .before .before .before .pre .1) _ (f .field .ensures) (a .inverse .now)) (c .read .ensures)
 
 returns : tie.Need-returns
 returns c =

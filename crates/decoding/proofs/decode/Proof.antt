@@ -1,7 +1,7 @@
-use Rattle.reading.proofs.Payloads.{letters-asked, letters-answered, labels-asked, labels-answered}
+use Rattle.decoding.proofs.Payloads.{letters-asked, letters-answered, labels-asked, labels-answered}
 use borrow.Author.Needs.{needs}
-use Rattle.reading.proofs.decode.Statement.{statement}
-use Rattle.reading.proofs.decode.Tie as tie
+use Rattle.decoding.proofs.decode.Statement.{statement}
+use Rattle.decoding.proofs.decode.Tie as tie
 
 decode-requires : tie.Need-decode-requires
 decode-requires c κs = let p = c .before .before .before .before .before .pre in (letters-asked _ _ _ (p .0 .0) (p .0 .2) (c .before .if1 .taken), p .1)

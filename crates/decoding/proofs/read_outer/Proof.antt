@@ -12,12 +12,12 @@ use Rattle.model.proofs.Permutations.{all-below}
 use Rattle.model.proofs.Heads.{stores-not-three, stores-family-plain}
 use Rattle.coding.specs.Payloads.{decodeRecord}
 use Rattle.builder.specs.Decoded.{Answered}
-use Rattle.reading.proofs.Payloads.{outer-head, payload-sized, record-decoded}
-use Rattle.reading.proofs.Faces.{stored-outside}
-use Rattle.reading.proofs.Outcomes.{under, inverse-wide, core-unreadable, face-asked, core-read, core-unsound}
+use Rattle.decoding.proofs.Payloads.{outer-head, payload-sized, record-decoded}
+use Rattle.decoding.proofs.Faces.{stored-outside}
+use Rattle.decoding.proofs.Outcomes.{under, inverse-wide, core-unreadable, face-asked, core-read, core-unsound}
 use borrow.Author.Needs.{needs}
-use Rattle.reading.proofs.read_outer.Statement.{statement}
-use Rattle.reading.proofs.read_outer.Tie as tie
+use Rattle.decoding.proofs.read_outer.Statement.{statement}
+use Rattle.decoding.proofs.read_outer.Tie as tie
 
 -- ---- the head
 

@@ -2,7 +2,7 @@
 --
 --   letters-asked, letters-answered   family 4: what reading its letters asks, and that it gives the answer
 --   labels-asked, labels-answered   another: the same of reading its tree bits and labels
---   mesh-asked, mesh-decoded   kind 3: what reading the payload asks, and that its answer is the answer for the record
+--   mesh-asked, mesh-decoded   kind 3: what reading the payload asks, and that its word is the record's
 --   outer-head, plain-head   a kind that stores the outside has eight bytes before it, another six, and is its own family
 --   payload-sized        it is as long as the payload of its family and size
 --   record-decoded       the answer for the payload is the answer for the record
@@ -28,7 +28,6 @@ use Rattle.packing.proofs.Groups.{undone-other}
 use Rattle.packing.proofs.Labelled.{labelled-other}
 use Rattle.packing.proofs.Headed.{passes-sized}
 use Rattle.coding.specs.Payloads.{decodeLabelled, decodeLetters, decodePayload, decodeRecord, decodeMesh, decodeMeshRecord}
-use Rattle.mesh_reading.specs.Read.{MeshRead}
 use Rattle.builder.specs.Decoded.{Answered}
 
 module _ (f m : ℕ) (ps : List ℕ) (s : Sized f m ps) (other : f ≢ 3) where
@@ -56,10 +55,10 @@ module _ (r : List ℕ) (passed : passes r ≡ true) (m : ℕ) (m-is : m ≡ edg
   mesh-part : take (length r - 6) (drop 6 r) ≡ drop 6 r
   mesh-part = take-all (length r - 6) (drop 6 r) (let e = length-drop 6 r in omega arith)
 
-  pub mesh-asked : (inv w out : List ℕ) → length inv ≡ 256 → allBelow 256 r ≡ true → 32 * edgesOf r ≤ length w → 2 * edgesOf r ≤ length out
-      → (length inv ≡ 256) × (1 ≤ m) × (m ≤ 4096) × (length (take (length r - 6) (drop 6 r)) < 65536) × (32 * m ≤ length w) × (2 * m ≤ length out)
+  pub mesh-asked : (inv w : List ℕ) → length inv ≡ 256 → allBelow 256 r ≡ true → 32 * edgesOf r ≤ length w
+      → (length inv ≡ 256) × (1 ≤ m) × (m ≤ 4096) × (length (take (length r - 6) (drop 6 r)) < 65536) × (32 * m ≤ length w)
   unfolding word16
-  mesh-asked inv w out wide bytes room space =
+  mesh-asked inv w wide bytes room =
       let f = passes-facts r passed in
       let some = f .some-edge in
       let few = f .few-edges in
@@ -68,12 +67,11 @@ module _ (r : List ℕ) (passed : passes r ≡ true) (m : ℕ) (m-is : m ≡ edg
       let a = below-all 256 r bytes 0 (omega arith) in
       let b = below-all 256 r bytes 1 (omega arith) in
       let l = ap length mesh-part ∙ length-drop 6 r in
-      (wide, omega arith, omega arith, omega arith, omega arith, omega arith)
+      (wide, omega arith, omega arith, omega arith, omega arith)
 
-  pub mesh-decoded : (inv : List ℕ) (b : Bool) (out out′ : List ℕ) → MeshRead (decodeMesh m (undone inv 3 m (take (length r - 6) (drop 6 r)))) b out out′
-      → MeshRead (decodeMeshRecord inv r) b out out′
+  pub mesh-decoded : (inv : List ℕ) → decodeMesh m (undone inv 3 m (take (length r - 6) (drop 6 r))) ≡ decodeMeshRecord inv r
   unfolding decodeMeshRecord
-  mesh-decoded inv b out out′ a = rw (mesh-part, m-is) at a
+  mesh-decoded inv = rw (mesh-part, m-is)
 
 -- ---- another kind
 

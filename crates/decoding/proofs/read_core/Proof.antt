@@ -11,12 +11,12 @@ use Rattle.model.proofs.Permutations.{all-below}
 use Rattle.model.proofs.Heads.{passes-facts}
 use Rattle.coding.specs.Payloads.{decodeRecord}
 use Rattle.builder.specs.Decoded.{Answered}
-use Rattle.reading.proofs.Payloads.{plain-head, payload-sized, record-decoded}
-use Rattle.reading.proofs.Faces.{no-outside, face-zero-is}
-use Rattle.reading.proofs.Outcomes.{under, inverse-wide, core-unreadable, face-asked, core-read}
+use Rattle.decoding.proofs.Payloads.{plain-head, payload-sized, record-decoded}
+use Rattle.decoding.proofs.Faces.{no-outside, face-zero-is}
+use Rattle.decoding.proofs.Outcomes.{under, inverse-wide, core-unreadable, face-asked, core-read}
 use borrow.Author.Needs.{needs}
-use Rattle.reading.proofs.read_core.Statement.{statement}
-use Rattle.reading.proofs.read_core.Tie as tie
+use Rattle.decoding.proofs.read_core.Statement.{statement}
+use Rattle.decoding.proofs.read_core.Tie as tie
 
 -- ---- the head
 

@@ -1,0 +1,4 @@
+pub mod Answers
+pub mod Payloads
+mod Faces
+pub mod Outcomes
