@@ -3,55 +3,28 @@
 --   count-over, count-part       how many records there are
 --   fetch-broken, fetch-past, fetch-fine      14, 15, or none in fetching
 --   fetch-none                   where none holds in fetching: the shelf is fine, and holds the record
---   shelve-past, shelve-stands   past the test of the table; that it is passed where none holds
---   spot-none, shelve-none       where none holds in shelving: the record passes, the shelf is fine, and has room for a new record
 --   used-part                    the used bytes, as the code lends them
 --   count-broken, count-records  what a count tells
-use mathlib.Core.Path.{_≡_, refl, sym, ap, _∙_}
+use mathlib.Core.Path.{_≡_, refl, ap, _∙_}
 use mathlib.Core.Bool.{Bool, true, false, not, cond}
 use mathlib.Core.List.{List}
 use Prim.Native.Nat.{ℕ, _-_, _≤_, _<_}
 use native.Mathlib.Nat.{sub-zero}
 use native.Mathlib.Omega.{arith}
-use lib.Dec.{eqb}
 use lib.ListN.{length, take, drop}
-use borrow.Author.Tests.{lt-ltb, le-ltb, ltb-true, ltb-false, not-false}
+use borrow.Author.Tests.{lt-ltb, le-ltb, ltb-true, not-false}
 use Rattle.records.specs.declared.Counted.{Counted}
 use Rattle.records.specs.declared.Counted.the-variants.{Records, Broken}
-use Rattle.model.specs.declared.Table.{Table}
 use Rattle.model.specs.Numbers.{firstRefusal}
-use Rattle.model.specs.Shelf.{headRefusal, recordsIn, endToEnd, firstEqual, shelfRefused}
-use Rattle.model.specs.Calls.{tableRefused, shelveRefusal, fetchRefusal}
-use Rattle.model.proofs.Refusals.{none-holds, table-stands, none-stands}
-use Rattle.model.proofs.Heads.{head-none}
+use Rattle.model.specs.Shelf.{recordsIn, endToEnd, shelfRefused}
+use Rattle.model.specs.Calls.{fetchRefusal}
+use Rattle.model.proofs.Refusals.{none-holds}
 use Rattle.records.specs.Count.{countOf}
 use Rattle.shelf.specs.Count.{shelfCount}
-use Rattle.shelf.specs.Spot.{spotRefusal}
 
 -- the used bytes, as the code lends them
 pub used-part : (s : List ℕ) (u : ℕ) → take (u - 0) (drop 0 s) ≡ take u s
 used-part s u = ap (λ (k : ℕ). take k s) (sub-zero u)
-
--- shelving's refusals but 19
-pub shelve-past : (t : Table) (r s : List ℕ) (u : ℕ) → tableRefused t ≡ false → shelveRefusal t r s u ≡ spotRefusal r s u
-unfolding shelveRefusal spotRefusal
-shelve-past t r s u stands = table-stands t _ stands
-
-pub shelve-stands : (t : Table) (r s : List ℕ) (u : ℕ) → shelveRefusal t r s u ≡ 0 → tableRefused t ≡ false
-unfolding shelveRefusal
-shelve-stands t r s u e = none-stands t _ e
-
-pub spot-none : (r s : List ℕ) (u : ℕ) → spotRefusal r s u ≡ 0 → let rs = recordsIn (take u s) in
-    (headRefusal r ≡ 0) × (shelfRefused s u ≡ false) × (eqb (firstEqual r rs) (length rs) ≡ true → length r ≤ length s - u)
-unfolding spotRefusal
-spot-none r s u e =
-    let (head, rest) = head-none r _ e in
-    let no = none-holds _ refl rest in
-    (head, no 14, λ new. ltb-false (length s - u) (length r) (rw new at (no 16)))
-
-pub shelve-none : (t : Table) (r s : List ℕ) (u : ℕ) → shelveRefusal t r s u ≡ 0 → let rs = recordsIn (take u s) in
-    (headRefusal r ≡ 0) × (shelfRefused s u ≡ false) × (eqb (firstEqual r rs) (length rs) ≡ true → length r ≤ length s - u)
-shelve-none t r s u e = spot-none r s u (sym (shelve-past t r s u (shelve-stands t r s u e)) ∙ e)
 
 module _ (s : List ℕ) (u : ℕ) where
   pub count-over : length s < u → Broken ≡ shelfCount s u

@@ -1,22 +1,11 @@
-// The shelf: a lent byte slice with a used length, whose used bytes are records end to end. Shelving, fetching and walking look at heads and lengths
-// only. The public calls are `shelve`, `fetch`, `walk_begin`, `walk_length` and `walk_next`, and for the walker `used_part` and `next_place`; they have no
-// `requires`.
+// The shelf: a lent byte slice with a used length, whose used bytes are records end to end. Fetching and walking look at heads and lengths only. The public
+// calls are `fetch`, `walk_begin`, `walk_length` and `walk_next`, and for the walker `used_part` and `next_place`; they have no `requires`.
 ghost use mathlib.Core.Path.{_≡_};
-ghost use mathlib.Core.List.{_++_};
-ghost use Prim.Native.Nat.{_+_, _≤_};
-ghost use lib.ListN.{length, take, drop};
-ghost use Rattle.model.specs.Calls.{front, fetchRefusal, Stored};
+ghost use lib.ListN.{length, take};
+ghost use Rattle.model.specs.Calls.{fetchRefusal};
 ghost use Rattle.model.specs.ShelfWalk.{recordAt, nextPlace, Begun};
 ghost use Rattle.shelf.specs.Count.{shelfCount};
-ghost use Rattle.shelf.specs.Spot.{spotOf};
 ghost use Rattle.model.specs.Parts.{FetchedPart};
-
-// Where a record belongs: it is there under a number, it is new and gets a number, or it is refused.
-enum Spot {
-    There(usize),
-    New(usize),
-    Refused(u16),
-}
 
 // How many records are on the shelf, if 14 does not concern it.
 fn count(shelf: &[u8], used: usize) -> records::Counted
@@ -96,59 +85,4 @@ pub fn fetch<'a>(shelf: &'a [u8], used: usize, n: usize, refusal: &mut u16) -> &
 {
     let at = walk_begin(shelf, used, n, refusal);
     records::record_at(used_part(shelf, used), at)
-}
-
-// ---- shelving
-
-fn spot_of(record: &[u8], shelf: &[u8], used: usize) -> Spot
-    ensures { λ r. ⌜ r ≡ spotOf (now («record» .entry)) (now (shelf .entry)) used ⌝ }
-{
-    let number = heads::head_refusal(record);
-    if number != 0 {
-        return Spot::Refused(number);
-    }
-    if used > shelf.len() {
-        return Spot::Refused(14);
-    }
-    match searching::search(record, &shelf[0..used]) {
-        searching::Searched::Broken => Spot::Refused(14),
-        searching::Searched::There(n, _) => Spot::There(n),
-        searching::Searched::Missing(n, _) => {
-            if shelf.len() - used < record.len() {
-                return Spot::Refused(16);
-            }
-            Spot::New(n)
-        }
-    }
-}
-
-// The record is put into the shelf from this place on.
-fn put(shelf: &mut [u8], at: usize, record: &[u8])
-    requires { ⌜ at + length (now «record») ≤ length (now shelf) ⌝ }
-    ensures { λ _. ⌜ now (shelf .exit) ≡ take at (now (shelf .entry)) ++ front (now («record» .entry)) (drop at (now (shelf .entry))) ⌝ }
-{
-    let mut i = 0;
-    while i < record.len() {
-        let j = at + i;
-        shelf[j] = record[i];
-        i += 1;
-    }
-}
-
-// The table is tested; the bytes are shelved as they are.
-pub fn shelve(table: model::Table, record: &[u8], shelf: &mut [u8], used: usize) -> model::Shelved
-    ensures { λ r. ⌜ Stored table (now («record» .entry)) (now (shelf .entry)) used r (now (shelf .exit)) ⌝ }
-{
-    if !tables::is_loaded(&table.bytes, &table.inverse) {
-        return model::Shelved::Refused(19);
-    }
-    match spot_of(record, shelf, used) {
-        Spot::Refused(number) => model::Shelved::Refused(number),
-        Spot::There(n) => model::Shelved::At(n, used),
-        Spot::New(n) => {
-            put(shelf, used, record);
-            let end = used + record.len();
-            model::Shelved::At(n, end)
-        }
-    }
 }
