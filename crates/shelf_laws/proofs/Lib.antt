@@ -1,4 +1,5 @@
 mod Laid
 mod Number
 mod Shelved
+mod Built
 mod Walked
