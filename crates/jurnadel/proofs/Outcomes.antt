@@ -54,13 +54,14 @@ measure-out rot work list a b work′ list′ m e =
       cleared = m .cleared;
     }
 
-pub shelve-out : (t : Table) (bytes shelf : List ℕ) (used : ℕ) (a b : Shelved) (shelf′ : List ℕ) → Stored t bytes shelf used a shelf′ → a ≡ b
-    → ShelveExport t bytes shelf used (numberOfShelved b) (recordNumberOfShelved b) (usedOfShelved used b) shelf′
-shelve-out t bytes shelf used a b shelf′ s e =
-    let z = sym e ∙ s .answered in
+pub shelve-out : (t : Table) (bytes work shelf : List ℕ) (used : ℕ) (a b : Shelved) (work′ shelf′ : List ℕ) → Stored t bytes work shelf used a work′ shelf′ → a ≡ b
+    → ShelveExport t bytes work shelf used (numberOfShelved b) (recordNumberOfShelved b) (usedOfShelved used b) work′ shelf′
+shelve-out t bytes work shelf used a b work′ shelf′ s e =
     record {
-      refusal-is = ap numberOfShelved z;
-      number-is = ap recordNumberOfShelved z;
-      used-is = ap (usedOfShelved used) z;
-      bytes-are = s .bytes;
+      answer = a;
+      outcome = s .outcome;
+      refusal-is = ap numberOfShelved (sym e);
+      number-is = ap recordNumberOfShelved (sym e);
+      used-is = ap (usedOfShelved used) (sym e);
+      cleared = s .cleared;
     }

@@ -161,19 +161,20 @@ pub extern "C" fn jurnadel_area_lengths(
 
 // ---- the shelf
 
-// The record's number goes to `number`, 0 if refused; the used length to `new_used`, `used` if refused.
+// The record is read first. Its number goes to `number`, 0 if refused; the used length to `new_used`, `used` if refused.
 #[no_mangle]
 pub extern "C" fn jurnadel_shelve(
     table: Table,
     record: &[u8],
+    work: &mut [u16],
     shelf: &mut [u8],
     used: usize,
     number: &mut usize,
     new_used: &mut usize,
 ) -> u16
-    ensures { λ r. ⌜ ShelveExport table (now («record» .entry)) (now (shelf .entry)) used r (now (number .exit)) (now («new_used» .exit)) (now (shelf .exit)) ⌝ }
+    ensures { λ r. ⌜ ShelveExport table (now («record» .entry)) (now (work .entry)) (now (shelf .entry)) used r (now (number .exit)) (now («new_used» .exit)) (now (work .exit)) (now (shelf .exit)) ⌝ }
 {
-    let answer = shelf::shelve(table, record, shelf, used);
+    let answer = shelving::shelve(table, record, work, shelf, used);
     match answer {
         Shelved::At(n, end) => {
             *number = n;
