@@ -35,8 +35,20 @@ ON_FULL = [
     "07 00 01 00 03 00 C8",
     "07 00 02 00 01 00 80",
 ]
-# A record and a used length.
-REFUSED = [(STARRED[0], 71), (STARRED[0], 62), (STARRED[0], 64), ("08 00 01 00 03 00 CC CC", 63)]
+UNREADABLE = "07 00 01 00 02 00 CC"
+# A record, a used length and the length of the work area: 14 three times, 16; then refusals met while reading.
+WORK = 96
+REFUSED = [
+    (STARRED[0], 71, WORK),
+    (STARRED[0], 62, WORK),
+    (STARRED[0], 64, WORK),
+    ("08 00 01 00 03 00 E1 00", 63, WORK),
+    (UNREADABLE, 63, 64),
+    (UNREADABLE, 63, 63),
+    (STARRED[0], 71, 63),
+    (UNREADABLE, 71, WORK),
+    ("08 00 01 00 03 00 CC CC", 63, WORK),
+]
 # A number and a used length; for a walk how many steps too.
 FETCHES = [(number, 63) for number in range(9)] + [(3, 23), (0, 0), (0, 62), (0, 71)]
 WALKS = [(0, 63, 9), (5, 63, 4), (1, 15, 2), (8, 63, 2), (0, 0, 2), (0, 62, 2), (0, 71, 2)]
@@ -71,10 +83,10 @@ def compared(used_bytes, record, number):
     return sum(len(met) == len(record) for met in records[: number + 1])
 
 
-def shelve(shelf, used, record):
+def shelve(shelf, used, record, work=WORK):
     """The line; shelf and used length after it."""
-    asked = f"shelve {record}, used {used} of {len(shelf)}"
-    refusal, rest = ask("shelve", used, len(shelf), shelf.hex(), record.replace(" ", ""))
+    asked = f"shelve {record}, used {used} of {len(shelf)}, work {work}"
+    refusal, rest = ask("shelve", f"work={work}", used, len(shelf), shelf.hex(), record.replace(" ", ""))
     if refusal:
         return f"{asked}: refusal {refusal}", shelf, used
     number, end, after = rest
@@ -140,16 +152,31 @@ def lines():
     for record in STARRED + ON_FULL:
         line, shelf, used = shelve(shelf, used, record)
         yield line
-    for record, given in REFUSED:
-        line, shelf, _ = shelve(shelf, given, record)
+    for record, given, work in REFUSED:
+        line, shelf, _ = shelve(shelf, given, record, work)
         yield line
     yield from looked(shelf)
-    line, shelf, used = shelve(shelf, used, "07 00 01 00 02 00 CC")
+    line, shelf, used = shelve(shelf, used, "07 00 04 00 01 00 B0")
     yield line
     yield fetch(shelf, 8, used)
     line, shelf, used = shelve(bytes.fromhex(2 * STARRED[0]), 14, STARRED[0])
     yield line
     yield fetch(shelf, 1, used)
+    line, shelf, used = shelve(b"\xEE" * 7, 0, STARRED[0], 64)
+    yield line
+    yield fetch(shelf, 0, used)
+    yield from lent()
+
+
+def lent():
+    """A lent shelf that holds a record no plan has."""
+    shelf = bytes.fromhex(UNREADABLE) + b"\xEE" * 7
+    line, shelf, used = shelve(shelf, 7, UNREADABLE)
+    yield line
+    line, shelf, used = shelve(shelf, 7, STARRED[0])
+    yield line
+    yield fetch(shelf, 0, used)
+    yield from walk(shelf, 0, used, 3)
 
 
 def main():

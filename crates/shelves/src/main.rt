@@ -1,6 +1,6 @@
-// Shelves the starred records of document 01, fetches them and walks over them, and meets each refusal of shelving, fetching and walking. Each answer is a
-// line: numbers and places in decimal, bytes in hexadecimal; where a record was searched for, the line ends with how many were compared beyond the length
-// (document 02, request (g)). The file stdout has what it must write; tests/shelves.py holds it to the second coder.
+// Shelves the starred records of document 01, fetches them and walks over them, and meets each refusal of shelving, fetching and walking, those of document 02
+// (b) included. Each answer is a line: numbers and places in decimal, bytes in hexadecimal; where a record was searched for, the line ends with how many were
+// compared beyond the length (request (g)). The file stdout has what it must write; tests/shelves.py holds it to the second coder.
 ghost use mathlib.Core.Path.{_≡_};
 ghost use Rattle.model.specs.Parts.{CutOut};
 ghost use Rattle.model.specs.ShelfWalk.{nextPlace};
@@ -59,13 +59,14 @@ fn show_compared(record: &[u8], bytes: &[u8]) {
     }
 }
 
-// The record is shelved. The used length after that is returned.
-fn shelve(record: &[u8], shelf: &mut [u8], used: usize) -> usize {
+// The record is shelved with this work area. The used length after that is returned.
+fn shelve_with(work: &mut [u16], record: &[u8], shelf: &mut [u8], used: usize) -> usize {
     io::write_all(1, b"shelve");
     show_bytes(record);
     show(b", used ", used);
     show(b" of ", shelf.len());
-    match shelf::shelve(tables::standard(), record, shelf, used) {
+    show(b", work ", work.len());
+    match shelving::shelve(tables::standard(), record, work, shelf, used) {
         Shelved::At(n, end) => {
             show(b": record ", n);
             show(b", used ", end);
@@ -79,6 +80,12 @@ fn shelve(record: &[u8], shelf: &mut [u8], used: usize) -> usize {
             used
         }
     }
+}
+
+// With room for three trails.
+fn shelve(record: &[u8], shelf: &mut [u8], used: usize) -> usize {
+    let mut work = [0xEEEE; 96];
+    shelve_with(&mut work, record, shelf, used)
 }
 
 fn fetch(shelf: &[u8], used: usize, n: usize) {
@@ -203,6 +210,15 @@ fn shelve_refused(shelf: &mut [u8]) {
     shelve(&[7, 0, 1, 0, 2, 0, 0xC8], shelf, 71);
     shelve(&[7, 0, 1, 0, 2, 0, 0xC8], shelf, 62);
     shelve(&[7, 0, 1, 0, 2, 0, 0xC8], shelf, 64);
+    shelve(&[8, 0, 1, 0, 3, 0, 0xE1, 0x00], shelf, 63);
+}
+
+// Refusals met while reading: 13, also where 14 or 16 holds, and before it 7.
+fn shelve_unreadable(shelf: &mut [u8]) {
+    shelve_with(&mut [0xEEEE; 64], &[7, 0, 1, 0, 2, 0, 0xCC], shelf, 63);
+    shelve_with(&mut [0xEEEE; 63], &[7, 0, 1, 0, 2, 0, 0xCC], shelf, 63);
+    shelve_with(&mut [0xEEEE; 63], &[7, 0, 1, 0, 2, 0, 0xC8], shelf, 71);
+    shelve(&[7, 0, 1, 0, 2, 0, 0xCC], shelf, 71);
     shelve(&[8, 0, 1, 0, 3, 0, 0xCC, 0xCC], shelf, 63);
 }
 
@@ -256,6 +272,37 @@ fn shelve_twins() {
     fetch(&shelf, used, 1);
 }
 
+// An empty shelf that the record just fills.
+fn shelve_first() {
+    let mut shelf = [0xEE; 7];
+    let used = shelve_with(&mut [0xEEEE; 64], &[7, 0, 1, 0, 2, 0, 0xC8], &mut shelf, 0);
+    fetch(&shelf, used, 0);
+}
+
+// A lent shelf may hold a record that no plan has: it is fetched and walked over, others are put behind it, and it is not shelved again.
+fn shelve_lent() {
+    let mut shelf = [
+        7,
+        0,
+        1,
+        0,
+        2,
+        0,
+        0xCC,
+        0xEE,
+        0xEE,
+        0xEE,
+        0xEE,
+        0xEE,
+        0xEE,
+        0xEE,
+    ];
+    shelve(&[7, 0, 1, 0, 2, 0, 0xCC], &mut shelf, 7);
+    let used = shelve(&[7, 0, 1, 0, 2, 0, 0xC8], &mut shelf, 7);
+    fetch(&shelf, used, 0);
+    walk(&shelf, used, 0, 3);
+}
+
 fn shelve_all(shelf: &mut [u8]) {
     let used = shelve_kind_1(shelf);
     let full = shelve_kind_2(shelf, used);
@@ -263,6 +310,7 @@ fn shelve_all(shelf: &mut [u8]) {
     shelve_1_2(shelf, full);
     shelve_3_5(shelf, full);
     shelve_refused(shelf);
+    shelve_unreadable(shelf);
 }
 
 fn look(shelf: &[u8]) {
@@ -277,7 +325,7 @@ fn look(shelf: &[u8]) {
 
 // A record that just fits.
 fn shelve_last(shelf: &mut [u8]) {
-    let used = shelve(&[7, 0, 1, 0, 2, 0, 0xCC], shelf, 63);
+    let used = shelve(&[7, 0, 4, 0, 1, 0, 0xB0], shelf, 63);
     fetch(shelf, used, 8);
 }
 
@@ -287,4 +335,6 @@ fn main() {
     look(&shelf);
     shelve_last(&mut shelf);
     shelve_twins();
+    shelve_first();
+    shelve_lent();
 }
