@@ -217,7 +217,7 @@ shelvedBytes r shelf used =
     cond (eqb (shelveRefusal r shelf used) 0 && eqb (firstEqual r rs) (length rs)) (take used shelf ++ front r (drop used shelf)) shelf
 
 -- Document 02 (b): "It shall take a work area and read each new record first. A refusal met while reading the record is passed on: 7 and 13 may now come from
--- shelving, after 5 and before 14." Every record handed in is new, equal bytes on the shelf or not.
+-- shelving, after 5 and before 14." Every record handed in is new, equal bytes on the shelf or not. This repeals "a payload that nobody can read is shelved like any other".
 pub data Shelves (t : Table) (r : List ℕ) (workLength : ℕ) (shelf : List ℕ) (used : ℕ) (answer : Shelved) (shelf′ : List ℕ) : Type 0 where
   unread : (recordRefusal t r workLength ≢ 0) → answer ≡ shelved.Refused (recordRefusal t r workLength) → shelf′ ≡ shelf
       → Shelves t r workLength shelf used answer shelf′

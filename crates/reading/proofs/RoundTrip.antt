@@ -1,7 +1,7 @@
 -- Reading and writing undo each other under one table, over the contracts of the two calls alone.
 --
 --   read-record          reading a fit plan's record with room answers m and the outside, and gives the standard plan
---   wrote-fit, wrote-bytes   a call that wrote was handed a fit plan, and the bytes are its record
+--   wrote-fit, wrote-stands, wrote-bytes, wrote-has   a call that wrote was handed a fit plan and a table that loading gives, and the bytes are its record
 --   read-written         reading what writing wrote answers m and the outside, and gives the standard plan
 --   write-fit            writing a fit plan with room gives its record
 --   planIn m x out       the plan with the first 2m entries, root 0 and outside x
@@ -77,7 +77,7 @@ module _ (t : Table) (k : ℕ) (p : Plan) (w o : List ℕ) (n : ℕ) (w′ o′ 
   unfolding call
   wrote-fit = accepted-fit t call honest accepted
 
-  wrote-stands : tableRefused t ≡ false
+  pub wrote-stands : tableRefused t ≡ false
   unfolding call
   wrote-stands = accepted-stands t call honest accepted
 
@@ -85,7 +85,7 @@ module _ (t : Table) (k : ℕ) (p : Plan) (w o : List ℕ) (n : ℕ) (w′ o′ 
   unfolding bytesWritten call isAccepted
   wrote-bytes = accepted-bytes t call honest accepted
 
-  wrote-has : HasRecord t (take n o′) p
+  pub wrote-has : HasRecord t (take n o′) p
   wrote-has = subst (λ (s : List ℕ). HasRecord t s p) (sym wrote-bytes) (own-record t k p wrote-fit)
 
   pub read-written : (work out : List ℕ) (answer : ReadBack) (work′ out′ : List ℕ) → ReadCall t (take n o′) work out answer work′ out′

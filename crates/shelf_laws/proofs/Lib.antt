@@ -2,4 +2,5 @@ mod Laid
 mod Number
 mod Shelved
 mod Built
+mod Written
 mod Walked
