@@ -57,9 +57,9 @@ extern "C" {
 /* ---- Version ---------------------------------------------------------------------- */
 
 #define JURNADEL_VERSION_MAJOR 0
-#define JURNADEL_VERSION_MINOR 8
+#define JURNADEL_VERSION_MINOR 9
 #define JURNADEL_VERSION_PATCH 0
-#define JURNADEL_VERSION "0.8.0"
+#define JURNADEL_VERSION "0.9.0"
 
 /* ---- Sizes ------------------------------------------------------------------------ */
 
@@ -236,27 +236,36 @@ uint16_t jurnadel_area_lengths(const uint16_t *order, size_t darts,
 
 /*
  * A shelf is a lent run of bytes with a used length; the used bytes are records end to
- * end, and records are numbered from 0. These calls look at heads and lengths only: they
- * take a record that cannot be read like any other, and one of kind 3 with any length from
- * 6 on. Nothing on a shelf tells which table a record was written under.
+ * end, and records are numbered from 0. Nothing on a shelf tells which table a record was
+ * written under.
+ *
+ * Shelving reads each record that it is handed, and refuses one that no fit plan has. So a
+ * shelf that is built from nothing by shelving, with used 0 at first and each call handed what
+ * the one before left, holds only records of fit plans, each under the table of the call that
+ * stored it; refused calls between change nothing. Of records that are on a shelf already these
+ * calls look at heads and lengths only: a lent shelf may hold some that cannot be read, and some
+ * of kind 3 with any length from 6 on.
  */
 
 /*
- * Shelves a record. If equal bytes are on the shelf, *number is the first such record's
- * and nothing is stored; else the record is put just past the used bytes. It goes over the
- * heads of all records once, and compares only those that are as long as the new one.
+ * Reads a record and shelves it. If equal bytes are on the shelf, *number is the first such
+ * record's and nothing is stored; else the record is put just past the used bytes. It goes
+ * over the heads of all records once, and compares only those that are as long as the new one.
  *
- *   table                a group table, which is tested; the bytes of records are compared as they are
- *   record, record_len   the record
+ *   table                the group table that the record was written under; the bytes of records
+ *                        are compared as they are
+ *   record, record_len   the record, all of it and no more
+ *   work, work_len       JURNADEL_WORK_LEN(m) numbers or more, any content; zeros on return
  *   shelf, shelf_len     the whole shelf
  *   used                 its used length
  *   number               the record's number; 0 if refused
  *   new_used             the used length now; used if refused or already there
  *
- * Refusals: 19, 1, 2, 3, 5 but in kind 3, 14, 16.
+ * Refusals: 19, 1, 2, 3, 5 but in kind 3, 7, 13, 14, 16. Those up to 13 are reading's, and are given
+ * also where equal bytes are on the shelf. There is no 8, as the plan is not handed out.
  */
-uint16_t jurnadel_shelve(jurnadel_table table, const uint8_t *record, size_t record_len, uint8_t *shelf, size_t shelf_len,
-                         size_t used, size_t *number, size_t *new_used);
+uint16_t jurnadel_shelve(jurnadel_table table, const uint8_t *record, size_t record_len, uint16_t *work, size_t work_len,
+                         uint8_t *shelf, size_t shelf_len, size_t used, size_t *number, size_t *new_used);
 
 /*
  * Finds a record: it is shelf[*at] .. shelf[*at + *length - 1]. If refused, both are 0.

@@ -1,5 +1,6 @@
-/* Writes plans, shelves them, fetches one, reads it back, measures its areas and walks the shelf; then writes and reads
-   under a maker's own group table. Memory: the table, and buffers sized by the header's macros for plans of at most 8 trails. */
+/* Writes plans, shelves them, tries to shelve a damaged record, fetches one, reads it back, measures its areas and walks the shelf;
+   then writes and reads under a maker's own group table. Memory: the table, and buffers sized by the header's macros for plans of
+   at most 8 trails. */
 #include "jurnadel.h"
 #include <stdio.h>
 
@@ -64,6 +65,8 @@ int main(void) {
         {"a loop around a dead end", 4, 0, 6, {2, 1, 4, 0, 3, 5}},
         {"trails that cross", 4, 0, 6, {3, 2, 4, 5, 1, 0}},
     };
+    /* As it may come by radio: the triangle with a bit turned. */
+    static const uint8_t damaged[] = {0x08, 0, 0x01, 0, 0x03, 0, 0xE3, 0};
     size_t used = 0, number, at, length;
     uint16_t record_length, trails, outside, count;
     int32_t characteristic;
@@ -77,7 +80,8 @@ int main(void) {
             continue;
         }
         size_t before = used;
-        refusal = jurnadel_shelve(table, record, record_length, shelf, sizeof shelf, used, &number, &used);
+        refusal = jurnadel_shelve(table, record, record_length, work, sizeof work / sizeof work[0], shelf, sizeof shelf, used,
+                                  &number, &used);
         if (refusal != 0) {
             printf("%s: refusal %d\n", plans[i].name, (int)refusal);
             return 1;
@@ -85,6 +89,10 @@ int main(void) {
         printf("%s: record %d, %s:", plans[i].name, (int)number, used > before ? "new" : "already there");
         show(record, record_length);
     }
+
+    printf("triangle with a bit turned: refusal %d\n",
+           (int)jurnadel_shelve(table, damaged, sizeof damaged, work, sizeof work / sizeof work[0], shelf, sizeof shelf, used,
+                                &number, &used));
 
     if (jurnadel_fetch(shelf, sizeof shelf, used, 1, &at, &length) != 0)
         return 1;

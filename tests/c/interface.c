@@ -412,42 +412,101 @@ static void areas(void) {
     CHECK(areas_of(loops, JURNADEL_MAX_DARTS, JURNADEL_MAX_WORK_LEN, JURNADEL_MAX_TRAILS) == JURNADEL_SHORT_OUTPUT);
 }
 
+/* The shelf that is lent, and the out-numbers of shelving. */
+static uint8_t shelf[32];
+static size_t number, used;
+
+/* Shelves on the first shelf_len bytes, of which so many are used. A refused call leaves the shelf as it is, and a record that is
+   new is all that is changed. */
+static uint16_t shelved(const uint8_t *record, size_t record_len, size_t work_len, size_t shelf_len, size_t used_before) {
+    uint8_t before[sizeof shelf];
+    uint16_t refusal;
+    dirty();
+    memcpy(before, shelf, sizeof shelf);
+    number = 99, used = used_before + 1;
+    refusal = jurnadel_shelve(table, record, record_len, work, work_len, shelf, shelf_len, used_before, &number, &used);
+    CHECK(cleared(work_len));
+    CHECK(refusal == 0 || (number == 0 && used == used_before));
+    if (refusal == 0 && used != used_before) {
+        CHECK(used == used_before + record_len && memcmp(shelf + used_before, record, record_len) == 0);
+        memcpy(before + used_before, record, record_len);
+    }
+    CHECK(memcmp(shelf, before, sizeof shelf) == 0);
+    return refusal;
+}
+
 static void shelves(void) {
     static const uint8_t outer[] = {9, 0, 4, 1, 1, 0, 9, 9, 0xB0}, head[] = {6, 0, 3, 0, 1, 0}, mesh[] = {9, 0, 3, 0, 3, 0, 0x80, 0xA2, 0};
-    static const uint8_t pair[] = {7, 0, 1, 0, 2, 0, 0xC8}, stick[] = {8, 0, 2, 0, 1, 0, 0x80, 0xA2}, odd[] = {7, 0, 1, 0, 2, 0, 0xC9};
-    uint8_t shelf[16];
-    size_t number = 99, used = 0, at = 99, part = 99;
+    static const uint8_t pair[] = {7, 0, 1, 0, 2, 0, 0xC8}, stick[] = {8, 0, 2, 0, 1, 0, 0x80, 0xA2}, ring[] = {7, 0, 4, 0, 1, 0, 0xB0};
+    size_t at = 99, part = 99;
     memset(shelf, 0xEE, sizeof shelf);
-    CHECK(jurnadel_walk_begin(shelf, sizeof shelf, 0, 0, &at) == JURNADEL_NO_SUCH_RECORD && at == 0);
-    CHECK(jurnadel_shelve(table, pair, sizeof pair, shelf, sizeof shelf, 0, &number, &used) == 0 && number == 0 && used == 7);
-    CHECK(jurnadel_shelve(table, stick, sizeof stick, shelf, sizeof shelf, used, &number, &used) == 0 && number == 1 && used == 15);
-    CHECK(jurnadel_shelve(table, pair, sizeof pair, shelf, sizeof shelf, used, &number, &used) == 0 && number == 0 && used == 15);
+    CHECK(jurnadel_walk_begin(shelf, 16, 0, 0, &at) == JURNADEL_NO_SUCH_RECORD && at == 0);
+    CHECK(shelved(pair, 7, 64, 16, 0) == 0 && number == 0 && used == 7);
+    CHECK(shelved(stick, 8, 32, 16, used) == 0 && number == 1 && used == 15);
+    CHECK(shelved(pair, 7, 64, 16, used) == 0 && number == 0 && used == 15);
     CHECK(memcmp(shelf, pair, 7) == 0 && memcmp(shelf + 7, stick, 8) == 0 && shelf[15] == 0xEE);
-    CHECK(jurnadel_shelve(table, odd, sizeof odd, shelf, sizeof shelf, used, &number, &used) == JURNADEL_SHELF_FULL && number == 0 && used == 15);
-    CHECK(jurnadel_shelve(table, odd, 6, shelf, sizeof shelf, used, &number, &used) == JURNADEL_RECORD_CUT && used == 15);
-    CHECK(jurnadel_shelve(table, odd, sizeof odd, shelf, 14, used, &number, &used) == JURNADEL_SHELF_BROKEN && used == 15);
-    CHECK(shelf[15] == 0xEE);
-    CHECK(jurnadel_fetch(shelf, sizeof shelf, used, 1, &at, &part) == 0 && at == 7 && part == 8);
-    CHECK(jurnadel_fetch(shelf, sizeof shelf, used, 2, &at, &part) == JURNADEL_NO_SUCH_RECORD && at == 0 && part == 0);
-    CHECK(jurnadel_fetch(shelf, sizeof shelf, 16, 0, &at, &part) == JURNADEL_SHELF_BROKEN && at == 0 && part == 0);
-    CHECK(jurnadel_walk_begin(shelf, sizeof shelf, used, 0, &at) == 0 && at == 0);
-    CHECK(jurnadel_walk_step(shelf, sizeof shelf, used, 0) == 7);
-    CHECK(jurnadel_walk_step(shelf, sizeof shelf, used, 7) == 8);
-    CHECK(jurnadel_walk_step(shelf, sizeof shelf, used, 15) == 0);
-    CHECK(jurnadel_walk_step(shelf, sizeof shelf, used, 3) == 0);
-    CHECK(jurnadel_walk_step(shelf, sizeof shelf, used, (size_t)-1) == 0);
-    CHECK(jurnadel_walk_begin(shelf, sizeof shelf, used, 2, &at) == JURNADEL_NO_SUCH_RECORD && at == 15);
-    /* A shelf takes a stored outside as it is. */
-    CHECK(jurnadel_shelve(table, outer, sizeof outer, shelf, sizeof shelf, 7, &number, &used) == 0 && number == 1 && used == 16);
-    CHECK(jurnadel_walk_step(shelf, sizeof shelf, used, 7) == 9 && memcmp(shelf + 7, outer, 9) == 0);
-    CHECK(jurnadel_shelve(table, outer, 8, shelf, sizeof shelf, used, &number, &used) == JURNADEL_RECORD_CUT && used == 16);
-    /* And a record of kind 3 with any length from 6 on. */
-    CHECK(jurnadel_shelve(table, head, sizeof head, shelf, sizeof shelf, 0, &number, &used) == 0 && number == 0 && used == 6);
-    CHECK(jurnadel_shelve(table, mesh, sizeof mesh, shelf, sizeof shelf, used, &number, &used) == 0 && number == 1 && used == 15);
-    CHECK(jurnadel_shelve(table, head, sizeof head, shelf, sizeof shelf, used, &number, &used) == 0 && number == 0 && used == 15);
-    CHECK(jurnadel_fetch(shelf, sizeof shelf, used, 1, &at, &part) == 0 && at == 6 && part == 9);
-    CHECK(jurnadel_walk_step(shelf, sizeof shelf, used, 0) == 6 && jurnadel_walk_step(shelf, sizeof shelf, used, 6) == 9);
-    CHECK(jurnadel_walk_step(shelf, sizeof shelf, 14, 6) == 0 && jurnadel_fetch(shelf, sizeof shelf, 14, 0, &at, &part) == JURNADEL_SHELF_BROKEN);
+    CHECK(shelved(ring, 7, 32, 16, used) == JURNADEL_SHELF_FULL);
+    CHECK(shelved(ring, 6, 32, 16, used) == JURNADEL_RECORD_CUT);
+    CHECK(shelved(ring, 7, 32, 14, used) == JURNADEL_SHELF_BROKEN);
+    CHECK(jurnadel_fetch(shelf, 16, used, 1, &at, &part) == 0 && at == 7 && part == 8);
+    CHECK(jurnadel_fetch(shelf, 16, used, 2, &at, &part) == JURNADEL_NO_SUCH_RECORD && at == 0 && part == 0);
+    CHECK(jurnadel_fetch(shelf, 16, 16, 0, &at, &part) == JURNADEL_SHELF_BROKEN && at == 0 && part == 0);
+    CHECK(jurnadel_walk_begin(shelf, 16, used, 0, &at) == 0 && at == 0);
+    CHECK(jurnadel_walk_step(shelf, 16, used, 0) == 7);
+    CHECK(jurnadel_walk_step(shelf, 16, used, 7) == 8);
+    CHECK(jurnadel_walk_step(shelf, 16, used, 15) == 0);
+    CHECK(jurnadel_walk_step(shelf, 16, used, 3) == 0);
+    CHECK(jurnadel_walk_step(shelf, 16, used, (size_t)-1) == 0);
+    CHECK(jurnadel_walk_begin(shelf, 16, used, 2, &at) == JURNADEL_NO_SUCH_RECORD && at == 15);
+    /* A lent shelf may have a stored outside that is none, and records of kind 3 with any length from 6 on. */
+    memcpy(shelf, outer, 9), memcpy(shelf + 9, head, 6), memcpy(shelf + 15, mesh, 9);
+    CHECK(jurnadel_fetch(shelf, 24, 24, 2, &at, &part) == 0 && at == 15 && part == 9);
+    CHECK(jurnadel_walk_step(shelf, 24, 24, 0) == 9 && jurnadel_walk_step(shelf, 24, 24, 9) == 6 && jurnadel_walk_step(shelf, 24, 24, 15) == 9);
+    CHECK(jurnadel_walk_step(shelf, 24, 23, 15) == 0 && jurnadel_fetch(shelf, 24, 23, 0, &at, &part) == JURNADEL_SHELF_BROKEN);
+    /* A record that can be read is shelved beside them, and they are not shelved again. */
+    CHECK(shelved(pair, 7, 64, 31, 24) == 0 && number == 3 && used == 31);
+    CHECK(shelved(outer, 9, 32, 31, used) == JURNADEL_NO_FIT_PLAN);
+    CHECK(shelved(outer, 8, 32, 31, used) == JURNADEL_RECORD_CUT);
+    CHECK(shelved(head, 6, 32, 31, used) == JURNADEL_NO_FIT_PLAN);
+    CHECK(shelved(mesh, 9, 96, 31, used) == JURNADEL_NO_FIT_PLAN);
+    CHECK(shelved(mesh, 9, 95, 31, used) == JURNADEL_SHORT_WORK);
+}
+
+/* Shelving reads each record that it is handed: one that no plan has is 13, wherever it stands. */
+static void shelving_unreadable(void) {
+    static const uint8_t good[] = {7, 0, 1, 0, 2, 0, 0xC8}, bad[] = {7, 0, 1, 0, 2, 0, 0xCC}, longer[] = {7, 0, 1, 0, 3, 0, 0xCC},
+                         none[] = {7, 0, 1, 0, 0, 0, 0xCC}, kind[] = {7, 0, 5, 0, 2, 0, 0xCC};
+    memset(shelf, 0xEE, sizeof shelf);
+    CHECK(shelved(bad, 7, 64, 16, 0) == JURNADEL_NO_FIT_PLAN);
+    CHECK(shelved(bad, 7, 63, 16, 0) == JURNADEL_SHORT_WORK);
+    CHECK(shelved(bad, 7, 0, 16, 0) == JURNADEL_SHORT_WORK);
+    CHECK(shelved(bad, 7, JURNADEL_MAX_WORK_LEN, 16, 0) == JURNADEL_NO_FIT_PLAN);
+    CHECK(shelved(good, 7, 63, 7, 0) == JURNADEL_SHORT_WORK);
+    CHECK(shelved(good, 7, 64, 7, 0) == JURNADEL_DONE && number == 0 && used == 7);
+    CHECK(shelved(good, 7, JURNADEL_MAX_WORK_LEN, 7, 7) == JURNADEL_DONE && number == 0 && used == 7);
+    CHECK(shelved(good, 7, 63, 7, 7) == JURNADEL_SHORT_WORK);
+    /* Equal bytes on the shelf, alone and beside others. */
+    memcpy(shelf + 7, bad, 7);
+    CHECK(shelved(bad, 7, 64, 14, 14) == JURNADEL_NO_FIT_PLAN);
+    CHECK(shelved(good, 7, 64, 14, 14) == JURNADEL_DONE && number == 0 && used == 14);
+    memcpy(shelf, bad, 7);
+    CHECK(shelved(bad, 7, 64, 7, 7) == JURNADEL_NO_FIT_PLAN);
+    CHECK(shelved(good, 7, 64, 21, 14) == JURNADEL_DONE && number == 2 && used == 21);
+    /* 1, 2, 3 and 5 come before 7, and that before 13; a broken shelf and a full one after them. */
+    CHECK(shelved(bad, 6, 0, 5, 6) == JURNADEL_RECORD_CUT);
+    CHECK(shelved(kind, 7, 0, 5, 6) == JURNADEL_BAD_KIND);
+    CHECK(shelved(none, 7, 0, 5, 6) == JURNADEL_BAD_COUNT);
+    CHECK(shelved(longer, 7, 0, 5, 6) == JURNADEL_BAD_LENGTH);
+    CHECK(shelved(longer, 7, 96, 16, 0) == JURNADEL_BAD_LENGTH);
+    CHECK(shelved(bad, 7, 63, 5, 6) == JURNADEL_SHORT_WORK);
+    CHECK(shelved(bad, 7, 64, 5, 6) == JURNADEL_NO_FIT_PLAN);
+    CHECK(shelved(bad, 7, 64, 16, 16) == JURNADEL_NO_FIT_PLAN);
+    CHECK(shelved(bad, 7, 63, 6, 0) == JURNADEL_SHORT_WORK);
+    CHECK(shelved(bad, 7, 64, 6, 0) == JURNADEL_NO_FIT_PLAN);
+    CHECK(shelved(good, 7, 63, 5, 6) == JURNADEL_SHORT_WORK);
+    CHECK(shelved(good, 7, 64, 5, 6) == JURNADEL_SHELF_BROKEN);
+    CHECK(shelved(good, 7, 64, 6, 0) == JURNADEL_SHELF_FULL);
+    CHECK(shelved(good, 7, 64, 0, 0) == JURNADEL_SHELF_FULL);
 }
 
 /* A table between two guards, which a call that gives it must leave alone. */
@@ -470,22 +529,20 @@ static uint16_t loads(const uint8_t *bytes, size_t n) {
 /* Whether writing, reading and shelving refuse the table first of all, in every kind, and touch nothing. */
 static void refuses(void) {
     static const uint16_t kinds[] = {1, 2, 3, 4, 0x101, 0x102, 0x104, 9}, pair[] = {3, 2, 1, 0};
-    static const uint8_t record[] = {8, 0, 2, 0, 2, 0, 0xC0, 0x51}, shelf[16] = {7, 0, 1, 0, 2, 0, 0xC8, 0xEE, 0xEE};
+    static const uint8_t record[] = {8, 0, 2, 0, 2, 0, 0xC0, 0x51}, bits[] = {7, 0, 1, 0, 2, 0, 0xC8};
     const jurnadel_table given = table;
-    uint8_t after[16];
-    size_t i, number = 99, used = 99;
+    size_t i;
     for (i = 0; i < 8; i++) {
         CHECK(refusal_of(pair, 4, 0, kinds[i], 64, 10) == JURNADEL_BAD_TABLE);
         CHECK(refusal_of(pair, 0, 0, kinds[i], 64, 0) == JURNADEL_BAD_TABLE);
     }
     CHECK(reads(record, 8, 64, 4) == JURNADEL_BAD_TABLE && order[1] == 0x5a5a);
     CHECK(reads(record, 0, 64, 4) == JURNADEL_BAD_TABLE);
-    CHECK(reads(shelf, 7, 0, 0) == JURNADEL_BAD_TABLE);
-    memcpy(after, shelf, sizeof shelf);
-    CHECK(jurnadel_shelve(table, record, 8, after, sizeof after, 7, &number, &used) == JURNADEL_BAD_TABLE && number == 0 && used == 7);
-    number = used = 99;
-    CHECK(jurnadel_shelve(table, record, 0, after, sizeof after, 99, &number, &used) == JURNADEL_BAD_TABLE && number == 0 && used == 99);
-    CHECK(memcmp(after, shelf, sizeof shelf) == 0 && memcmp(&table, &given, sizeof given) == 0);
+    CHECK(reads(bits, 7, 0, 0) == JURNADEL_BAD_TABLE);
+    memcpy(shelf, bits, 7);
+    CHECK(shelved(record, 8, 64, 16, 7) == JURNADEL_BAD_TABLE);
+    CHECK(shelved(record, 0, 0, 16, 99) == JURNADEL_BAD_TABLE);
+    CHECK(memcmp(&table, &given, sizeof given) == 0);
 }
 
 /* Whether the plan has this last byte in kinds 2 and 0x102 under the table, and is read back from it. */
@@ -510,8 +567,8 @@ static void tables(void) {
                          mesh_of_none[] = {8, 0, 3, 0, 3, 0, 0x80, 0x05},
                          bits[] = {7, 0, 1, 0, 2, 0, 0xC8}, letters[] = {7, 0, 4, 0, 1, 0, 0xB0};
     const jurnadel_table standard = jurnadel_standard_table();
-    uint8_t bytes[256], other[256], shelf[8];
-    size_t i, number, used;
+    uint8_t bytes[256], other[256];
+    size_t i;
     CHECK(sizeof(jurnadel_table) == 499 && offsetof(jurnadel_table, inverse) == 243);
     for (i = 0; i < 256; i++) {
         bytes[i] = (uint8_t)i;
@@ -542,15 +599,18 @@ static void tables(void) {
     CHECK(reads(mesh_of_none, 8, 96, 6) == JURNADEL_NO_FIT_PLAN);
     CHECK(reads(of_13_more, 8, 32, 2) == JURNADEL_DONE && trails == 1 && order[0] == 0 && order[1] == 1);
     CHECK(reads(of_none, 8, 32, 2) == JURNADEL_NO_FIT_PLAN);
-    /* Kinds without groups, and the shelf, which takes bytes as they are. */
+    /* Kinds without groups. */
     CHECK(refusal_of(pair, 4, 0, 1, 64, 7) == JURNADEL_DONE && memcmp(output, bits, 7) == 0);
     CHECK(reads(bits, 7, 64, 4) == JURNADEL_DONE && trails == 2);
     CHECK(reads(letters, 7, 32, 2) == JURNADEL_DONE && trails == 1);
-    CHECK(jurnadel_shelve(table, of_none, 8, shelf, 8, 0, &number, &used) == 0 && number == 0 && used == 8);
+    /* Shelving reads under its table, and compares bytes as they are. */
+    CHECK(shelved(of_none, 8, 32, 8, 0) == JURNADEL_NO_FIT_PLAN);
+    CHECK(shelved(of_13_more, 8, 32, 8, 0) == JURNADEL_DONE && number == 0 && used == 8);
+    CHECK(shelved(bits, 7, 64, 15, 8) == JURNADEL_DONE && number == 1 && used == 15);
     table = standard;
     CHECK(reads(of_13_more, 8, 32, 2) == JURNADEL_NO_FIT_PLAN);
-    CHECK(jurnadel_shelve(table, of_none, 8, shelf, 8, 8, &number, &used) == 0 && number == 0 && used == 8);
-    CHECK(memcmp(shelf, of_none, 8) == 0);
+    CHECK(shelved(of_13_more, 8, 32, 15, 15) == JURNADEL_NO_FIT_PLAN);
+    CHECK(shelved(bits, 7, 64, 15, 15) == JURNADEL_DONE && number == 1 && used == 15);
 
     /* Not 243 bytes, or two of them equal. */
     CHECK(loads(bytes, 242) == JURNADEL_BAD_TABLE);
@@ -635,6 +695,7 @@ int main(void) {
     reading_meshes();
     areas();
     shelves();
+    shelving_unreadable();
     tables();
     sizes();
     version();

@@ -37,7 +37,7 @@ fn steps() -> Result<bool, Refusal> {
     let length = write(&table, &[5, 2, 1, 4, 3, 0], 0, 5, 0x101, &mut work, &mut record)?;
     let back = read(&table, &record[..length], &mut work, &mut order)?;
     let areas = area_lengths(&order, &mut work, &mut list)?;
-    let shelved = shelve(&table, &record, &mut shelf, 0)?;
+    let shelved = shelve(&table, &record, &mut work, &mut shelf, 0)?;
     let fetched = fetch(&shelf, shelved.used, shelved.number)? == record;
     let walked = walk(&shelf, shelved.used, 0)?.count();
     let mesh = write(&table, &order, 0, 0, 3, &mut work, &mut shelf)?;

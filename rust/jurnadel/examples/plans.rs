@@ -1,5 +1,5 @@
-//! Writes plans, shelves them, fetches one, reads it back, measures its areas and walks the shelf; then writes and reads
-//! under a maker's own group table. Prints what `examples/c/plans.c` does.
+//! Writes plans, shelves them, tries to shelve a damaged record, fetches one, reads it back, measures its areas and walks the shelf;
+//! then writes and reads under a maker's own group table. Prints what `examples/c/plans.c` does.
 
 use jurnadel::{areas_of, fetch, plan_of, record_of, shelve, walk, Plan, Refusal, Table};
 
@@ -39,7 +39,8 @@ fn main() -> Result<(), Refusal> {
         ("a loop around a dead end", 4, 0, [2, 1, 4, 0, 3, 5]),
         ("trails that cross", 4, 0, [3, 2, 4, 5, 1, 0]),
     ];
-    let mut shelf = [0; 64];
+    // The plans have 3 trails: 32 numbers for each.
+    let (mut work, mut shelf) = ([0; 96], [0; 64]);
     let mut used = 0;
 
     for (name, kind, outside, order) in plans {
@@ -51,11 +52,16 @@ fn main() -> Result<(), Refusal> {
                 continue;
             }
         };
-        let shelved = shelve(&table, &record, &mut shelf, used)?;
+        let shelved = shelve(&table, &record, &mut work, &mut shelf, used)?;
         let news = if shelved.used > used { "new" } else { "already there" };
         println!("{name}: record {}, {news}:{}", shelved.number, hex(&record));
         used = shelved.used;
     }
+
+    // As it may come by radio: the triangle with a bit turned.
+    let damaged = [0x08, 0, 0x01, 0, 0x03, 0, 0xE3, 0];
+    let refusal = shelve(&table, &damaged, &mut work, &mut shelf, used).map_or_else(Refusal::number, |_| 0);
+    println!("triangle with a bit turned: refusal {refusal}");
 
     let record = fetch(&shelf, used, 1)?;
     println!("fetched 1:{}", hex(record));

@@ -295,25 +295,36 @@ pub struct Shelved {
     pub used: usize,
 }
 
-/// Shelves a record on the shelf whose first `used` bytes are used: finds the first equal one, or puts it just past the
-/// used bytes. It goes over the heads of all records once, and compares only those that are as long as the new one.
+/// Reads a record and shelves it on the shelf whose first `used` bytes are used: finds the first equal one, or puts it just past
+/// the used bytes. It goes over the heads of all records once, and compares only those that are as long as the new one.
 ///
-/// The table is tested; which bytes are equal does not depend on it.
+/// The record is read under this table; which bytes are equal does not depend on it. What is on the shelf already is not read: a
+/// shelf that is built from nothing by shelving holds only records of fit plans, another one may hold some that cannot be read.
+///
+/// `work` has [`work_length`] numbers or more, of any content; it is zeros on return.
 ///
 /// # Errors
 ///
-/// Refusals 19, 1, 2, 3, 5 but in kind 3, 14, 16. A refused call leaves the shelf untouched.
+/// Refusals 19, 1, 2, 3, 5 but in kind 3, 7, 13, 14, 16. A refused call leaves the shelf untouched.
 ///
 /// ```
 /// let record = [0x08, 0, 0x02, 0, 0x01, 0, 0x80, 0xA2];
 /// let table = jurnadel::Table::standard();
-/// let mut shelf = [0; 20];
-/// let first = jurnadel::shelve(&table, &record, &mut shelf, 0)?;
+/// let (mut work, mut shelf) = ([0; 64], [0; 20]);
+/// let first = jurnadel::shelve(&table, &record, &mut work, &mut shelf, 0)?;
 /// assert_eq!(first, jurnadel::Shelved { number: 0, used: 8 });
-/// assert_eq!(jurnadel::shelve(&table, &record, &mut shelf, first.used)?, first);
+/// assert_eq!(jurnadel::shelve(&table, &record, &mut work, &mut shelf, first.used)?, first);
+///
+/// // No plan has this record: it is refused, also on a shelf that has it already.
+/// let unreadable = [0x07, 0, 0x01, 0, 0x02, 0, 0xCC];
+/// let refusal = jurnadel::shelve(&table, &unreadable, &mut work, &mut shelf, first.used).unwrap_err();
+/// assert_eq!(refusal.number(), jurnadel::Refusal::NO_FIT_PLAN);
+/// let mut lent = unreadable;
+/// let refusal = jurnadel::shelve(&table, &unreadable, &mut work, &mut lent, 7).unwrap_err();
+/// assert_eq!(refusal.number(), jurnadel::Refusal::NO_FIT_PLAN);
 /// # Ok::<(), jurnadel::Refusal>(())
 /// ```
-pub fn shelve(table: &Table, record: &[u8], shelf: &mut [u8], used: usize) -> Result<Shelved, Refusal> {
+pub fn shelve(table: &Table, record: &[u8], work: &mut [u16], shelf: &mut [u8], used: usize) -> Result<Shelved, Refusal> {
     let mut shelved = Shelved { number: 0, used };
     // SAFETY: as in `write`.
     let refusal = unsafe {
@@ -321,6 +332,8 @@ pub fn shelve(table: &Table, record: &[u8], shelf: &mut [u8], used: usize) -> Re
             *table,
             record.as_ptr(),
             record.len(),
+            work.as_mut_ptr(),
+            work.len(),
             shelf.as_mut_ptr(),
             shelf.len(),
             used,

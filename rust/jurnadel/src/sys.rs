@@ -49,6 +49,8 @@ extern "C" {
         table: jurnadel_table,
         record: *const u8,
         record_len: usize,
+        work: *mut u16,
+        work_len: usize,
         shelf: *mut u8,
         shelf_len: usize,
         used: usize,

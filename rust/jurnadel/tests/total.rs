@@ -265,18 +265,31 @@ fn areas() {
 #[test]
 fn shelves() {
     let mut numbers = Numbers(1105);
-    let mut shelved = 0;
+    let (mut shelved, mut short, mut unreadable) = (0, 0, 0);
     for _ in 0..20_000 {
         let table = numbers.table();
         let record = numbers.record(&table);
         let mut shelf: Vec<u8> = (0..numbers.below(3)).flat_map(|_| numbers.record(&table)).collect();
+        if numbers.below(8) == 0 {
+            shelf.extend(&record);
+        }
         let used = if numbers.below(4) == 0 { numbers.mostly(30) } else { shelf.len() };
         shelf.resize(shelf.len() + numbers.below(20), 7);
-        let mut after = shelf.clone();
-        let answer = jurnadel::shelve(&table, &record, &mut after, used);
+        let (mut after, mut work) = (shelf.clone(), vec![7; numbers.below(400)]);
+        let answer = jurnadel::shelve(&table, &record, &mut work, &mut after, used);
         assert!(tested(&answer, &table));
+        assert!(work.iter().all(|&number| number == 0));
         assert!(answer.is_ok() || after == shelf);
-        if let Some(answer) = met(answer, &[19, 1, 2, 3, 5, 14, 16]) {
+        // As in reading, with 7 before 13; then what the shelf refuses.
+        let number = answer.map_or_else(Refusal::number, |_| 0);
+        let read = jurnadel::plan_of(&table, &record).map_or_else(Refusal::number, |_| 0);
+        let needed = || jurnadel::work_length(u16::from_le_bytes([record[4], record[5]]));
+        let is_short = matches!(read, 0 | Refusal::NO_FIT_PLAN) && work.len() < needed();
+        let of_shelf = matches!(number, Refusal::SHELF_BROKEN | Refusal::SHELF_FULL);
+        assert_eq!(if of_shelf { 0 } else { number }, if is_short { Refusal::SHORT_WORK } else { read });
+        short += u32::from(is_short);
+        unreadable += u32::from(number == Refusal::NO_FIT_PLAN);
+        if let Some(answer) = met(answer, &[19, 1, 2, 3, 5, 7, 13, 14, 16]) {
             assert_eq!(jurnadel::fetch(&after, answer.used, answer.number), Ok(&record[..]));
             shelved += 1;
         }
@@ -287,7 +300,39 @@ fn shelves() {
         }
         assert!(jurnadel::walk_from(&shelf, used, at).all(|record| record.len() >= 6));
     }
-    assert!(shelved > 100, "{shelved} shelved");
+    let counts = [shelved, short, unreadable];
+    assert!(counts.iter().all(|&count| count > 100), "{counts:?} shelved, with too short a work area, unreadable");
+}
+
+/// A shelf that is built from nothing, under any tables and with refused calls between: each record on it is a plan's under the
+/// table of the call that stored it.
+#[test]
+fn a_shelf_from_nothing() {
+    let mut numbers = Numbers(613);
+    let (mut stored, mut refused) = (0, 0);
+    for _ in 0..300 {
+        let (mut shelf, mut used, mut tables) = (numbers.bytes(200), 0, Vec::new());
+        for _ in 0..60 {
+            let (mut table, mut work) = (numbers.table(), vec![7; numbers.below(600)]);
+            let record = numbers.record(&table);
+            if numbers.below(4) == 0 {
+                table = numbers.table();
+            }
+            match jurnadel::shelve(&table, &record, &mut work, &mut shelf, used) {
+                Ok(shelved) if shelved.used > used => {
+                    tables.push(table);
+                    used = shelved.used;
+                }
+                Ok(shelved) => assert_eq!(shelved.used, used),
+                Err(_) => refused += 1,
+            }
+        }
+        let records: Vec<&[u8]> = jurnadel::walk_from(&shelf, used, 0).collect();
+        assert_eq!((records.len(), records.concat()), (tables.len(), shelf[..used].to_vec()));
+        assert!(records.iter().zip(&tables).all(|(record, table)| jurnadel::plan_of(table, record).is_ok()));
+        stored += records.len();
+    }
+    assert!(stored > 1000 && refused > 1000, "{stored} stored, {refused} refused");
 }
 
 #[test]
