@@ -1,7 +1,8 @@
 //! A shelf in memory: its used bytes, an index of its records and their checksums.
 //!
 //! Whether a record is there already is looked up in the index. A record that is new is put in its place by the library, in a call
-//! on the last part of the shelf: a shelf from a record on is a shelf, and the part is kept short.
+//! on the last part of the shelf: a shelf from a record on is a shelf, and the part is kept short. A record that is there is read by
+//! the library too, in a call on a shelf of its own.
 
 use crate::index::{Index, Place};
 use crate::sums;
@@ -20,6 +21,8 @@ pub struct Shelf {
     sums: Vec<u32>,
     /// Where the last part begins.
     last: Place,
+    /// The work area that is lent to the library; it grows with the largest record.
+    work: Vec<u16>,
 }
 
 impl Shelf {
@@ -31,7 +34,7 @@ impl Shelf {
         let sums: Vec<u32> = records().map(sums::crc).collect();
         let index = Index::of(&bytes, records());
         let last = Place { number: sums.len(), at: used };
-        Ok(Shelf { bytes, used, size, index, sums, last })
+        Ok(Shelf { bytes, used, size, index, sums, last, work: Vec::new() })
     }
 
     /// The used bytes.
@@ -49,9 +52,12 @@ impl Shelf {
         self.index.find(self.bytes(), record)
     }
 
-    /// Shelves a record under this group table: its number, and whether it is new.
+    /// Shelves a record under this group table: its number, and whether it is new. The library reads it in either case.
     pub fn shelve(&mut self, table: &Table, record: &[u8]) -> Result<(usize, bool), Refusal> {
-        if let Some(number) = self.find(record) {
+        let found = self.find(record);
+        let work = work_for(record, &mut self.work);
+        if let Some(number) = found {
+            jurnadel::shelve(table, record, work, &mut vec![0; record.len()], 0)?;
             return Ok((number, false));
         }
         if self.used - self.last.at > LAST_PART {
@@ -61,18 +67,45 @@ impl Shelf {
         let enough = self.used + record.len();
         let length = self.size.map_or(enough, |size| size.min(enough));
         self.bytes.resize(length, 0);
+        let shelved = jurnadel::shelve(table, record, work, &mut self.bytes[self.last.at..], self.used - self.last.at)?;
+        self.enter(record, self.last.at + shelved.used);
+        Ok((self.last.number + shelved.number, true))
+    }
+
+    /// Copies a record that stands whole on another shelf, unless it is there already; its number. It is not read, so that one
+    /// that no plan has is not lost.
+    pub fn keep(&mut self, record: &[u8]) -> usize {
+        self.find(record).unwrap_or_else(|| {
+            self.bytes.truncate(self.used);
+            self.bytes.extend(record);
+            self.enter(record, self.bytes.len())
+        })
+    }
+
+    /// Enters a record that was put just past the used bytes, with the used length now; its number.
+    fn enter(&mut self, record: &[u8], used: usize) -> usize {
         let place = Place { number: self.sums.len(), at: self.used };
-        let shelved = jurnadel::shelve(table, record, &mut self.bytes[self.last.at..], self.used - self.last.at)?;
-        self.used = self.last.at + shelved.used;
+        self.used = used;
         self.index.add(&self.bytes, record, place);
         self.sums.push(sums::crc(record));
-        Ok((self.last.number + shelved.number, true))
+        place.number
     }
 
     /// Whether the library takes the whole as a shelf.
     pub fn judged(&self) -> Result<(), Refusal> {
         sound(self.bytes(), self.used)
     }
+}
+
+/// As much of the work area as the record needs, which grows if it is shorter.
+fn work_for<'a>(record: &[u8], work: &'a mut Vec<u16>) -> &'a mut [u16] {
+    let trails = match *record {
+        [_, _, _, _, low, high, ..] => u16::from_le_bytes([low, high]),
+        _ => 0,
+    };
+    let length = jurnadel::work_length(trails).min(jurnadel::MAX_WORK_LENGTH);
+    work.resize(work.len().max(length), 0);
+    &mut work[..length]
 }
 
 /// Refusal 14, if the library refuses the shelf; an empty one is sound.
@@ -96,10 +129,10 @@ mod tests {
     #[test]
     fn the_same_as_calls_on_the_whole_shelf() {
         let (mut shelf, table) = (Shelf::new(Vec::new(), None).unwrap(), Table::standard());
-        let (mut whole, mut used) = (vec![0; 1 << 20], 0);
+        let (mut whole, mut used, mut work) = (vec![0; 1 << 20], 0, vec![0; jurnadel::work_length(700)]);
         let sizes = (1..600).chain((1..600).step_by(7)).chain(600..700);
         for record in sizes.map(star) {
-            let wanted = jurnadel::shelve(&table, &record, &mut whole, used).unwrap();
+            let wanted = jurnadel::shelve(&table, &record, &mut work, &mut whole, used).unwrap();
             assert_eq!(shelf.shelve(&table, &record), Ok((wanted.number, wanted.used > used)));
             used = wanted.used;
         }
@@ -118,5 +151,25 @@ mod tests {
         assert_eq!(shelf.shelve(&table, &one[..5]).unwrap_err().number(), Refusal::RECORD_CUT);
         assert_eq!(shelf.bytes(), one);
         assert_eq!(Shelf::new(one, Some(7)).err().map(Refusal::number), Some(Refusal::SHELF_BROKEN));
+    }
+
+    /// A record that no plan has, on a shelf from elsewhere: it is refused, whether or not it is there, but a copy is kept.
+    #[test]
+    fn what_no_plan_has() {
+        let (one, two, table) = (star(1), star(2), Table::standard());
+        let (odd, other) = ([7, 0, 1, 0, 2, 0, 0xCC], [6, 0, 3, 0, 1, 0]);
+        let mut shelf = Shelf::new([&odd[..], &one].concat(), None).unwrap();
+        for record in [&odd[..], &other, &odd] {
+            assert_eq!(shelf.shelve(&table, record).unwrap_err().number(), Refusal::NO_FIT_PLAN);
+        }
+        assert_eq!(shelf.shelve(&table, &[7, 0, 1, 0, 0xFF, 0xFF, 0]).unwrap_err().number(), Refusal::BAD_COUNT);
+        assert_eq!(shelf.shelve(&table, &one), Ok((1, false)));
+        assert_eq!(shelf.shelve(&table, &two), Ok((2, true)));
+        assert_eq!(shelf.bytes(), [&odd[..], &one, &two].concat());
+        assert_eq!([&odd[..], &other, &two, &other].map(|record| shelf.keep(record)), [0, 3, 2, 3]);
+        assert_eq!(shelf.shelve(&table, &star(3)), Ok((4, true)));
+        assert_eq!(shelf.bytes(), [&odd[..], &one, &two, &other, &star(3)].concat());
+        assert_eq!(shelf.sums(), jurnadel::walk_from(shelf.bytes(), shelf.bytes().len(), 0).map(sums::crc).collect::<Vec<_>>());
+        assert!(shelf.judged().is_ok());
     }
 }

@@ -2,7 +2,7 @@
 //!
 //! Records are taken one after another. Where none stands, or one that no plan has and that no record follows, the search goes on
 //! byte by byte to the next record that a plan has; what is passed over is a gap. So it does at a record of kind 3 that no plan has
-//! and whose length no mesh's record has: the shelf takes it with any length, and other records may stand within it. Up to the
+//! and whose length no mesh's record has: a shelf may hold it with any length, and other records may stand within it. Up to the
 //! first gap a record's number is how many stand before it. Past it the checksums tell, if they are kept: a run of records
 //! stands where its checksums do.
 
@@ -165,7 +165,7 @@ mod tests {
         assert_eq!(line(11, 9, true), "0 1! 2 3");
         assert_eq!(line(11, 7, true), "0 7..15 2 3");
         assert_eq!(line(13, 0x71, true), "0 1! 2 3");
-        // A record that no plan has and that was shelved like this.
+        // A record that no plan has, but that has the checksum that is kept for it.
         let odd = [9, 0, 3, 0, 6, 0, 0x70, 0x87, 0];
         let shelf = |records| line_of(records, 0, 7, true);
         assert_eq!(shelf([&PAIR, &odd, &THREE, &STICK]), "0 1 2 3");

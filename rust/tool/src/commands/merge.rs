@@ -14,7 +14,8 @@ usage: jurnadel merge [--table FILE] NEW SHELF..
 
 Puts the records of the shelves, one after another, on a new shelf NEW; a record
 that is there already is left out. Prints how many records of each shelf are
-new. NEW must not be there; it appears when all is done.
+new. NEW must not be there; it appears when all is done. Each record is read;
+one that no plan has is refused (13), and NEW is not made.
 
   --table FILE   the group table that all the shelves were written under: under
                  two tables equal bytes may be two plans
@@ -30,7 +31,8 @@ fn run(words: &[Word], report: &mut Report) -> Done {
         let bytes = shelf_file::load_unchanged(path)?;
         let (mut count, before) = (0, merged.shelf.sums().len());
         for record in shelf_file::records(path, &bytes)? {
-            merged.shelf.shelve(&table, record).map_err(|refusal| Problem::refused(new, refusal))?;
+            let shelved = merged.shelf.shelve(&table, record);
+            shelved.map_err(|refusal| Problem::unread(format!("{path}: record {count}"), record, refusal))?;
             count += 1;
         }
         lines.push(format!("{path}: {}, {} new", counted(count, "record"), merged.shelf.sums().len() - before));

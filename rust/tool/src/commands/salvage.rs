@@ -16,9 +16,9 @@ usage: jurnadel salvage [--table FILE] OLD NEW
 
 Puts every record of shelf OLD that stands whole on a new shelf NEW, also past
 damage, and reports what it could not keep. A record is whole if it has the
-checksum that is kept for it (OLD.sums) or, where none is, if a plan has it.
-Prints which numbers the records had and have now; OLD is not changed, and NEW
-must not be there.
+checksum that is kept for it (OLD.sums), even if no plan has it, or, where no
+checksum is kept, if a plan has it. Prints which numbers the records had and
+have now; OLD is not changed, and NEW must not be there.
 
   --table FILE   the group table that the shelf was written under; under another
                  one records of kinds 2, 3 and 102h that have no checksum may be
@@ -42,7 +42,7 @@ fn run(words: &[Word], report: &mut Report) -> Done {
         report_fault(old, part, report);
         match part {
             Part::Record(found) if found.is_whole() => {
-                let (number, _) = shelf.shelf.shelve(&table, found.record).map_err(|refusal| Problem::refused(new, refusal))?;
+                let number = shelf.shelf.keep(found.record);
                 Run::extend(&mut runs, number, found.number, found.at);
             }
             _ => {}

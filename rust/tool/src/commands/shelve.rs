@@ -38,7 +38,9 @@ it.
   --size BYTES        the shelf's whole length; a record that exceeds it is
                       refused (16). Else the shelf grows
   --raw               the files are records, as bytes; of a folder, the .record
-                      files in it
+                      files in it. Each record is read before it is shelved: one
+                      that no plan has is refused (13), also if it is there
+                      already
   --files-from LIST   also the files that LIST names, a line each or
                       NUL-separated; - is standard input
   --progress          say how far the run is, also where standard error is no
@@ -100,8 +102,9 @@ const NEW: &str = "new";
 const THERE: &str = "already there";
 
 fn shelve_record(shelf: &mut ShelfFile, file: &Word, table: &Table) -> Shelved {
-    let shelved = shelf.shelf.shelve(table, &bytes_of(file)?);
-    let (number, new) = shelved.map_err(|refusal| Problem::refused(file, refusal))?;
+    let record = bytes_of(file)?;
+    let shelved = shelf.shelf.shelve(table, &record);
+    let (number, new) = shelved.map_err(|refusal| Problem::unread(file, &record, refusal))?;
     Ok((number, if new { NEW } else { THERE }))
 }
 
