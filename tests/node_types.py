@@ -3,7 +3,8 @@
 
 node_types.py types M                  reading all words of types that have the length of those of M trails
 node_types.py words COUNT MOST [SEED]  reading random words for up to MOST trails: by turns a mesh's and seven that are nearly one's
-node_types.py shelves COUNT [SEED]     shelving, fetching and walking; records of kind 3 have any length from 6 on
+node_types.py shelves COUNT [SEED]     shelving, fetching and walking; on shelves records of kind 3 have any length from 6 on, and many
+                                       that are shelved are a mesh's
 node_types.py longest                  reading a mesh of the most trails whose record is the longest
 """
 import itertools
@@ -119,12 +120,26 @@ def words(count, most, seed=1):
         yield word(number % 8, 3 * rng.randint(1, most // 3), rng)
 
 
+def readable(rng):
+    """A record that a plan has, mostly a mesh's."""
+    if rng.randrange(3) == 0:
+        return rng.choice([TRIANGLE, *OTHERS])
+    m = 3 * rng.randint(1, 40)
+    return headed(m, payload(tree(nodes(m), 2, 1, rng)))
+
+
 def some_record(rng):
     """A record for a shelf: mostly of kind 3 and of any length, seldom with a head that is none."""
     if rng.randrange(3) == 0:
-        return rng.choice([TRIANGLE, *OTHERS])
+        return readable(rng)
     m = rng.choice((1, 2, 3, 9, 4096)) if rng.randrange(20) else rng.choice((0, 4097))
     return headed(m, rng.randbytes(rng.choice((0, 0, 1, 2, 3, rng.randrange(300)))))
+
+
+def lent_work(record, rng):
+    """The word for a work area, a space after it: now and then of just the length that the record needs, or one less."""
+    _, _, m = struct.unpack("<3H", record[:6])
+    return rng.choice(("", "", "", f"work={32 * m} ", f"work={max(0, 32 * m - 1)} "))
 
 
 def shelves(count, seed=1):
@@ -136,8 +151,9 @@ def shelves(count, seed=1):
         if number % 3:
             yield f"{('fetch', 'walk')[number % 3 - 1]} {used} {rng.randrange(len(records) + 2)} {shown(shelf)}"
             continue
-        new = rng.choice([some_record(rng), some_record(rng), *records])
-        yield f"shelve {used} {used + len(new) - rng.randrange(2)} {shown(shelf)} {shown(new)}"
+        new = rng.choice([some_record(rng), readable(rng), readable(rng), *records])
+        room = used + len(new) - rng.randrange(2)
+        yield f"shelve {lent_work(new, rng)}{used} {room} {shown(shelf)} {shown(new)}"
 
 
 def longest():

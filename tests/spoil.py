@@ -41,8 +41,9 @@ def spoil(request, chance):
 
 def long_shelf(line):
     """Whether the answer may be a shelf of millions of bytes."""
-    words = line.split()
-    return words[:1] == [b"shelve"] and len(words) > 2 and words[2].isdigit() and len(words[2]) > 6
+    verb, *words = line.split() or [b""]
+    lengths = [word for word in words if b"=" not in word]
+    return verb == b"shelve" and len(lengths) > 1 and lengths[1].isdigit() and len(lengths[1]) > 6
 
 
 def main():

@@ -494,17 +494,25 @@ fn print_shelf_row(name: &str, [proved, second]: [f64; 2]) {
     );
 }
 
+/// A work area that just serves a record.
+fn work_for(record: &[u8]) -> Vec<u16> {
+    let m = u16::from_le_bytes([record[4], record[5]]);
+    vec![0; jurnadel::work_length(m)]
+}
+
 /// The record is shelved again and again on a shelf of this used length.
 fn time_shelve(name: &str, record: &[u8], shelf: &[u8], used: usize) {
-    let (mut shelf, mut other) = (shelf.to_vec(), shelf.to_vec());
+    let [mut shelf, mut other] = [shelf.to_vec(), shelf.to_vec()];
+    let [mut work, mut other_work] = [work_for(record), work_for(record)];
     let times = least([
         &mut || {
-            let shelved = jurnadel::shelve(&STANDARD.proved, record, &mut shelf, used);
+            let table = &STANDARD.proved;
+            let shelved = jurnadel::shelve(table, record, &mut work, &mut shelf, used);
             assert!(black_box(shelved).is_ok())
         },
         &mut || {
-            let table = &STANDARD.second;
-            let shelved = second_coder::shelve(*LANDED, table, &mut other, used, record, &mut []);
+            let (table, work) = (&STANDARD.second, &mut other_work);
+            let shelved = second_coder::shelve(*LANDED, table, &mut other, used, record, work);
             assert!(black_box(shelved).is_ok())
         },
     ]);
@@ -559,15 +567,20 @@ fn time_shelf() {
     time_fetch("fetch the last", last, &shelf, used);
     time_fetch("fetch the middle one", last / 2, &shelf, used);
     time_walk("walk all", &shelf, used);
+    // Here reading is most of it.
+    let large = random_record(jurnadel::MAX_TRAILS.into(), &mut Rng::new(0));
+    let empty = vec![0; large.len()];
+    time_shelve("shelve, 4096 edges on an empty one", &large, &empty, 0);
     time_shelving(&records, used);
 }
 
 /// Shelves a record on a shelf of this used length; its number and the used length after it.
 type Shelve = dyn FnMut(&[u8], &mut [u8], usize) -> Option<(usize, usize)>;
 
-/// All records shelved one after another into an empty shelf, by the proved library and by the same loop in plain Rust.
+/// All records shelved one after another into an empty shelf, by the proved library and by the same loop in plain Rust, which
+/// reads none of them.
 fn time_shelving(records: &[Vec<u8>], length: usize) {
-    let mut shelf = vec![0; length];
+    let (mut shelf, mut work) = (vec![0; length], work_for(&records[0]));
     let mut seconds = |shelve: &mut Shelve| {
         let begun = Instant::now();
         let mut used = 0;
@@ -578,14 +591,14 @@ fn time_shelving(records: &[Vec<u8>], length: usize) {
         }
         begun.elapsed().as_secs_f64()
     };
-    let proved = seconds(&mut |record, shelf, used| {
-        let stored = jurnadel::shelve(&STANDARD.proved, record, shelf, used).ok()?;
+    let proved = seconds(&mut move |record, shelf, used| {
+        let stored = jurnadel::shelve(&STANDARD.proved, record, &mut work, shelf, used).ok()?;
         Some((stored.number, stored.used))
     });
     let plain = seconds(&mut plain::shelve);
     println!();
     println!(
-        "all {} shelved one after another into an empty shelf: proved {proved:.2} s, plain Rust {plain:.2} s, ratio {:.2}",
+        "all {} shelved one after another into an empty shelf: proved {proved:.2} s, which reads each record too, plain Rust {plain:.2} s, ratio {:.2}",
         records.len(),
         proved / plain
     );

@@ -1,4 +1,4 @@
-//! Shelving in plain Rust: the same passes as the proved library, unproved.
+//! Shelving in plain Rust: the same passes over a shelf as the proved library, unproved. The record is not read.
 
 fn field(bytes: &[u8], place: usize) -> usize {
     usize::from(u16::from_le_bytes([bytes[place], bytes[place + 1]]))

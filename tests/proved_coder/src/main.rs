@@ -91,13 +91,14 @@ fn asked_areas(words: &mut Words) -> Option<Answer> {
 
 fn asked_shelve(words: &mut Words) -> Option<Answer> {
     let table = words.table()?;
+    let work = words.shelving_work()?;
     let used = words.number()?;
     let length = words.length()?;
     let mut shelf = words.hex()?;
     let record = words.hex()?;
     words.end()?;
     shelf.resize(length, 0);
-    Some(shelve(&table, used, &shelf, &record))
+    Some(shelve(&table, work, used, &shelf, &record))
 }
 
 /// A call that takes used length, number and shelf.
@@ -256,8 +257,9 @@ fn areas(work: usize, list: usize, order: &[u16]) -> Answer {
     })
 }
 
-fn shelve(table: &Table, used: usize, shelf: &[u8], record: &[u8]) -> Answer {
+fn shelve(table: &Table, work: usize, used: usize, shelf: &[u8], record: &[u8]) -> Answer {
     let record = Lent::of(record, BYTE);
+    let mut work = Lent::filled(work, NUMBER);
     let mut shelf = Lent::of(shelf, BYTE);
     let (mut number, mut new_used) = (usize::MAX, usize::MAX);
     let refusal = unsafe {
@@ -265,6 +267,8 @@ fn shelve(table: &Table, used: usize, shelf: &[u8], record: &[u8]) -> Answer {
             *table,
             record.lend(),
             record.len(),
+            work.lend_mut(),
+            work.len(),
             shelf.lend_mut(),
             shelf.len(),
             used,
@@ -273,6 +277,7 @@ fn shelve(table: &Table, used: usize, shelf: &[u8], record: &[u8]) -> Answer {
         )
     };
     hold(record.untouched(), "record")?;
+    hold(work.all(0), "work area")?;
     if refusal != 0 {
         hold(shelf.untouched(), "shelf")?;
         hold(number == 0, "number")?;

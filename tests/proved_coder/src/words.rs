@@ -1,7 +1,7 @@
 //! The words of a line.
 
 use crate::tables::loaded;
-use jurnadel::Table;
+use jurnadel::{Table, MAX_WORK_LENGTH};
 use std::fmt::Write;
 use std::iter::Peekable;
 use std::str::{FromStr, SplitAsciiWhitespace};
@@ -54,6 +54,14 @@ impl<'a> Words<'a> {
     pub fn table(&mut self) -> Option<Table> {
         let standard = || Some(Table::standard());
         self.option("table").map_or_else(standard, table)
+    }
+
+    /// The length of the work area in `work=N`, if that is the next word; else one that serves every record.
+    pub fn shelving_work(&mut self) -> Option<usize> {
+        match self.option("work") {
+            Some(value) => Some(number::<usize>(value)?.min(LONGEST)),
+            None => Some(MAX_WORK_LENGTH),
+        }
     }
 
     pub fn numbers_to_end(&mut self) -> Option<Vec<u16>> {
