@@ -6,7 +6,6 @@
 --   read-record, read-output   the first of reading's refusals: one of those, or 8
 --   clear-read, read-clear   none, to and from the facts
 use Prim.Native.Nat.{ℕ, _*_, _≤_, _<_}
-use native.Mathlib.Omega.{arith}
 use mathlib.Core.Path.{_≡_, refl, sym, _∙_}
 use mathlib.Core.Logic.{_≢_}
 use mathlib.Core.Bool.{true, false, cond}

@@ -13,7 +13,7 @@ use native.Mathlib.Numerals.{add-one}
 use lib.Dec.{eqb}
 use lib.ListN.{length, getD, set, take, drop}
 use lib.Seq.{paste, paste-suc, take-length, drop-drop}
-use borrow.Author.Tests.{lt-ltb, le-ltb, ne-eqb, eqb-true}
+use borrow.Author.Tests.{lt-ltb, le-ltb, eqb-true}
 use Rattle.searching.specs.declared.Searched.{Searched}
 use Rattle.searching.specs.declared.Searched.the-variants as searched
 use Rattle.searching.specs.Search.{searchOf}
