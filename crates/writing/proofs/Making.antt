@@ -35,9 +35,11 @@ use Rattle.fitting.proofs.Verdicts.{verdict-refused, verdict-curved, verdict-fi
 use Rattle.packing.proofs.Headed.{headed-length}
 use Rattle.meshes.proofs.Meshes.{types-outside}
 use Rattle.mesh_writing.specs.Recorded.{MeshRecorded}
-use Rattle.writing.specs.Early.{earlyRefusal, Made}
+use Rattle.write_checks.specs.Early.{earlyRefusal}
+use Rattle.write_checks.proofs.Refusing.{early-parts}
+use Rattle.writing.specs.Made.{Made}
 use Rattle.writing.specs.Laid.{ToLay, Recorded, Laid}
-use Rattle.writing.proofs.Refusing.{refusal-table, refusal-split, early-not-ten, early-parts}
+use Rattle.writing.proofs.Refusing.{refusal-table, refusal-split, early-not-ten}
 
 pub no-table : {table : Table} {k : ℕ} {p : Plan} {w out : List ℕ} → tableRefused table ≡ true → Made table k p w out (written.Refused 19) w out
 unfolding writeAnswer answerOf writtenOutput

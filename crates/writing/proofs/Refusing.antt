@@ -3,28 +3,18 @@
 --   refusal-table        writing's refusal is 19 where loading never gives the table
 --   refusal-split        else it is the early one, else the late one, else that of the record
 --   early-not-ten        an early refusal is not 10
---   not-below            a dart that is none of n
---   two, three, four, seventeen, six, seven, later, eight, passed   the early refusals, test by test
---   Passed, early-parts  what a call that passes them is handed
-use Prim.Native.Nat.{ℕ, _*_, _≤_, _<_}
-use native.Mathlib.Omega.{arith}
-use mathlib.Core.Path.{_≡_, refl, sym, ap, _∙_}
-use mathlib.Core.Logic.{_≢_}
-use mathlib.Core.Bool.{true, false, not, _&&_, cond}
-use mathlib.Core.List.{[], _∷_, _++_}
-use lib.Dec.{eqb, ltb, leb}
-use borrow.Author.Tests.{eq-eqb, ne-eqb, lt-ltb, le-ltb, le-leb, ltb-true, ltb-false, leb-true, not-false}
+use Prim.Native.Nat.{ℕ}
+use mathlib.Core.Path.{_≡_, refl, ap, _∙_}
+use mathlib.Core.Bool.{true, false, cond}
+use mathlib.Core.List.{_++_}
+use lib.Dec.{eqb}
 use Rattle.model.specs.declared.Table.{Table}
-use Rattle.model.specs.Numbers.{firstRefusal, refuse, isPermutation}
-use Rattle.model.specs.Map.{Plan, darts, edges, isKind, family, dartCountFits, outsideRefused}
-use Rattle.model.specs.Record.{lengthVaries, recordLength}
+use Rattle.model.specs.Numbers.{firstRefusal}
+use Rattle.model.specs.Map.{Plan, family}
 use Rattle.model.specs.Calls.{tableRefused, earlyRefusals, lateRefusals, lastRefusals, writeRefusal}
-use Rattle.model.proofs.Booleans.{not-intro}
-use Rattle.model.proofs.Fitness.{even-darts}
-use Rattle.model.proofs.Refusals.{none-holds, first-lacks, first-append, table-stands, table-first}
-use Rattle.orbits.proofs.Order.{lt-or-le}
+use Rattle.model.proofs.Refusals.{first-lacks, first-append, table-stands, table-first}
 use Rattle.fitting.specs.Judged.{lateRefusal}
-use Rattle.writing.specs.Early.{earlyRefusal}
+use Rattle.write_checks.specs.Early.{earlyRefusal}
 
 pub refusal-table : (t : Table) (k : ℕ) (p : Plan) (wl ol : ℕ) → tableRefused t ≡ true → writeRefusal t k p wl ol ≡ 19
 unfolding writeRefusal
@@ -41,87 +31,3 @@ refusal-split t k p wl ol stands =
 pub early-not-ten : (k : ℕ) (p : Plan) (wl ol : ℕ) → eqb (earlyRefusal k p wl ol) 10 ≡ false
 unfolding earlyRefusal earlyRefusals
 early-not-ten k p wl ol = first-lacks 10 (earlyRefusals k p wl ol) refl refl
-
--- ---- the early refusals, test by test
-
-pub not-below : (n d : ℕ) → leb n d ≡ not (ltb d n)
-not-below n d = lt-or-le d n
-    (λ l. not-intro (leb n d) (λ e. let z = leb-true n d e in absurd (omega arith)) ∙ sym (ap not (lt-ltb d n l)))
-    (λ l. le-leb n d l ∙ sym (ap not (le-ltb d n l)))
-
-module _ (k : ℕ) (p : Plan) (wl ol : ℕ) where
-  pub two : isKind k ≡ false → 2 ≡ earlyRefusal k p wl ol
-  unfolding earlyRefusal earlyRefusals firstRefusal
-  two e = rw e
-
-  module _ (h2 : isKind k ≡ true) where
-    pub three : dartCountFits (darts p) ≡ false → 3 ≡ earlyRefusal k p wl ol
-    unfolding earlyRefusal earlyRefusals firstRefusal
-    three e = rw (h2, e)
-
-    module _ (h3 : dartCountFits (darts p) ≡ true) where
-      pub four : darts p ≤ p .root → 4 ≡ earlyRefusal k p wl ol
-      unfolding earlyRefusal earlyRefusals firstRefusal
-      four e = rw (h2, h3, le-ltb (p .root) (darts p) e)
-
-      module _ (h4 : p .root < darts p) where
-        pub seventeen : outsideRefused k p ≡ true → 17 ≡ earlyRefusal k p wl ol
-        unfolding earlyRefusal earlyRefusals firstRefusal
-        seventeen e = rw (h2, h3, lt-ltb (p .root) (darts p) h4, e)
-
-        -- the refusals that follow, once these are passed
-        module _ (h17 : outsideRefused k p ≡ false) where
-          rest : earlyRefusal k p wl ol ≡ firstRefusal
-              (refuse 6 (not (isPermutation (p .rotation)))
-              ∷ refuse 7 (ltb wl (32 * edges (p .rotation)))
-              ∷ refuse 8 (not (lengthVaries k) && ltb ol (recordLength k (edges (p .rotation))))
-              ∷ [])
-          unfolding earlyRefusal earlyRefusals firstRefusal
-          rest = rw (h2, h3, lt-ltb (p .root) (darts p) h4, h17)
-
-          pub six : isPermutation (p .rotation) ≡ false → 6 ≡ earlyRefusal k p wl ol
-          unfolding firstRefusal
-          six e = rw (rest, e)
-
-          module _ (h6 : isPermutation (p .rotation) ≡ true) where
-            pub seven : wl < 32 * edges (p .rotation) → 7 ≡ earlyRefusal k p wl ol
-            unfolding firstRefusal
-            seven e = rw (rest, h6, lt-ltb wl (32 * edges (p .rotation)) e)
-
-            module _ (h7 : 32 * edges (p .rotation) ≤ wl) where
-              pub later : k ≡ 3 → 0 ≡ earlyRefusal k p wl ol
-              unfolding firstRefusal
-              later e = rw (rest, h6, le-ltb wl (32 * edges (p .rotation)) h7, eq-eqb k 3 e)
-
-              module _ (fixed : k ≢ 3) where
-                pub eight : ol < recordLength k (edges (p .rotation)) → 8 ≡ earlyRefusal k p wl ol
-                unfolding firstRefusal
-                eight e = rw (rest, h6, le-ltb wl (32 * edges (p .rotation)) h7, ne-eqb k 3 fixed, lt-ltb ol (recordLength k (edges (p .rotation))) e)
-
-                pub passed : recordLength k (edges (p .rotation)) ≤ ol → 0 ≡ earlyRefusal k p wl ol
-                unfolding firstRefusal
-                passed e = rw (rest, h6, le-ltb wl (32 * edges (p .rotation)) h7, ne-eqb k 3 fixed, le-ltb ol (recordLength k (edges (p .rotation))) e)
-
--- ---- what a call that passes is handed
-
-pub record Passed (k : ℕ) (p : Plan) (wl ol : ℕ) : Type 0 where
-  pub count : dartCountFits (darts p) ≡ true
-  pub root : p .root < darts p
-  pub entries : isPermutation (p .rotation) ≡ true
-  pub room : 16 * darts p ≤ wl
-  pub space : lengthVaries k ≡ false → recordLength k (edges (p .rotation)) ≤ ol
-
-pub early-parts : (k : ℕ) (p : Plan) (wl ol : ℕ) → earlyRefusal k p wl ol ≡ 0 → Passed k p wl ol
-unfolding earlyRefusal earlyRefusals
-early-parts k p wl ol e =
-    let no = none-holds (earlyRefusals k p wl ol) refl e in
-    let fits = not-false _ (no 3) in
-    let even = even-darts p fits in
-    let wide = ltb-false wl (32 * edges (p .rotation)) (no 7) in
-    record {
-      count = fits;
-      root = ltb-true _ _ (not-false _ (no 4));
-      entries = not-false _ (no 6);
-      room = omega arith;
-      space = λ fixed. ltb-false ol (recordLength k (edges (p .rotation))) (rw fixed at (no 8));
-    }

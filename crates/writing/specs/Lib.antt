@@ -1,2 +1,2 @@
-pub mod Early
+pub mod Made
 pub mod Laid

@@ -4,58 +4,14 @@ use model::Table;
 use model::Written;
 ghost use mathlib.Core.Path.{_≡_};
 ghost use mathlib.Core.Logic.{_≢_};
-ghost use mathlib.Core.Bool.{true, not, _&&_};
-ghost use lib.Dec.{ltb};
+ghost use mathlib.Core.Bool.{true};
 ghost use lib.ListN.{length};
 ghost use Rattle.model.specs.Map.{storesOutside};
 ghost use Rattle.model.specs.Traversal.{standardFace};
 ghost use Rattle.model.specs.Calls.{Wrote};
 ghost use Rattle.outside.specs.Numbered.{Mapped};
-ghost use Rattle.writing.specs.Early.{earlyRefusal, Made};
+ghost use Rattle.writing.specs.Made.{Made};
 ghost use Rattle.writing.specs.Laid.{Ready, Packed, Tabled, ToLay, RecordedUnder, LaidUnder};
-
-// The kind stores the outside, and this is none of n darts.
-fn outside_refused(kind: u16, outside: u16, n: usize) -> bool
-    ensures { λ r. ⌜ r ≡ (storesOutside kind && not (ltb outside n)) ⌝ }
-{
-    if heads::stores_outside(kind) {
-        return outside as usize >= n;
-    }
-    false
-}
-
-// The refusals that need no work area: 2, 3, 4, 17, 6, 7, 8.
-fn early(order: &[u16], root: u16, outside: u16, kind: u16, room: usize, space: usize) -> u16
-    ensures { λ r. ⌜ r ≡ earlyRefusal kind (record { rotation = now (order .entry); root = root; outside = outside }) room space ⌝ }
-{
-    if !heads::is_kind(kind) {
-        return 2;
-    }
-    let n = order.len();
-    if !permutation::dart_count_fits(n) {
-        return 3;
-    }
-    if root as usize >= n {
-        return 4;
-    }
-    if outside_refused(kind, outside, n) {
-        return 17;
-    }
-    if !permutation::is_permutation(order) {
-        return 6;
-    }
-    let m = n / 2;
-    if room < 32 * m {
-        return 7;
-    }
-    if kind == 3 {
-        return 0; // 8 comes last
-    }
-    if space < heads::record_length(kind, m as u16) {
-        return 8;
-    }
-    0
-}
 
 // The payload of a plan of n darts whose word is in the work area, from place at on, with a group's value for its byte.
 fn put_values(w: &mut [u16], n: usize, family: u16, out: &mut [u8], at: usize)
@@ -158,7 +114,7 @@ fn made<'a>(
     if !tables::is_loaded(bytes, inverse) {
         return Written::Refused(19);
     }
-    let r = early(order, root, outside, kind, w.len(), out.len());
+    let r = write_checks::early(order, root, outside, kind, w.len(), out.len());
     if r != 0 {
         return Written::Refused(r);
     }

@@ -6,7 +6,7 @@ use mir.Syntax.{w32}
 use mir.Val.{SFits}
 use Rattle.model.specs.declared.Table.{Table}
 use Rattle.model.specs.Calls.{tableRefused}
-use Rattle.writing.proofs.Refusing.{early-parts}
+use Rattle.write_checks.proofs.Refusing.{early-parts}
 use Rattle.writing.proofs.Making.{no-table, turned-away, Told, tell, judged-refused, judged-curved, to-lay, made}
 use borrow.Author.Needs.{needs}
 use Rattle.writing.proofs.made.Statement.{statement}

@@ -1,6 +1,5 @@
--- Writing's refusals that need no work area, and what the call leaves before the work area is cleared.
+-- What writing leaves before the work area is cleared.
 --
---   earlyRefusal         the first of 2, 3, 4, 17, 6, 7, 8 that concerns the call; 0 if none does
 --   Made                 the answer and the output of writing, and the work area's length
 use Prim.Native.Nat.{ℕ}
 use mathlib.Core.Path.{_≡_}
@@ -8,12 +7,8 @@ use mathlib.Core.List.{List}
 use lib.ListN.{length}
 use Rattle.model.specs.declared.Table.{Table}
 use Rattle.model.specs.declared.Written.{Written}
-use Rattle.model.specs.Numbers.{firstRefusal}
 use Rattle.model.specs.Map.{Plan}
-use Rattle.model.specs.Calls.{earlyRefusals, writeAnswer, writtenOutput}
-
-unfoldable pub earlyRefusal : ℕ → Plan → ℕ → ℕ → ℕ
-earlyRefusal k p workLength outLength = firstRefusal (earlyRefusals k p workLength outLength)
+use Rattle.model.specs.Calls.{writeAnswer, writtenOutput}
 
 pub record Made (t : Table) (k : ℕ) (p : Plan) (work out : List ℕ) (answer : Written) (work′ out′ : List ℕ) : Type 0 where
   pub answered : answer ≡ writeAnswer t k p (length work) (length out)

@@ -7,10 +7,10 @@ use borrow.Author.Tests.{not-true, not-false}
 use Rattle.model.specs.Numbers.{isPermutation}
 use Rattle.model.specs.Map.{edges, isKind, dartCountFits, outsideRefused}
 use Rattle.model.proofs.Fitness.{count-parts}
-use Rattle.writing.proofs.Refusing.{two, three, four, seventeen, six, seven, later, eight, passed}
+use Rattle.write_checks.proofs.Refusing.{two, three, four, seventeen, six, seven, later, eight, passed}
 use borrow.Author.Needs.{needs}
-use Rattle.writing.proofs.early.Statement.{statement}
-use Rattle.writing.proofs.early.Tie as tie
+use Rattle.write_checks.proofs.early.Statement.{statement}
+use Rattle.write_checks.proofs.early.Tie as tie
 
 -- ---- what is known once 2, then 3, then 4 and 17, then 6 are passed
 

@@ -1,8 +1,8 @@
 use mathlib.Core.Path.{sym, _∙_}
-use Rattle.writing.proofs.Refusing.{not-below}
+use Rattle.write_checks.proofs.Refusing.{not-below}
 use borrow.Author.Needs.{needs}
-use Rattle.writing.proofs.outside_refused.Statement.{statement}
-use Rattle.writing.proofs.outside_refused.Tie as tie
+use Rattle.write_checks.proofs.outside_refused.Statement.{statement}
+use Rattle.write_checks.proofs.outside_refused.Tie as tie
 
 returns : tie.Need-returns
 returns c = rw (sym (c .before .stores-outside .ensures) ∙ c .if1 .taken) (not-below (c .before .before .args .n) (c .before .before .args .outside))
