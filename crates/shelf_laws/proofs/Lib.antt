@@ -3,4 +3,5 @@ mod Number
 mod Shelved
 mod Built
 mod Written
+mod Passed
 mod Walked
