@@ -1,8 +1,8 @@
 mod Codes
-mod Lit
+pub mod Lit
 mod Leaves
 mod Taking
-mod Flags
-mod Bare
+pub mod Flags
+pub mod Bare
 mod Seconds
 pub mod Reading

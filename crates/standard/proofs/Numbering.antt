@@ -5,6 +5,7 @@
 --   rank p i               how many edges are opened before i; rank-opens, rank-stays, past one letter
 --   opened-number, ended-number    the number of the dart at a position, by whether it opens its edge or ends it
 --   other-number           the number of the opposite of a dart that opens its edge
+--   numbered               so the positions of the traversal are numbered as `Numbered` says
 --   numbers-opposite       opposite darts have opposite numbers
 --   numbers-root           the root has number 0
 --   numbers-below, numbers-inj, numbers-permutation    the numbers are those below the dart count, each once
@@ -179,7 +180,7 @@ module _ (p : Plan) (t : Toured p) (fits : dartCountFits (darts p) ≡ true) whe
 
   -- ---- by darts
 
-  numbered : Numbered (letterOf p) (darts p) (mateOf p) (λ i. number-of (dartAt p i))
+  pub numbered : Numbered (letterOf p) (darts p) (mateOf p) (λ i. number-of (dartAt p i))
   numbered = record { inv = mate-inv p t fits; fellows = t .fellows; later = t .opens-first; begins = opened-number; ends = ended-number }
 
   perm : Perm (darts p) (λ i. number-of (dartAt p i))

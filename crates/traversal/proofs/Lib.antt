@@ -1,11 +1,11 @@
 mod Bits
-mod Marks
+pub mod Marks
 mod Spread
 pub mod Reach
-mod Steps
-mod Follow
+pub mod Steps
+pub mod Follow
 mod Merged
-mod Round
+pub mod Round
 pub mod Walk
 pub mod Ruled
 pub mod Complete

@@ -1,6 +1,8 @@
 -- The visits of a plan are the steps of its first round; so all that is known of those holds of the visits, position by position.
 --
 --   walked                      all that is known of the traversal of a plan
+--   walk-dart, walk-letter      the visits are the steps of the walk without an end
+--   walk-back                   until it is first back at the root
 --   walk-closed, walk-least     the darts met are a closed set, and every closed set that has the root has them
 use Prim.Native.Nat.{ℕ, zero, suc, _+_, _≤_, _<_}
 use native.Mathlib.Nat.{le-of-lt, le-of-suc-le-suc}
@@ -19,6 +21,7 @@ use Rattle.model.proofs.Fitness.{count-even}
 use Rattle.orbits.specs.Permutation.{Perm}
 use Rattle.orbits.specs.Chord.{Involution}
 use Rattle.orbits.proofs.Maps.{next-perm, opposite-inv}
+use Rattle.orbits.proofs.Order.{tri}
 use Rattle.words.specs.Toured.{dartsMet, dartAt, letterOf}
 use Rattle.traversal.specs.Reach.{Closed}
 use Rattle.traversal.specs.Steps.{at, start, step, letter, dart, letterAfter, seenMark}
@@ -183,6 +186,23 @@ module _ (p : Plan) (fits : dartCountFits (darts p) ≡ true) (hr : p .root < da
 
   pub walked : Walked p
   walked = walked-perm p turn cross hr
+
+  abbrev once : Round (p .rotation) (p .root) turn cross hr
+  once = o p turn cross hr
+
+  pub walk-dart : (i : ℕ) → i < length (visits p) → dartAt p i ≡ dart (p .rotation) (p .root) i
+  walk-dart i h = dart-is p turn cross hr i (within p turn cross hr i h)
+
+  pub walk-letter : (i : ℕ) → i < length (visits p) → letterOf p i ≡ letterAfter (p .rotation) (p .root) i
+  walk-letter i h = letter-is p turn cross hr i (within p turn cross hr i h)
+
+  pub walk-back : (k : ℕ) → 0 < k → dart (p .rotation) (p .root) k ≡ p .root
+      → ((j : ℕ) → 0 < j → j < k → dart (p .rotation) (p .root) j ≢ p .root) → length (visits p) ≡ k
+  walk-back k some back away =
+      size p turn cross hr ∙ tri (suc (once .last)) k
+      (λ l. absurd (away (suc (once .last)) (omega arith) l (once .returns)))
+      (λ e. e)
+      (λ g. absurd (once .away k some g back))
 
   pub walk-closed : Closed (p .rotation) (Among p)
   walk-closed = record {

@@ -1,7 +1,7 @@
 pub mod Letters
 pub mod Positions
 pub mod Plans
-mod Bracketing
+pub mod Bracketing
 pub mod OpenEdges
 pub mod Nesting
 mod WordDarts
