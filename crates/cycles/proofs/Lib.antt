@@ -1,3 +1,4 @@
+mod Crossing
 mod Steps
 mod Naming
 mod Following

@@ -16,7 +16,7 @@ pub fn other(d: usize) -> usize
     requires { ⌜ d < 65536 ⌝ }
     ensures { λ r. ⌜ r ≡ opposite d ⌝ }
 {
-    d + 1 - 2 * (d % 2)
+    d ^ 1
 }
 
 // One step round a vertex, or, across an edge, along a face.
