@@ -1,3 +1,5 @@
 mod Counts
 mod Marking
+mod Striking
+mod Tested
 mod Zeros

@@ -82,6 +82,7 @@ module _ (k : ℕ) (p : Plan) (wl ol : ℕ) where
 -- ---- what a call that passes is handed
 
 pub record Passed (k : ℕ) (p : Plan) (wl ol : ℕ) : Type 0 where
+  pub kind : isKind k ≡ true
   pub count : dartCountFits (darts p) ≡ true
   pub root : p .root < darts p
   pub entries : isPermutation (p .rotation) ≡ true
@@ -96,6 +97,7 @@ early-parts k p wl ol e =
     let even = even-darts p fits in
     let wide = ltb-false wl (32 * edges (p .rotation)) (no 7) in
     record {
+      kind = not-false _ (no 2);
       count = fits;
       root = ltb-true _ _ (not-false _ (no 4));
       entries = not-false _ (no 6);

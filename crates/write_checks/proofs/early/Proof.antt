@@ -31,8 +31,11 @@ named c = (
   sym (c .before .outside-refused .ensures) ∙ c .if4 .left,
 )
 
-entries : (c : tie.Else5) → isPermutation (c .before .before .before .before .before .before .before .before .before .before .args .order .now) ≡ true
-entries c = sym (c .before .is-permutation .ensures) ∙ not-false _ (c .if5 .left)
+good : (c : tie.Else4) → let a = c .before .before .before .before .before .before .before .before .args in a .good ≡ isPermutation (a .order .now)
+good c = c .before .before .before .before .before .before .before .before .pre (count-parts _ (named c .1) .2)
+
+entries : (c : tie.Else5) → isPermutation (c .before .before .before .before .before .before .before .before .before .args .order .now) ≡ true
+entries c = sym (good (c .before)) ∙ not-false _ (c .if5 .left)
 
 -- ---- the refusals
 
@@ -51,43 +54,40 @@ returns-4 c =
     seventeen _ _ _ _ (kind (c .before .before .before .before .before)) (count (c .before .before .before)) (c .before .before .if3 .left)
     (sym (c .before .outside-refused .ensures) ∙ c .if4 .taken)
 
-is-permutation-requires : tie.Need-is-permutation-requires
-is-permutation-requires c κs = count-parts _ (named c .1) .2
-
 returns-5 : tie.Need-returns-5
 returns-5 c =
-    let q = named (c .before .before) in
-    six _ _ _ _ (q .0) (q .1) (q .2) (q .3) (sym (c .before .is-permutation .ensures) ∙ not-true _ (c .if5 .taken))
+    let q = named (c .before) in
+    six _ _ _ _ (q .0) (q .1) (q .2) (q .3) (sym (good (c .before)) ∙ not-true _ (c .if5 .taken))
 
 mul-if6 : tie.Need-mul-if6
-mul-if6 c = let n = count-parts _ (named (c .before .before) .1) in search needs
+mul-if6 c = let n = count-parts _ (named (c .before) .1) in search needs
 
 returns-6 : tie.Need-returns-6
 unfolding edges
 returns-6 c =
-    let q = named (c .before .before .before) in
+    let q = named (c .before .before) in
     seven _ _ _ _ (q .0) (q .1) (q .2) (q .3) (entries (c .before)) (c .if6 .taken)
 
 cast-record-length : tie.Need-cast-record-length
-cast-record-length c = let n = count-parts _ (named (c .before .before .before .before) .1) in omega arith
+cast-record-length c = let n = count-parts _ (named (c .before .before .before) .1) in omega arith
 
 returns-7 : tie.Need-returns-7
 unfolding edges
 returns-7 c =
-    let q = named (c .before .before .before .before) in
+    let q = named (c .before .before .before) in
     later _ _ _ _ (q .0) (q .1) (q .2) (q .3) (entries (c .before .before)) (c .before .if6 .left) (c .if7 .taken)
 
 returns-8 : tie.Need-returns-8
 unfolding edges
 returns-8 c =
-    let q = named (c .before .before .before .before .before .before) in
+    let q = named (c .before .before .before .before .before) in
     eight _ _ _ _ (q .0) (q .1) (q .2) (q .3) (entries (c .before .before .before .before)) (c .before .before .before .if6 .left) (c .before .before .if7 .left)
     (omega (arith, c .before .record-length .ensures))
 
 returns-9 : tie.Need-returns-9
 unfolding edges
 returns-9 c =
-    let q = named (c .before .before .before .before .before .before) in
+    let q = named (c .before .before .before .before .before) in
     passed _ _ _ _ (q .0) (q .1) (q .2) (q .3) (entries (c .before .before .before .before)) (c .before .before .before .if6 .left) (c .before .before .if7 .left)
     (omega (arith, c .before .record-length .ensures))
 
@@ -102,7 +102,6 @@ early-spec =
     returns-3
     (λ c κs. search needs)
     returns-4
-    is-permutation-requires
     returns-5
     mul-if6
     returns-6
