@@ -1,7 +1,7 @@
 -- `pack` and `unpack` undo one another. `b` is the base, `w` the digits of a number, `n` how many numbers there are. Assumes nothing.
 --
 --   pack-length, pack-below       n numbers, each below bʷ
---   pack-more                     one number more
+--   pack-split, pack-more         so many numbers more, and one
 --   pack-pad                      zeros after the digits are as good as no digits
 --   length-unpack, unpack-below   n * w digits, each below b
 --   unpack-append, unpack-drop    a sequence is taken apart part by part, and past n numbers
@@ -11,8 +11,9 @@
 --   unpack-packed, blank-past, pack-front   the same where the number of numbers is a list's length
 --   length-bits, bits-below, bits-append, bits-take   eight bits of each byte, each below 2, part by part, and of the first bytes
 use Prim.Native.Nat.{ℕ, zero, suc, _+_, _-_, _*_, _^_, _≤_, _<_}
-use native.Mathlib.Nat.{suc-inj, suc-ne-zero, add-comm, zero-mul, suc-mul, zero-sub, sub-zero, suc-sub-suc, add-sub-of-le}
+use native.Mathlib.Nat.{suc-inj, suc-ne-zero, zero-add, suc-add, add-comm, zero-mul, suc-mul, zero-sub, sub-zero, suc-sub-suc, add-sub-of-le}
 use native.Mathlib.Omega.{arith}
+use native.Mathlib.Numerals.{add-one}
 use mathlib.Core.Path.{_≡_, refl, sym, ap, _∙_}
 use mathlib.Core.Bool.{true}
 use mathlib.Core.List.{List, [], _∷_, _++_, append-assoc}
@@ -48,11 +49,15 @@ module _ (b w : ℕ) where
   pack-below h (suc n) ds e =
       below-cons (b ^ w) (digits b w ds) (pack b w n (drop w ds)) (digits-below b h w ds e) (pack-below h n (drop w ds) (below-drop b w ds e))
 
+  pub pack-split : (n k : ℕ) (ds : List ℕ) → pack b w (n + k) ds ≡ pack b w n ds ++ pack b w k (drop (n * w) ds)
+  unfolding pack
+  pack-split zero k ds = rw (zero-add, zero-mul)
+  pack-split (suc n) k ds =
+      rw (suc-add n k, suc-mul n w, add-comm (n * w) w, ← drop-drop (n * w) w ds) (ap (λ (r : List ℕ). digits b w ds ∷ r) (pack-split n k (drop w ds)))
+
   pub pack-more : (i : ℕ) (ds : List ℕ) → pack b w (suc i) ds ≡ pack b w i ds ++ (digits b w (drop (i * w) ds) ∷ [])
   unfolding pack
-  pack-more zero ds = rw zero-mul
-  pack-more (suc i) ds =
-      rw (suc-mul i w, add-comm (i * w) w, ← drop-drop (i * w) w ds) (ap (λ (r : List ℕ). digits b w ds ∷ r) (pack-more i (drop w ds)))
+  pack-more i ds = ap (λ (n : ℕ). pack b w n ds) (sym (add-one i)) ∙ pack-split i 1 ds
 
   pub pack-pad : (n : ℕ) (ds : List ℕ) (k : ℕ) → pack b w n (ds ++ replicate k 0) ≡ pack b w n ds
   unfolding pack

@@ -1,80 +1,48 @@
-use Prim.Native.Nat.{_+_, _-_, _*_, _≤_}
+use Prim.Native.Nat.{_+_, _-_, _*_}
+use mathlib.Core.Path.{_≡_}
 use native.Mathlib.Omega.{arith}
-use mathlib.Core.Path.{_≡_, sym}
-use lib.ListN.{length, length-set}
-use Rattle.work.specs.Area.{placed}
-use Rattle.work.proofs.Regions.{placed-none}
-use Rattle.packer.specs.Packed.{between}
-use Rattle.packer.proofs.Numerals.{group-fits, all-group, packed-more}
-use Rattle.model.specs.Record.{pack as packed}
+use Rattle.packer.specs.Packed.{Groups}
+use Rattle.packer.proofs.Numerals.{rest-fits, groups-rest, packed-rest}
 use borrow.Author.Needs.{needs}
 use Rattle.packer.proofs.put_groups.Statement.{statement}
 use Rattle.packer.proofs.put_groups.Tie as tie
 
-abbrev Inv-loop : tie.InvT-loop
-Inv-loop w a e base width out₀ at count i₀ out i =
-    (i ≤ count) × (length out ≡ length out₀) × (out ≡ placed at (packed base width i (between a e w)) out₀)
+within : (c : tie.After-put-unrolled) → let a = c .before .before .before .before .args in
+    c .put-unrolled .result * a .width + (a .count - c .put-unrolled .result) * a .width ≡ a .count * a .width
+within c = rest-fits _ _ _ (c .put-unrolled .ensures .few)
 
-abbrev μ-loop : tie.MeasureT-loop
-μ-loop w a e base width out₀ at count i₀ out i = count - i
+groups : (c : tie.Start) → let a = c .args in Groups (a .w .now) (a .a) (a .e) (a .base) (a .width) (a .out .now) (a .at) (a .count)
+groups c = let p = c .pre in (p .0, p .1, p .2, p .3, p .4, p .5, omega arith)
 
-loop-holds : tie.Need-loop-holds Inv-loop μ-loop
-unfolding packed
-loop-holds c = (search needs, search needs, sym (placed-none _ _))
+put-unrolled-requires : tie.Need-put-unrolled-requires
+put-unrolled-requires c κs = groups (c .before .before .before)
 
-fits : (c : tie.In-loop Inv-loop μ-loop) → let a = c .before .before .before .before .args in
-    c .before .loop .i * a .width + a .width ≤ a .count * a .width
-fits c = group-fits _ _ (c .before .loop .i) (omega arith)
+mul-put-each : tie.Need-mul-put-each
+mul-put-each c = let f = within (c .before .before) in omega arith
 
-mul-digits : tie.Need-mul-digits Inv-loop μ-loop
-mul-digits c = let g = fits c in omega arith
+add-put-each : tie.Need-add-put-each
+add-put-each c = let f = within (c .before .before) in omega arith
 
-add-digits : tie.Need-add-digits Inv-loop μ-loop
-add-digits c = let g = fits c in omega arith
+put-each-requires : tie.Need-put-each-requires
+put-each-requires c κs =
+    let st = c .before .before .before .before .before .before .before in
+    let u = c .before .before .before .put-unrolled in
+    groups-rest _ _ _ _ _ (st .args .out .now) _ _ (u .result) (u .last .1 .1 .1 .1 .1 .0) (groups st) (u .ensures .few) (u .kept .1 .1 .1 .1 .1 .0)
 
-digits-requires : tie.Need-digits-requires Inv-loop μ-loop
-digits-requires c κs =
-    let g = fits c in
-    let pre = c .before .before .before .before .pre in
-    (search needs, omega arith, search needs, search needs, all-group _ _ _ _ _ (pre .4))
-
-slice-write-out : tie.Need-slice-write-out Inv-loop μ-loop
-slice-write-out c =
-    let at = c .before .before .loop in
-    omega (arith, at .inv, c .before .loop-test .taken)
-
-loop-again : tie.Need-loop-again Inv-loop μ-loop
-loop-again c =
-    let at = c .before .before .loop in (
-      search needs,
-      simp length-set (at .inv .1),
-      packed-more _ _ _ (at .i) _ _ _ _ _ _ (omega (arith, at .inv)) (c .digits .ensures .0) (at .inv .2),
-    )
-
-same-length : tie.Need-same-length Inv-loop μ-loop
-same-length c = c .before .loop .inv .1
-
-returns : tie.Need-returns Inv-loop μ-loop
+returns : tie.Need-returns
 returns c =
-    let at = c .before .loop in
-    let all : at .i ≡ c .before .before .before .before .args .count = omega arith in
-    rw all at (at .inv .2)
+    let st = c .before .before .before .before .before .before .before .before .before .before in
+    packed-rest _ _ _ _ _ _ _ _ _ _ _ (st .pre .5) (c .before .before .before .before .before .before .put-unrolled .ensures) (c .before .before .put-each .ensures)
 
 pub put-groups-spec : {M : Type 1} → statement M
 put-groups-spec =
     tie.close
     (tie.spec
-    Inv-loop
-    μ-loop
-    loop-holds
-    mul-digits
-    add-digits
-    digits-requires
+    put-unrolled-requires
+    mul-put-each
+    add-put-each
     (λ c. search needs)
     (λ c. search needs)
-    slice-write-out
+    put-each-requires
     (λ c. search needs)
-    (λ c. search needs)
-    loop-again
-    same-length
     returns)
