@@ -60,7 +60,7 @@ fn is_face(w: &[u16], n: usize, x: usize) -> bool
     if x >= n {
         return false;
     }
-    outside::is_lowest(&w[..n], x)
+    outer_face::is_lowest(&w[..n], x)
 }
 
 // The standard plan and the outside of a record of a kind that stores it, whose head passes; or 13.

@@ -9,10 +9,10 @@ use Rattle.model.specs.Map.{faceNext, faceOf, dartCountFits}
 use Rattle.model.proofs.Fitness.{count-parts, count-even}
 use Rattle.orbits.specs.Permutation.{Perm}
 use Rattle.orbits.proofs.Maps.{face-perm}
-use Rattle.outside.proofs.Lowest.{Rising, rising-start, rising-step, rising-fewer, walk-ends}
+use Rattle.outer_face.proofs.Rising.{Rising, rising-start, rising-step, rising-fewer, walk-ends}
 use borrow.Author.Needs.{needs}
-use Rattle.outside.proofs.is_lowest.Statement.{statement}
-use Rattle.outside.proofs.is_lowest.Tie as tie
+use Rattle.outer_face.proofs.is_lowest.Statement.{statement}
+use Rattle.outer_face.proofs.is_lowest.Tie as tie
 
 abbrev Inv-loop : tie.InvT-loop
 Inv-loop order x d₀ steps₀ d steps = (d < length order) × Rising (faceNext order) x steps d

@@ -1,0 +1,5 @@
+mod Rising
+mod Along
+mod Face
+mod Outer
+pub mod Marking

@@ -1,5 +1,0 @@
-mod Lowest
-mod Least
-mod Search
-mod Steps
-mod Searching
