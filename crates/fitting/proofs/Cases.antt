@@ -12,27 +12,26 @@
 use Prim.Native.Nat.{ℕ, _+_, _*_, _/_, _≤_, _<_}
 use native.Mathlib.Nat.{suc-ne-zero}
 use native.Mathlib.Omega.{arith}
-use mathlib.Core.Path.{_≡_, refl, sym, ap, subst, _∙_}
+use mathlib.Core.Path.{_≡_, refl, sym, ap, _∙_}
 use mathlib.Core.Logic.{_≢_}
 use mathlib.Core.Bool.{Bool, true, false, cond}
-use mathlib.Core.List.{List, map}
+use mathlib.Core.List.{List}
 use lib.IntN.{ℤ, pos, _+ℤ_, _-ℤ_}
 use lib.ListN.{length}
 use lib.Dec.{eqb}
 use borrow.Author.Tests.{eq-eqb, ne-eqb}
 use Rattle.model.specs.Numbers.{isLeast, cycles, firstRefusal, isPermutation}
-use Rattle.model.specs.Map.{Plan, darts, edges, next, faceNext, faceOf, vertexOf, vertices, faces, faceLengths, connected, planar, characteristic, is}
+use Rattle.model.specs.Map.{Plan, darts, edges, next, faceNext, vertexOf, vertices, faces, faceLengths, connected, planar, characteristic, is}
 use Rattle.model.specs.Map.{hasLoop, hasOtherFace, hasDeadEnd, loopRefused, faceRefused, degreeRefused, dartCountFits}
-use Rattle.model.specs.Traversal.{code, word}
 use Rattle.model.specs.Calls.{lateRefusals}
 use Rattle.model.proofs.Booleans.{not-intro}
 use Rattle.model.proofs.Fitness.{count-parts}
 use Rattle.orbits.proofs.Tally.{count-le}
 use Rattle.traversal.proofs.Complete.{connected-long, long-connected}
-use Rattle.work.specs.Map.{LETTERS, FACES, DEGREES, LENGTHS}
+use Rattle.work.specs.Map.{FACES, DEGREES, LENGTHS}
 use Rattle.work.specs.Area.{region}
-use Rattle.cycles.specs.Cycles.{Named, FacesNamed}
-use Rattle.cycles.proofs.Names.{named-length, named-names, named-sizes, named-beside}
+use Rattle.cycles.specs.Cycles.{Named}
+use Rattle.cycles.proofs.Names.{named-length, named-names, named-sizes}
 use Rattle.contour.specs.Steps.{VerticesNamed}
 use Rattle.contour.specs.Walked.{Walked}
 use Rattle.fitting.specs.declared.Survey.{Survey}
@@ -100,7 +99,6 @@ module _ (p : Plan) (w w₁ : List ℕ) (v : ℕ) (room : 16 * darts p ≤ lengt
     counted = s .counted;
     searched = l;
     all-met = t .counted;
-    letters = t .letters;
     kept = t .kept ∙ named-length (next (p .rotation)) (darts p) 0 (DEGREES * darts p) w v w₁ (omega arith) (omega arith) s;
   }
 
@@ -126,8 +124,6 @@ module _ {k : ℕ} {p : Plan} {w : List ℕ} {s : Survey} {w₁ : List ℕ} (a :
       not-intro (connected (p .rotation)) (λ e. ne (a .survey .all-met ∙ connected-long p (a .fits) (a .low) (a .entries) e)) in
       record {
         answered = rw apart;
-        letters = λ z. absurd (suc-ne-zero 8 (rw apart at z));
-        names = λ z. absurd (suc-ne-zero 8 (rw apart at z));
         lengths = λ z. absurd (suc-ne-zero 8 (rw apart at z));
         kept = a .survey .kept;
       }
@@ -150,18 +146,8 @@ module _ {k : ℕ} {p : Plan} {w : List ℕ} {s : Survey} {w₁ : List ℕ} {f :
   inside : LENGTHS * darts p + darts p ≤ length w₁
   inside = omega (arith, a .survey .kept, a .room)
 
-  letters-kept : region (LETTERS * darts p) (darts p) w₂ ≡ map code (word p)
-  letters-kept =
-      named-beside (faceNext (p .rotation)) (darts p) (FACES * darts p) (LENGTHS * darts p) w₁ f w₂ behind inside (b .named) (LETTERS * darts p) (darts p)
-      (λ h. omega arith) (λ h. omega arith)
-      ∙ subst (λ (n : ℕ). region (LETTERS * darts p) n w₁ ≡ map code (word p)) (b .all) (a .survey .letters)
-
   length-kept : length w₂ ≡ length w
   length-kept = named-length (faceNext (p .rotation)) (darts p) (FACES * darts p) (LENGTHS * darts p) w₁ f w₂ behind inside (b .named) ∙ a .survey .kept
-
-  faces-named : FacesNamed (p .rotation) w₂
-  unfolding faceOf
-  faces-named = named-names (faceNext (p .rotation)) (darts p) (FACES * darts p) (LENGTHS * darts p) w₁ f w₂ behind inside (b .named)
 
   measured : region (LENGTHS * darts p) (faces (p .rotation)) w₂ ≡ faceLengths (p .rotation)
   unfolding faces faceLengths
@@ -183,7 +169,7 @@ module _ {k : ℕ} {p : Plan} {w : List ℕ} {s : Survey} {w₁ : List ℕ} {f :
     pub curved : is x 2 ≡ false → Judged k p w (NotPlanar x) w₂
     unfolding verdictOf lateRefusal lateRefusals firstRefusal planar
     curved u = let u′ = rw euler at u in
-        record { answered = rw (joined, u′, euler); letters = λ z. letters-kept; names = λ z. faces-named; lengths = λ z. measured; kept = length-kept }
+        record { answered = rw (joined, u′, euler); lengths = λ z. measured; kept = length-kept }
 
     module _ (u : is x 2 ≡ true) where
       late-local : lateRefusal k p ≡ localRefusal k p
@@ -192,7 +178,7 @@ module _ {k : ℕ} {p : Plan} {w : List ℕ} {s : Survey} {w₁ : List ℕ} {f :
 
       -- what is found of 11, 18 and 12 makes the verdict
       found : {v : Verdict} → v ≡ verdictOf k p → Judged k p w v w₂
-      found q = record { answered = q; letters = λ z. letters-kept; names = λ z. faces-named; lengths = λ z. measured; kept = length-kept }
+      found q = record { answered = q; lengths = λ z. measured; kept = length-kept }
 
       pub flat-refused : {r : ℕ} → r ≡ localRefusal k p → r ≢ 0 → Judged k p w (Refused r) w₂
       unfolding verdictOf

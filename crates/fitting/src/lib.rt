@@ -1,5 +1,5 @@
-// Refusals 9 to 12 and 18, and of a plan that fits its contour word and its faces, named and measured. Names of vertices in the work area are its own matter. It
-// knows no records, and nothing of the outside.
+// Refusals 9 to 12 and 18, and of a plan that fits the lengths of its faces. Names and letters in the work area are its own matter. It knows no records, and
+// nothing of the outside.
 ghost use mathlib.Core.Path.{_≡_};
 ghost use mathlib.Core.Bool.{true};
 ghost use Prim.Native.Nat.{_*_, _≤_, _<_};
@@ -112,7 +112,7 @@ fn local(order: &[u16], root: usize, family: u16, looped: bool) -> u16
     0
 }
 
-// Refusals 9 to 12 and 18; the word of a plan that fits stands at LETTERS, the names of its faces at FACES, and their lengths at LENGTHS.
+// Refusals 9 to 12 and 18; the lengths of the faces of a plan that fits stand at LENGTHS.
 pub fn judge(order: &[u16], root: usize, family: u16, w: &mut [u16]) -> Verdict
     requires { ⌜ (dartCountFits (length (now order)) ≡ true) × (isPermutation (now order) ≡ true) × (root < length (now order))
         × (16 * length (now order) ≤ length (now w)) ⌝ }

@@ -2,60 +2,76 @@
 --
 --   no-table             the table's refusal
 --   turned-away          an early one
---   Told, tell           a call that passes them, with the plan's verdict
---   judged-refused, judged-curved   a refusal of the plan itself
---   to-lay               a plan that fits is ready to be laid out
+--   sound-late, late-sound   a plan of another kind than 3 is sound exactly if no late refusal concerns it
+--   Begun                the early refusals are passed, and the plan is walked
+--   walk-laid            what laying out asks of a plan that the walk has found fit
+--   made-fast            and what is then written
+--   to-judge, made-slow  what judging asks of another, and what is then answered
 --   mesh-asked           what writing a mesh asks
---   plain-laid, mesh-laid, mesh-refused   what is laid out in a kind other than 3, of a mesh, and where it has no room
---   made                 and what is then written
-use Prim.Native.Nat.{ℕ, _*_, _≤_}
+--   mesh-laid, mesh-refused   what is laid out of it, and where it has no room
+--   Told, tell           the plan's verdict
+--   judged-refused, judged-curved, judged-mesh   what is answered by it
+use Prim.Native.Nat.{ℕ, _+_, _*_, _%_, _≤_, _<_}
 use native.Mathlib.Omega.{arith}
 use mathlib.Core.Path.{_≡_, refl, sym, ap, subst, _∙_}
 use mathlib.Core.Logic.{_≢_}
-use mathlib.Core.Bool.{Bool, true, false, cond, false≢true}
+use mathlib.Core.Bool.{Bool, true, false, not, _&&_, cond, false≢true}
 use mathlib.Core.List.{List, _++_, map}
 use lib.Dec.{eqb, ltb}
 use lib.IntN.{ℤ}
-use lib.ListN.{length}
-use borrow.Author.Tests.{ne-eqb}
+use lib.ListN.{length, getD}
+use borrow.Author.Tests.{eq-eqb, ne-eqb, not-false}
 use Rattle.model.specs.declared.Table.{Table}
 use Rattle.model.specs.declared.Written.{Written}
 use Rattle.model.specs.declared.Written.the-variants as written
 use Rattle.model.specs.Numbers.{elem, firstRefusal}
-use Rattle.model.specs.Map.{Plan, darts, edges, storesOutside, family, degreeRefused, fit}
-use Rattle.model.specs.Traversal.{code}
+use Rattle.model.specs.Map.{Plan, darts, edges, storesOutside, family, hasLoop, hasDeadEnd, loopRefused, faceRefused, degreeRefused, fit}
+use Rattle.model.specs.Traversal.{Letter, down, up, first, second, code, opens, visits, word}
 use Rattle.model.specs.Record.{headed, meshPayload, payloadOf, outsideBytes, recordOf}
-use Rattle.model.specs.Calls.{front, tableRefused, lateRefusals, lastRefusals, writeRefusal, answerOf, writeAnswer, writtenOutput}
-use Rattle.model.proofs.Outside.{withOutside, same-word, same-dead-ends, fit-outside}
-use Rattle.model.proofs.Refusals.{passed-fit}
+use Rattle.model.specs.Calls.{front, tableRefused, lateRefusals, lastRefusals, writeRefusal, answerOf}
+use Rattle.model.proofs.Outside.{withOutside, same-word, same-dead-ends, fit-outside, fit-widest}
+use Rattle.model.proofs.Fitness.{fit-parts, count-parts}
+use Rattle.model.proofs.Heads.{family-not-three}
+use Rattle.model.proofs.Refusals.{none-holds, passed-fit}
+use Rattle.orbits.proofs.Order.{eq-split}
+use Rattle.words.specs.Word.{wordBits, wordLabels}
+use Rattle.words.specs.Position.{opened}
+use Rattle.words.specs.Toured.{dartsMet, dartAt, letterOf}
+use Rattle.fit_plans.proofs.FitPlans.{fit-toured}
+use Rattle.forward.proofs.Labels.{opened-bound}
+use Rattle.marks.specs.Marks.{markOf}
 use Rattle.fitting.specs.declared.Verdict.{Verdict}
 use Rattle.fitting.specs.declared.Verdict.the-variants as verdict
 use Rattle.fitting.specs.Judged.{lateRefusal, verdictOf, Judged}
 use Rattle.fitting.proofs.Verdicts.{verdict-refused, verdict-curved, verdict-fits}
 use Rattle.packing.proofs.Headed.{headed-length}
 use Rattle.meshes.proofs.Meshes.{types-outside}
+use Rattle.tracing.specs.Tracing.{Sound, Fitting}
+use Rattle.outer_face.specs.Marks.{Marked}
+use Rattle.outer_face.proofs.Marking.{marked-by}
+use Rattle.laying.specs.Laid.{ToLay, Recorded}
 use Rattle.mesh_writing.specs.Recorded.{MeshRecorded}
 use Rattle.write_checks.specs.Early.{earlyRefusal}
-use Rattle.write_checks.proofs.Refusing.{early-parts}
-use Rattle.writing.specs.Made.{Made}
-use Rattle.writing.specs.Laid.{ToLay, Recorded, Laid}
+use Rattle.write_checks.proofs.Refusing.{Passed, early-parts}
+use Rattle.writing.specs.Made.{Answered, Made, lastRefusal, laterRefusal, Walked, ToJudge}
 use Rattle.writing.proofs.Refusing.{refusal-table, refusal-split, early-not-ten}
 
 pub no-table : {table : Table} {k : ℕ} {p : Plan} {w out : List ℕ} → tableRefused table ≡ true → Made table k p w out (written.Refused 19) w out
-unfolding writeAnswer answerOf writtenOutput
+unfolding answerOf
 no-table {table} {k} {p} {w} {out} e =
     let first = refusal-table table k p (length w) (length out) e in
     record { answered = rw first; filled = rw first; kept = refl }
 
-pub turned-away : {table : Table} {k : ℕ} {p : Plan} {w out : List ℕ} {r : ℕ} → tableRefused table ≡ false → r ≡ earlyRefusal k p (length w) (length out)
-    → (r ≢ 0) → Made table k p w out (written.Refused r) w out
-unfolding writeAnswer answerOf writtenOutput
-turned-away {table} {k} {p} {w} {out} {r} stands e ne =
+pub turned-away : {table : Table} {k : ℕ} {p : Plan} {w out w₁ : List ℕ} {r : ℕ} → tableRefused table ≡ false → length w₁ ≡ length w
+    → r ≡ earlyRefusal k p (length w₁) (length out) → (r ≢ 0) → Made table k p w out (written.Refused r) w₁ out
+unfolding answerOf
+turned-away {table} {k} {p} {w} {out} {w₁} {r} stands kept e₁ ne =
+    let e : r ≡ earlyRefusal k p (length w) (length out) = e₁ ∙ ap (λ (l : ℕ). earlyRefusal k p l (length out)) kept in
     let late : writeRefusal table k p (length w) (length out) ≡ r = refusal-split table k p (length w) (length out) stands ∙ rw (sym e, ne-eqb r 0 ne) in
     record {
       answered = rw (late, ne-eqb r 0 ne, ap (λ (x : ℕ). eqb x 10) e ∙ early-not-ten k p (length w) (length out));
       filled = rw (late, ne-eqb r 0 ne);
-      kept = refl;
+      kept = kept;
     }
 
 -- the checks know nothing of the outside
@@ -67,20 +83,128 @@ passed : (k : ℕ) (p : Plan) (w o : ℕ) → earlyRefusal k p w o ≡ 0 → lat
 unfolding earlyRefusal lateRefusal
 passed k p w o e l = passed-fit k p w o e l
 
--- ---- what is laid out
+-- ---- sound plans
 
-module _ {t : Table} {k : ℕ} {p : Plan} {w out : List ℕ} {n : ℕ} {w′ out′ : List ℕ} where
-  -- in a kind other than 3 there is room
-  pub plain-laid : k ≢ 3 → Recorded t k p w out n w′ out′ → Laid t k p w out (written.Length n) w′ out′
-  unfolding lastRefusals firstRefusal answerOf
-  plain-laid other r = record { answered = rw (ne-eqb k 3 other, r .answered); filled = r .filled ∙ rw (ne-eqb k 3 other); kept = r .kept }
+module _ (f : ℕ) (p : Plan) (other : f ≢ 3) where
+  pub sound-late : Sound f (withOutside p 0) → lateRefusal f p ≡ 0
+  unfolding lateRefusal lateRefusals firstRefusal loopRefused faceRefused degreeRefused
+  sound-late s = rw (s .joined, s .flat, loops, ne-eqb f 3 other, ends)
+    where
+      loops : (not (eqb f 4) && hasLoop (p .rotation)) ≡ false
+      loops = eq-split f 4 (λ e. rw (eq-eqb f 4 e)) (λ n. rw (ne-eqb f 4 n, s .no-loop n))
+
+      ends : (eqb f 1 && hasDeadEnd p) ≡ false
+      ends = eq-split f 1 (λ e. rw (eq-eqb f 1 e, sym (same-dead-ends p 0), s .no-leaf e)) (λ n. rw (ne-eqb f 1 n))
+
+  pub late-sound : lateRefusal f p ≡ 0 → Sound f (withOutside p 0)
+  unfolding lateRefusal lateRefusals loopRefused degreeRefused
+  late-sound e =
+      let holds = none-holds (lateRefusals f p) refl e in
+      record {
+        joined = not-false _ (holds 9);
+        flat = not-false _ (holds 10);
+        no-loop = λ n. rw (ne-eqb f 4 n) at (holds 11);
+        no-leaf = λ q. same-dead-ends p 0 ∙ (rw (eq-eqb f 1 q) at (holds 12));
+      }
+
+-- ---- the marks of a plan that fits tell its standard numbers
+
+open-mark : (a : Letter) (e : ℕ) → opens a ≡ true → e < 8192 → (markOf a + e < 32768) × ((markOf a + e) % 8192 ≡ e)
+open-mark down e o h = (omega arith, omega arith)
+open-mark up e o h = absurd (false≢true o)
+open-mark first e o h = (omega arith, omega arith)
+open-mark second e o h = absurd (false≢true o)
+
+marked : (f : ℕ) (p : Plan) (w : List ℕ) → fit 0x104 p ≡ true → darts p ≤ length w → Fitting f (withOutside p 0) w → Marked p w
+unfolding dartAt dartsMet letterOf word visits
+marked f p w fits room g = marked-by p w fits room
+    (λ j h o.
+    let e : getD w (dartAt p j) 0 ≡ markOf (letterOf p j) + opened (letterOf p) j = g .begun j h o in
+    let few : opened (letterOf p) j < 8192 =
+    (let z = opened-bound p (fit-toured 0x104 p fits) (fit-parts 0x104 p fits .count) j h o in
+    let c = count-parts (darts p) (fit-parts 0x104 p fits .count) in omega arith) in
+    subst (λ (m : ℕ). (m < 32768) × (m % 8192 ≡ opened (letterOf p) j)) (sym e) (open-mark (letterOf p j) (opened (letterOf p) j) o few))
+    (λ j h o. g .ended j h o)
+
+-- ---- what is left after the early refusals
+
+-- w₁ is the work area when the entries are tested, w₂ when the plan is walked
+pub record Begun (table : Table) (k : ℕ) (p : Plan) (w out w₁ w₂ : List ℕ) (b : Bool) : Type 0 where
+  pub stands : tableRefused table ≡ false
+  pub kept : length w₁ ≡ length w
+  pub passes : earlyRefusal k p (length w₁) (length out) ≡ 0
+  pub walk : Walked k (withOutside p 0) w₁ b w₂
+
+module _ {table : Table} {k : ℕ} {p : Plan} {w out w₁ w₂ : List ℕ} {b : Bool} (begun : Begun table k p w out w₁ w₂ b) where
+  left : writeRefusal table k p (length w) (length out) ≡ laterRefusal table k p (length out)
+  unfolding laterRefusal lastRefusal
+  left = refusal-split table k p (length w) (length out) (begun .stands)
+      ∙ rw (ap (λ (l : ℕ). earlyRefusal k p l (length out)) (sym (begun .kept)) ∙ begun .passes)
+
+  handed : Passed k p (length w₁) (length out)
+  handed = early-parts k p (length w₁) (length out) (begun .passes)
+
+  module _ (yes-fits : b ≡ true) where
+    other : k ≢ 3
+    other = begun .walk .fits yes-fits .0
+
+    fitting : Fitting (family k) (withOutside p 0) w₂
+    fitting = begun .walk .fits yes-fits .1
+
+    none-late : lateRefusal (family k) p ≡ 0
+    none-late = sound-late (family k) p (family-not-three k (handed .kind) other) (fitting .sound)
+
+    fits : fit k p ≡ true
+    fits = passed k p (length w₁) (length out) (begun .passes) none-late
+
+    room : 16 * darts p ≤ length w₂
+    room = omega (arith, handed .room, begun .walk .kept)
+
+    pub walk-laid : ToLay k p w₂ out
+    walk-laid = record {
+      other = other;
+      fits = fits;
+      spelt = record {
+        letters = λ f. fitting .letters f ∙ ap (map code) (same-word p 0);
+        bits = λ f. fitting .bits f ∙ ap (wordBits false) (same-word p 0);
+        labels = λ f. fitting .labels f ∙ ap wordLabels (same-word p 0);
+      };
+      marks = λ s. marked (family k) p w₂ (fit-widest k p fits s) (omega (arith, room)) fitting;
+      room = room;
+      space = handed .space (ne-eqb k 3 other);
+    }
+
+    pub made-fast : (n : ℕ) (out′ : List ℕ) → Recorded table k p out n out′ → Made table k p w out (written.Length n) w₂ out′
+    unfolding laterRefusal lastRefusal lastRefusals firstRefusal answerOf
+    made-fast n out′ r =
+        let none : writeRefusal table k p (length w) (length out) ≡ 0 = left ∙ rw (none-late, ne-eqb k 3 other) in
+        record { answered = rw (none, r .answered); filled = r .filled ∙ rw none; kept = begun .walk .kept ∙ begun .kept }
+
+  module _ (not-fit : b ≡ false) where
+    pub to-judge : ToJudge k p w₂
+    to-judge = record {
+      count = handed .count;
+      entries = handed .entries;
+      root-in = handed .root;
+      room = omega (arith, handed .room, begun .walk .kept);
+      checked = λ e. (
+        eq-split k 3 (λ q. q)
+            (λ n. absurd (begun .walk .unfit not-fit n (late-sound (family k) p (family-not-three k (handed .kind) n) e))),
+        passed k p (length w₁) (length out) (begun .passes) e,
+      );
+    }
+
+    pub made-slow : (a : Written) (w₃ out′ : List ℕ) → Answered (laterRefusal table k p (length out)) table k p w₂ out a w₃ out′ → Made table k p w out a w₃ out′
+    made-slow a w₃ out′ r = record { answered = r .answered ∙ rw left; filled = r .filled ∙ rw left; kept = r .kept ∙ begun .walk .kept ∙ begun .kept }
+
+-- ---- a mesh
 
 -- a mesh's record knows nothing of the outside
 mesh-record : (t : Table) (p : Plan) → recordOf t 3 (withOutside p 0) ≡ recordOf t 3 p
 unfolding recordOf payloadOf outsideBytes family storesOutside elem
 mesh-record t p = ap (λ (ts : List ℕ). headed 3 (edges (p .rotation)) (meshPayload t ts)) (types-outside p 0)
 
-module _ (t : Table) {bs : List ℕ} {k : ℕ} (p : Plan) {w out : List ℕ} {n : ℕ} {w′ out′ : List ℕ} (three : k ≡ 3) (same : t .bytes ≡ bs)
+module _ (t : Table) {bs : List ℕ} (p : Plan) {w out : List ℕ} {n : ℕ} {w′ out′ : List ℕ} (same : t .bytes ≡ bs)
     (m : MeshRecorded bs (withOutside p 0) w out n w′ out′) where
   abbrev full : ℕ
   full = length (recordOf t 3 p)
@@ -96,88 +220,74 @@ module _ (t : Table) {bs : List ℕ} {k : ℕ} (p : Plan) {w out : List ℕ} {n 
   unfolding recordOf
   some-bytes = let l = headed-length 3 (edges (p .rotation)) (outsideBytes 3 p ++ payloadOf t (family 3) p) in omega arith
 
-  pub mesh-refused : n ≡ 0 → Laid t k p w out (written.Refused 8) w′ out′
-  unfolding lastRefusals firstRefusal answerOf
+  pub mesh-refused : n ≡ 0 → Answered (lastRefusal t 3 p (length out)) t 3 p w out (written.Refused 8) w′ out′
+  unfolding lastRefusal lastRefusals firstRefusal answerOf
   mesh-refused none = go (ltb (length out) full) refl
     where
-      go : (b : Bool) → ltb (length out) full ≡ b → Laid t k p w out (written.Refused 8) w′ out′
-      go true e = record { answered = rw (three, e); filled = filled ∙ rw (three, e); kept = m .kept }
+      go : (b : Bool) → ltb (length out) full ≡ b → Answered (lastRefusal t 3 p (length out)) t 3 p w out (written.Refused 8) w′ out′
+      go true e = record { answered = rw e; filled = filled ∙ rw e; kept = m .kept }
       go false e = let z = rw e at answered in let l = some-bytes in absurd (omega arith)
 
-  pub mesh-laid : n ≢ 0 → Laid t k p w out (written.Length n) w′ out′
-  unfolding lastRefusals firstRefusal answerOf
+  pub mesh-laid : n ≢ 0 → Answered (lastRefusal t 3 p (length out)) t 3 p w out (written.Length n) w′ out′
+  unfolding lastRefusal lastRefusals firstRefusal answerOf
   mesh-laid some = go (ltb (length out) full) refl
     where
-      go : (b : Bool) → ltb (length out) full ≡ b → Laid t k p w out (written.Length n) w′ out′
+      go : (b : Bool) → ltb (length out) full ≡ b → Answered (lastRefusal t 3 p (length out)) t 3 p w out (written.Length n) w′ out′
       go true e = absurd (some (rw e at answered))
-      go false e = record { answered = rw (three, e) (ap written.Length (rw e at answered)); filled = filled ∙ rw (three, e); kept = m .kept }
+      go false e = record { answered = rw e (ap written.Length (rw e at answered)); filled = filled ∙ rw e; kept = m .kept }
 
 -- what writing a mesh asks
-pub mesh-asked : (bs : List ℕ) {k : ℕ} {p : Plan} {w out : List ℕ} → k ≡ 3 → length bs ≡ 243 → ToLay k p w out
+pub mesh-asked : (bs : List ℕ) (p : Plan) (w : List ℕ) → length bs ≡ 243 → fit 3 p ≡ true → 16 * darts p ≤ length w
     → (length bs ≡ 243) × (fit 3 (withOutside p 0) ≡ true) × (16 * darts p ≤ length w)
 unfolding storesOutside elem
-mesh-asked bs {k} {p} three long r =
-    (long, fit-outside p 0 3 (subst (λ (j : ℕ). fit j p ≡ true) three (r .fits)) (λ s. absurd (false≢true s)), r .room)
+mesh-asked bs p w long e wide = (long, fit-outside p 0 3 e (λ s. absurd (false≢true s)), wide)
 
 -- ---- the verdict
 
-pub record Told (table : Table) (k : ℕ) (p : Plan) (w out : List ℕ) (v : Verdict) (w₁ : List ℕ) : Type 0 where
-  pub stands : tableRefused table ≡ false
-  pub passed : earlyRefusal k p (length w) (length out) ≡ 0
+pub record Told (k : ℕ) (p : Plan) (w : List ℕ) (v : Verdict) (w₁ : List ℕ) : Type 0 where
+  pub asked : ToJudge k p w
   pub judged : Judged (family k) (withOutside p 0) w v w₁
 
-pub tell : {table : Table} {k : ℕ} {p : Plan} {w out : List ℕ} {v : Verdict} {w₁ : List ℕ} (f : ℕ) → tableRefused table ≡ false → earlyRefusal k p (length w) (length out) ≡ 0 → f ≡ family k
-    → Judged f (withOutside p 0) w v w₁ → Told table k p w out v w₁
-tell {table} {k} {p} {w} {out} {v} {w₁} f stands e of j = record { stands = stands; passed = e; judged = subst (λ (g : ℕ). Judged g (withOutside p 0) w v w₁) of j }
+pub tell : {k : ℕ} {p : Plan} {w : List ℕ} {v : Verdict} {w₁ : List ℕ} (f : ℕ) → ToJudge k p w → f ≡ family k → Judged f (withOutside p 0) w v w₁ → Told k p w v w₁
+tell {k} {p} {w} {v} {w₁} f asked of j = record { asked = asked; judged = subst (λ (g : ℕ). Judged g (withOutside p 0) w v w₁) of j }
 
-module _ {table : Table} {k : ℕ} {p : Plan} {w out : List ℕ} {v : Verdict} {w₁ : List ℕ} (t : Told table k p w out v w₁) where
-  whole : writeRefusal table k p (length w) (length out)
-      ≡ (let r = lateRefusal (family k) (withOutside p 0) in cond (eqb r 0) (firstRefusal (lastRefusals table k p (length out))) r)
-  whole = refusal-split table k p (length w) (length out) (t .stands) ∙ rw (t .passed, same-late (family k) p)
-
-  late-first : eqb (lateRefusal (family k) (withOutside p 0)) 0 ≡ false → writeRefusal table k p (length w) (length out) ≡ lateRefusal (family k) (withOutside p 0)
-  late-first some = whole ∙ rw some
-
+module _ (out : List ℕ) {k : ℕ} {p : Plan} {w : List ℕ} {v : Verdict} {w₁ : List ℕ} (told : Told k p w v w₁) where
   -- the verdict of this form is the plan's
   found : {u : Verdict} → v ≡ u → u ≡ verdictOf (family k) (withOutside p 0)
-  found z = sym z ∙ t .judged .answered
+  found z = sym z ∙ told .judged .answered
 
-  pub judged-refused : {r : ℕ} → v ≡ verdict.Refused r → Made table k p w out (written.Refused r) w₁ out
-  unfolding writeAnswer answerOf writtenOutput
-  judged-refused z =
+  pub judged-refused : {r : ℕ} → v ≡ verdict.Refused r → (table : Table) → Answered (laterRefusal table k p (length out)) table k p w out (written.Refused r) w₁ out
+  unfolding answerOf laterRefusal
+  judged-refused z table =
       let (late, some, other) = verdict-refused (family k) (withOutside p 0) (found z) in
-      let first = late-first some in
-      record { answered = rw (first, some, other) (ap written.Refused (sym late)); filled = rw (first, some); kept = t .judged .kept }
+      record {
+        answered = rw (← same-late (family k) p, some, some, other) (ap written.Refused (sym late));
+        filled = rw (← same-late (family k) p, some, some);
+        kept = told .judged .kept;
+      }
 
-  pub judged-curved : {x : ℤ} → v ≡ verdict.NotPlanar x → Made table k p w out (written.NotPlanar x) w₁ out
-  unfolding writeAnswer answerOf writtenOutput
-  judged-curved z =
+  pub judged-curved : {x : ℤ} → v ≡ verdict.NotPlanar x → (table : Table) → Answered (laterRefusal table k p (length out)) table k p w out (written.NotPlanar x) w₁ out
+  unfolding answerOf laterRefusal
+  judged-curved z table =
       let (late, e) = verdict-curved (family k) (withOutside p 0) (found z) in
-      let first : writeRefusal table k p (length w) (length out) ≡ 10 = whole ∙ rw late in
-      record { answered = rw first (ap written.NotPlanar e); filled = rw first; kept = t .judged .kept }
+      let first : lateRefusal (family k) p ≡ 10 = sym (same-late (family k) p) ∙ late in
+      record { answered = rw first (ap written.NotPlanar e); filled = rw first; kept = told .judged .kept }
 
   module _ {f : ℕ} (z : v ≡ verdict.Fits f) where
-    late : lateRefusal (family k) (withOutside p 0) ≡ 0
-    late = verdict-fits (family k) (withOutside p 0) (found z) .0
+    none-refused : lateRefusal (family k) p ≡ 0
+    none-refused = sym (same-late (family k) p) ∙ verdict-fits (family k) (withOutside p 0) (found z) .0
 
-    last-left : writeRefusal table k p (length w) (length out) ≡ firstRefusal (lastRefusals table k p (length out))
-    last-left = whole ∙ rw late
+    three : k ≡ 3
+    three = told .asked .checked none-refused .0
 
-    pub to-lay : ToLay k p w₁ out
-    to-lay =
-        let q = early-parts k p (length w) (length out) (t .passed) in
-        record {
-          fits = passed k p (length w) (length out) (t .passed) (sym (same-late (family k) p) ∙ late);
-          letters = t .judged .letters late ∙ ap (map code) (same-word p 0);
-          names = t .judged .names late;
-          room = omega (arith, q .room, t .judged .kept);
-          space = q .space;
-        }
+    pub mesh-fits : fit 3 p ≡ true
+    mesh-fits = subst (λ (j : ℕ). fit j p ≡ true) three (told .asked .checked none-refused .1)
 
-    pub made : {a : Written} {w₂ out′ : List ℕ} → Laid table k p w₁ out a w₂ out′ → Made table k p w out a w₂ out′
-    unfolding writtenOutput writeAnswer
-    made {a} {w₂} {out′} l = record {
-      answered = rw last-left (l .answered);
-      filled = l .filled ∙ rw last-left;
-      kept = l .kept ∙ t .judged .kept;
-    }
+    pub judged-mesh : (table : Table) {a : Written} {w₂ out′ : List ℕ} → Answered (lastRefusal table 3 p (length out)) table 3 p w₁ out a w₂ out′
+        → Answered (laterRefusal table k p (length out)) table k p w out a w₂ out′
+    unfolding laterRefusal
+    judged-mesh table {a} {w₂} {out′} r =
+        let last : laterRefusal table k p (length out) ≡ lastRefusal table 3 p (length out) = rw none-refused (ap (λ (j : ℕ). lastRefusal table j p (length out)) three) in
+        let q : Answered (lastRefusal table 3 p (length out)) table k p w₁ out a w₂ out′ =
+        subst (λ (j : ℕ). Answered (lastRefusal table 3 p (length out)) table j p w₁ out a w₂ out′) (sym three) r in
+        record { answered = q .answered ∙ rw last; filled = q .filled ∙ rw last; kept = q .kept ∙ told .judged .kept }

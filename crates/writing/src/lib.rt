@@ -3,77 +3,38 @@ use fitting::Verdict;
 use model::Table;
 use model::Written;
 ghost use mathlib.Core.Path.{_≡_};
-ghost use mathlib.Core.Logic.{_≢_};
 ghost use mathlib.Core.Bool.{true};
-ghost use lib.ListN.{length};
-ghost use Rattle.model.specs.Map.{storesOutside};
-ghost use Rattle.model.specs.Traversal.{standardFace};
+ghost use Prim.Native.Nat.{_*_, _≤_, _<_};
+ghost use lib.ListN.{length, replicate};
+ghost use Rattle.model.specs.Numbers.{isPermutation};
+ghost use Rattle.model.specs.Map.{dartCountFits, fit};
 ghost use Rattle.model.specs.Calls.{Wrote};
-ghost use Rattle.outside.specs.Numbered.{Mapped};
-ghost use Rattle.writing.specs.Made.{Made};
-ghost use Rattle.writing.specs.Laid.{Ready, Packed, Tabled, ToLay, RecordedUnder, LaidUnder};
+ghost use Rattle.work.specs.Area.{region};
+ghost use Rattle.writing.specs.Made.{Made, LaidUnder, JudgedUnder, Walked, ToJudge};
 
-// The payload of a plan of n darts whose word is in the work area, from place at on, with a group's value for its byte.
-fn put_values(w: &mut [u16], n: usize, family: u16, out: &mut [u8], at: usize)
-    requires { ⌜ Ready n family at (now w) (now out) ⌝ }
-    ensures { λ _. ⌜ Packed n family at (now (w .entry)) (now (out .entry)) (now (w .exit)) (now (out .exit)) ⌝ }
-{
-    if family == 4 {
-        letter_packer::put_payload(w, n / 2, out, at);
-        return;
-    }
-    encoder::encode(w, n);
-    packer::put_payload(w, family, n / 2, out, at);
-}
-
-// The payload, under the table with these bytes.
-fn put_payload(bytes: &[u8], w: &mut [u16], n: usize, family: u16, out: &mut [u8], at: usize)
-    requires { ⌜ (length (now bytes) ≡ 243) × Ready n family at (now w) (now out) ⌝ }
-    ensures { λ _. ⌜ Tabled (now (bytes .entry)) n family at (now (w .entry)) (now (out .entry)) (now (w .exit)) (now (out .exit)) ⌝ }
-{
-    put_values(w, n, family, out, at);
-    if family != 2 {
-        return;
-    }
-    tables::apply(bytes, out, at + (n + 7) / 8, (n / 2 + 4) / 5);
-}
-
-// The number of the outside in the record; 0 in a kind without it.
-fn stored(order: &[u16], root: u16, outside: u16, kind: u16, w: &[u16]) -> u16
-    requires { ⌜ (storesOutside kind ≡ true → Mapped (record { rotation = now order; root = root; outside = outside }) (now w)) ⌝ }
-    ensures { λ r. ⌜ (storesOutside kind ≡ true → r ≡ standardFace (record { rotation = now (order .entry); root = root; outside = outside }) outside) ⌝ }
-{
-    if heads::stores_outside(kind) {
-        return outside::number(order, root as usize, outside as usize, w);
-    }
-    0
-}
-
-// The record of a plan that fits a kind other than 3, whose word and faces are in the work area.
-fn laid_out(
+// The answer for a mesh: its record, but 8 where the record is known to be too long only now.
+fn mesh(
     bytes: &[u8],
     order: &[u16],
     root: u16,
     outside: u16,
-    kind: u16,
     w: &mut [u16],
     out: &mut [u8],
-) -> u16
-    requires { ⌜ (length (now bytes) ≡ 243) × (kind ≢ 3) × ToLay kind (record { rotation = now order; root = root; outside = outside }) (now w) (now out) ⌝ }
-    ensures { λ r. ⌜ RecordedUnder (now (bytes .entry)) kind (record { rotation = now (order .entry); root = root; outside = outside })
+) -> Written
+    requires { ⌜ (length (now bytes) ≡ 243) × (fit 3 (record { rotation = now order; root = root; outside = outside }) ≡ true)
+        × (16 * length (now order) ≤ length (now w)) ⌝ }
+    ensures { λ r. ⌜ LaidUnder (now (bytes .entry)) 3 (record { rotation = now (order .entry); root = root; outside = outside })
         (now (w .entry)) (now (out .entry)) r (now (w .exit)) (now (out .exit)) ⌝ }
 {
-    let n = order.len();
-    let m = (n / 2) as u16;
-    let x = stored(order, root, outside, kind, w);
-    let length = heads::record_length(kind, m) as u16;
-    let at = packer::put_head(out, length, kind, m, x);
-    put_payload(bytes, w, n, heads::family(kind), out, at);
-    length
+    let length = mesh_writing::write(bytes, order, root, w, out);
+    if length == 0 {
+        return Written::Refused(8);
+    }
+    Written::Length(length)
 }
 
-// The answer for a plan that fits: its record, but 8 where the record is known to be too long only now.
-fn written(
+// The answer for a plan of kind 3, or for one that the walk has found unfit: by its verdict.
+fn judged(
     bytes: &[u8],
     order: &[u16],
     root: u16,
@@ -82,18 +43,28 @@ fn written(
     w: &mut [u16],
     out: &mut [u8],
 ) -> Written
-    requires { ⌜ (length (now bytes) ≡ 243) × ToLay kind (record { rotation = now order; root = root; outside = outside }) (now w) (now out) ⌝ }
-    ensures { λ r. ⌜ LaidUnder (now (bytes .entry)) kind (record { rotation = now (order .entry); root = root; outside = outside })
+    requires { ⌜ (length (now bytes) ≡ 243) × ToJudge kind (record { rotation = now order; root = root; outside = outside }) (now w) ⌝ }
+    ensures { λ r. ⌜ JudgedUnder (now (bytes .entry)) kind (record { rotation = now (order .entry); root = root; outside = outside })
         (now (w .entry)) (now (out .entry)) r (now (w .exit)) (now (out .exit)) ⌝ }
 {
-    if kind == 3 {
-        let length = mesh_writing::write(bytes, order, root, w, out);
-        if length == 0 {
-            return Written::Refused(8);
-        }
-        return Written::Length(length);
+    let v = fitting::judge(order, root as usize, heads::family(kind), w);
+    match v {
+        Verdict::Refused(x) => Written::Refused(x),
+        Verdict::NotPlanar(x) => Written::NotPlanar(x),
+        Verdict::Fits(_) => mesh(bytes, order, root, outside, w, out), // of another kind none fits
     }
-    Written::Length(laid_out(bytes, order, root, outside, kind, w, out))
+}
+
+// Whether the plan is of a kind other than 3 and fits; then what its record is made of is in the work area.
+fn walked(order: &[u16], root: u16, kind: u16, w: &mut [u16]) -> bool
+    requires { ⌜ (dartCountFits (length (now order)) ≡ true) × (isPermutation (now order) ≡ true) × (root < length (now order))
+        × (16 * length (now order) ≤ length (now w)) × (region 0 (length (now order)) (now w) ≡ replicate (length (now order)) 0) ⌝ }
+    ensures { λ r. ⌜ Walked kind (record { rotation = now (order .entry); root = root; outside = 0 }) (now (w .entry)) r (now (w .exit)) ⌝ }
+{
+    if kind == 3 {
+        return false;
+    }
+    tracing::walk(order, root as usize, heads::family(kind), w)
 }
 
 // The answer and the output, before the work area is cleared.
@@ -114,16 +85,16 @@ fn made<'a>(
     if !tables::is_loaded(bytes, inverse) {
         return Written::Refused(19);
     }
-    let r = write_checks::early(order, root, outside, kind, w.len(), out.len());
+    let good = write_checks::entries_good(order, w);
+    let r = write_checks::early(order, root, outside, kind, good, w.len(), out.len());
     if r != 0 {
         return Written::Refused(r);
     }
-    let v = fitting::judge(order, root as usize, heads::family(kind), w);
-    match v {
-        Verdict::Refused(x) => Written::Refused(x),
-        Verdict::NotPlanar(x) => Written::NotPlanar(x),
-        Verdict::Fits(_) => written(bytes, order, root, outside, kind, w, out),
+    if walked(order, root, kind, w) {
+        let length = laying::laid_out(bytes, order, root, outside, kind, w, out);
+        return Written::Length(length);
     }
+    judged(bytes, order, root, outside, kind, w, out)
 }
 
 // A plan is written as a record of this kind. Any content and any length of what is lent.

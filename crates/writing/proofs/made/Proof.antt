@@ -1,13 +1,14 @@
+use native.Mathlib.Omega.{arith}
 use mathlib.Core.Path.{_≡_, refl, sym, _∙_}
 use mathlib.Core.Bool.{false}
+use lib.ListN.{length}
 use borrow.Author.Tests.{not-true, not-false}
-use mir.Facts.{toZ-ofZ}
-use mir.Syntax.{w32}
-use mir.Val.{SFits}
 use Rattle.model.specs.declared.Table.{Table}
 use Rattle.model.specs.Calls.{tableRefused}
+use Rattle.model.proofs.Fitness.{count-parts}
+use Rattle.write_checks.specs.Early.{earlyRefusal}
 use Rattle.write_checks.proofs.Refusing.{early-parts}
-use Rattle.writing.proofs.Making.{no-table, turned-away, Told, tell, judged-refused, judged-curved, to-lay, made}
+use Rattle.writing.proofs.Making.{no-table, turned-away, Begun, walk-laid, made-fast, to-judge, made-slow}
 use borrow.Author.Needs.{needs}
 use Rattle.writing.proofs.made.Statement.{statement}
 use Rattle.writing.proofs.made.Tie as tie
@@ -19,59 +20,104 @@ table c = record { bytes = c .args .bytes .now; inverse = c .args .inverse .now 
 stands : (c : tie.Else1) → tableRefused (table (c .before .before .before .before .before .before .before)) ≡ false
 stands c = not-true _ (sym (c .before .is-loaded .ensures) ∙ not-false _ (c .if1 .left))
 
--- the plan is judged
-told : (c : tie.After-judge) → let st = c .before .before .before .before .before .before .before .before .before .before .before .before in let a = st .args in
-    Told (table st) (a .kind) (record { rotation = a .order .now; root = a .root; outside = a .outside }) (a .w .now) (a .out .now)
-    (c .judge .result) (c .judge .last .1 .1 .1 .0)
-told c =
-    let e = c .before .before .before in
-    tell _ (stands (e .before .before)) (sym (e .before .early .ensures) ∙ e .if2 .left) (c .before .before .family .ensures) (c .judge .ensures)
+-- the early refusals are passed
+abbrev start : tie.Else2 → tie.Start
+start c = c .before .before .before .before .before .before .before .before .before .before .before .before .before
+
+passes : (c : tie.Else2) → let a = start c .args in
+    earlyRefusal (a .kind) (record { rotation = a .order .now; root = a .root; outside = a .outside })
+    (length (c .before .before .before .before .entries-good .last .1 .0)) (length (a .out .now)) ≡ 0
+passes c = sym (c .before .early .ensures) ∙ c .if2 .left
+
+-- and the plan is walked
+begun : (c : tie.After-walked) →
+    let st = start (c .before .before) in
+    let a = st .args in
+    Begun (table st) (a .kind) (record { rotation = a .order .now; root = a .root; outside = a .outside }) (a .w .now) (a .out .now)
+    (c .before .before .before .before .before .before .entries-good .last .1 .0) (c .walked .last .1 .1 .1 .0) (c .walked .result)
+begun c = record {
+  stands = stands (c .before .before .before .before .before .before .before .before);
+  kept = c .before .before .before .before .before .before .entries-good .kept .1 .0;
+  passes = passes (c .before .before);
+  walk = c .walked .ensures;
+}
+
+is-loaded-requires : tie.Need-is-loaded-requires
+is-loaded-requires c κs = search needs
 
 returns : tie.Need-returns
 returns c = no-table (not-false _ (sym (c .before .is-loaded .ensures) ∙ not-true _ (c .if1 .taken)))
 
+entries-good-requires : tie.Need-entries-good-requires
+entries-good-requires c κs = search needs
+
+early-requires : tie.Need-early-requires
+early-requires c κs = λ l. c .before .before .entries-good .ensures .answer l
+
+same-length : tie.Need-same-length
+same-length c = search needs
+
 returns-2 : tie.Need-returns-2
-returns-2 c = turned-away (stands (c .before .before)) (c .before .early .ensures) (c .if2 .taken)
+returns-2 c =
+    turned-away (stands (c .before .before .before .before .before .before)) (c .before .before .before .before .entries-good .kept .1 .0)
+    (c .before .early .ensures) (c .if2 .taken)
 
-judge-requires : tie.Need-judge-requires
-judge-requires c κs =
-    let q = early-parts _ _ _ _ (sym (c .before .before .before .early .ensures) ∙ c .before .before .if2 .left) in
-    (q .count, q .entries, q .root, q .room)
+walked-requires : tie.Need-walked-requires
+walked-requires c κs =
+    let q = early-parts _ _ _ _ (passes (c .before)) in
+    let g = c .before .before .before .before .before .entries-good in
+    let good = g .ensures .answer (count-parts _ (q .count) .2) ∙ q .entries in
+    (q .count, q .entries, q .root, q .room, g .ensures .zeros good (omega (arith, q .room, g .kept .1 .0)))
 
-written-requires : tie.Need-written-requires
-written-requires c κs = (c .before .before .before .before .before .before .before .before .before .before .before .before .before .before .before .before .before .before .pre .0, to-lay (told (c .before .before .before .before .before .before)) (c .before .before .enum-told .given .1))
+laid-out-requires : tie.Need-laid-out-requires
+laid-out-requires c κs =
+    let a = c .before .before .before .before .before in
+    (start (a .before .before) .pre .0, walk-laid (begun a) (c .before .before .if3 .taken))
+
+same-length-2 : tie.Need-same-length-2
+same-length-2 c = search needs
+
+same-length-3 : tie.Need-same-length-3
+same-length-3 c = search needs
 
 returns-3 : tie.Need-returns-3
-returns-3 c = judged-refused (told (c .before .before .before .before .before)) (c .before .v .given .1)
+returns-3 c =
+    let a = c .before .before .before .before .before .before .before .before in
+    made-fast (begun a) (c .before .before .before .before .before .if3 .taken) _ _ (c .before .before .laid-out .ensures (table (start (a .before .before))) refl)
+
+judged-requires : tie.Need-judged-requires
+judged-requires c κs =
+    let a = c .before .before .before .before .before in
+    (start (a .before .before) .pre .0, to-judge (begun a) (c .before .before .if3 .left))
+
+same-length-4 : tie.Need-same-length-4
+same-length-4 c = search needs
+
+same-length-5 : tie.Need-same-length-5
+same-length-5 c = search needs
 
 returns-4 : tie.Need-returns-4
 returns-4 c =
-    let fits : SFits w32 (c .before .v2 .given .0 .0) = record { sfits = c .known-told2 .given .0 .1 } in
-    rw (toZ-ofZ fits) (judged-curved (told (c .before .before .before .before .before)) (c .before .v2 .given .1))
-
-returns-5 : tie.Need-returns-5
-returns-5 c =
-    let t = table (c .before .before .before .before .before .before .before .before .before .before .before .before .before .before .before .before .before .before .before .before .before .before .before) in
-    made (told (c .before .before .before .before .before .before .before .before .before .before .before)) (c .before .before .before .before .before .before .before .enum-told .given .1) (c .before .before .before .before .written .ensures t refl)
+    let a = c .before .before .before .before .before .before .before .before .before .before in
+    made-slow (begun a) (c .before .before .before .before .before .before .before .if3 .left) _ _ _
+    (c .before .before .before .before .judged .ensures (table (start (a .before .before))) refl)
 
 pub made-spec : {M : Type 1} → statement M
 made-spec =
     tie.close
     (tie.spec
-    (λ c κs. search needs)
+    is-loaded-requires
     returns
-    (λ c κs. search needs)
+    entries-good-requires
+    early-requires
+    same-length
     returns-2
-    (λ c κs. search needs)
-    judge-requires
-    (λ c. search needs)
-    (λ c. search needs)
-    (λ c. search needs)
-    written-requires
-    (λ c. search needs)
+    walked-requires
+    laid-out-requires
+    same-length-2
+    same-length-3
     returns-3
-    (λ c. search needs)
-    returns-4
-    (λ c. search needs)
-    (λ c. search needs)
-    returns-5)
+    judged-requires
+    same-length-4
+    same-length-5
+    returns-4)

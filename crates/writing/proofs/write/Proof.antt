@@ -1,13 +1,13 @@
 use Prim.Native.Nat.{ℕ}
 use mathlib.Core.Path.{ap, _∙_}
 use lib.ListN.{replicate}
-use Rattle.model.specs.Calls.{zeros}
+use Rattle.model.specs.Calls.{zeros, writeAnswer, writtenOutput}
 use borrow.Author.Needs.{needs}
 use Rattle.writing.proofs.write.Statement.{statement}
 use Rattle.writing.proofs.write.Tie as tie
 
 returns : tie.Need-returns
-unfolding zeros
+unfolding zeros writeAnswer writtenOutput
 returns c =
     let m = c .before .before .before .before .before .before .before .before .made in
     record {

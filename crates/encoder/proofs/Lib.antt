@@ -1,5 +1,0 @@
-mod Suffixes
-mod Letters
-mod Held
-mod Places
-mod Scanning
