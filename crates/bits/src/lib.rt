@@ -1,7 +1,7 @@
 // Bits and labels of byte slices: a bit or a label read at its place, a bit put where 0 stands. Labels stand in groups, under a table's inverse.
 // It knows bytes and digits, no heads of records and no plans.
 ghost use mathlib.Core.Path.{_≡_};
-ghost use Prim.Native.Nat.{_-_, _*_, _^_, _<_, _≤_};
+ghost use Prim.Native.Nat.{_-_, _*_, _/_, _%_, _^_, _<_, _≤_};
 ghost use lib.ListN.{length, getD, set, drop};
 ghost use Rattle.packing.specs.Unpack.{bits, groups};
 ghost use Rattle.packing.specs.Groups.{valuesOf};
@@ -26,24 +26,24 @@ pub fn put_bit(s: &mut [u8], k: usize, bit: u8)
     s[q] = b + (bit << (7 - k % 8));
 }
 
-// What label j of a group counts.
-fn place_value(j: usize) -> u8
+// Label j of a group with this value. The divisors are constants, for speed.
+fn label_in(group: u8, j: usize) -> u8
     requires { ⌜ j < 5 ⌝ }
-    ensures { λ r. ⌜ r ≡ 3 ^ (4 - j) ⌝ }
+    ensures { λ r. ⌜ r ≡ group / 3 ^ (4 - j) % 3 ⌝ }
 {
     if j == 0 {
-        return 81;
+        return group / 81 % 3;
     }
     if j == 1 {
-        return 27;
+        return group / 27 % 3;
     }
     if j == 2 {
-        return 9;
+        return group / 9 % 3;
     }
     if j == 3 {
-        return 3;
+        return group / 3 % 3;
     }
-    1
+    group % 3
 }
 
 // Label i of the groups from byte `from` on.
@@ -54,6 +54,5 @@ pub fn label_at(s: &[u8], inverse: &[u8], from: usize, i: usize) -> u8
     let q = from + i / 5;
     let b = s[q] as usize;
     let group = inverse[b];
-    let v = place_value(i % 5);
-    group / v % 3
+    label_in(group, i % 5)
 }

@@ -1,6 +1,9 @@
-mod Labels
-mod Cursors
-mod Leaves
+mod Areas
+mod Letters
 mod Moves
-mod Openings
 mod Runs
+mod Windows
+mod Descents
+mod Stretches
+mod Openings
+mod Answers

@@ -1,249 +1,250 @@
--- One turn of the machine in the code's terms: the builder's letters are the turn that the machine makes. Assumes nothing.
+-- One turn in the work area: what is stored is what the machine reads. s is the state before it, which fits the work area w. Assumes nothing.
 --
---   closing, early, empty the turn after an edge of label 1 has ended
---   rising, at-root       the next bit is 0
---   unread-moved          moving a cursor by one bit and back
---   one-read              the next bit is not 0, and the cursor is moved on
---   no-bit, no-label      a bit and a label should follow, and one of these is missing
---   room-left             both follow, and there is room for the edge that begins
---   leafing, backing, entering   what begins
---   open-left, label-left, finishing   no bit is left
-use Prim.Native.Nat.{ℕ, _+_, _-_, _*_, _≤_, _<_}
+--   open-top              the edge outside the tree that was opened last is stacked in range
+--   tree-top              so is the tree edge
+--   closing, rising, leafing, backing, entering   the turns
+--   none-passed, more-passed, fewer-passed   no letter is read; more letters are; fewer would do
+use Prim.Native.Nat.{ℕ, _+_, _-_, _*_, _/_, _%_, _≤_, _<_}
 use native.Mathlib.Numerals.{add-one}
 use native.Mathlib.Omega.{arith}
-use mathlib.Core.Path.{_≡_, refl, sym, ap, subst, _∙_}
+use mathlib.Core.Path.{_≡_, refl, ap, subst, _∙_}
 use mathlib.Core.Logic.{_≢_}
-use mathlib.Core.List.{List, [], _∷_}
-use lib.ListN.{length, getD, drop, length-drop, drop-of-length-le}
-use lib.Seq.{drop-cons}
-use Rattle.model.specs.Traversal.{Letter, down, up, first, second}
+use mathlib.Core.Bool.{true}
+use mathlib.Core.List.{List, _∷_}
+use lib.ListN.{length, getD, set, drop, length-set}
+use Rattle.model.specs.Numbers.{allBelow}
 use Rattle.model.specs.LabelledTree.{star}
-use Rattle.words.specs.Word.{Machine, goes, done, stuck, turn, head, tail}
-use Rattle.machine.proofs.Lengths.{head-tail}
-use Rattle.machine.proofs.Turns.{turn-close, stuck-none, stuck-early, turn-up, stuck-root, turn-done, stuck-left}
-use Rattle.machine.proofs.Turns.{turn-star, turn-back, turn-tree, stuck-bit, stuck-label}
-use Rattle.work.specs.Area.{stack}
+use Rattle.model.proofs.Below.{below-cons, below-head, below-tail, below-mono}
+use Rattle.work.specs.Map.{BELOW, BEGUN, OPENS}
 use Rattle.unpacker.specs.Unpacked.{labelsAt}
-use Rattle.builder.specs.declared.State.{State}
-use Rattle.builder.specs.Steps.{Parts, partsOf, partsAt, stateAfter, partsAfter, edgeOf, begunAfter, Room, Stepped}
-use Rattle.builder.proofs.Parts.{below-long, trees-long, begun-long, opens-long}
-use Rattle.builder.proofs.Steps.{stepped-stands, stepped-built}
-use Rattle.decoder.specs.declared.Cursor.{Cursor}
-use Rattle.decoder.specs.States.{labelsOf, machineOf, machineAt, unread, bitOn, labelOn, Fits, OneRead, Leafed, Moved}
-use Rattle.decoder.proofs.Labels.{label-count, labels-kept, label-first, labels-rest}
-use Rattle.decoder.proofs.Cursors.{BitRead, BothRead}
+use Rattle.decoder.specs.declared.State.{State}
+use Rattle.decoder.specs.States.{Area, areaOf, areaAt, at, leafState, leafArea, backState, backArea, enterState, enterArea, Hangs, Stacked, Fits}
+use Rattle.decoder.specs.Turns.{Read, Passed}
+use Rattle.decoder.proofs.Areas.{entered, pushedTree, pushedOpen, labels-beside, dart-entered, tree-pushed, open-pushed, tree-popped, open-popped}
+use Rattle.decoder.proofs.Letters as letters
 
-rest-cons : (xs : List ℕ) (k : ℕ) → k < length xs → drop k xs ≡ getD xs k 0 ∷ drop (k + 1) xs
-rest-cons xs k h = rw add-one (drop-cons xs k 0 h)
+-- ---- what is stacked stays in range
 
-some : (xs : List ℕ) → 0 < length xs → xs ≡ head xs ∷ tail xs
-some xs h = sym (head-tail xs (length xs - 1) (omega arith))
+module _ (a : Area) (s : State) (d o p q y : ℕ) where
+  stacked-closed : (v x : ℕ) → Stacked (pushedOpen v x a) s → Stacked (entered q y a) (at (s .edges) (s .here) d o p)
+  stacked-closed v x h = record {
+    hangs = h .hangs;
+    here-in = h .here-in;
+    below-in = h .below-in;
+    begun-in = below-tail (2 * s .edges + 2) v (a .begun) (h .begun-in);
+    opens-in = below-tail (2 * s .edges) x (a .opens) (h .opens-in);
+  }
 
--- ---- a letter moves the machine
+  stacked-risen : (v : ℕ) → Stacked (pushedTree v a) s → Stacked (entered q y a) (at (s .edges) v d o p)
+  unfolding Hangs
+  stacked-risen v h = record {
+    hangs = h .hangs .1;
+    here-in = below-head (2 * s .edges + 2) v (a .below) (h .below-in);
+    below-in = below-tail (2 * s .edges + 2) v (a .below) (h .below-in);
+    begun-in = h .begun-in;
+    opens-in = h .opens-in;
+  }
 
--- the numbers of a state are in range
-abbrev Within : ℕ → State → Cursor → Type 0
-Within m t d = (d .bits ≤ 2 * m) × (d .labels ≤ m) × (t .depth + t .opens ≤ d .labels) × (t .n ≤ d .labels + 1)
+  module _ (h : Stacked a s) where
+    names-below : (xs : List ℕ) → allBelow (2 * s .edges + 2) xs ≡ true → allBelow (2 * (s .edges + 1) + 2) xs ≡ true
+    names-below xs = below-mono (2 * s .edges + 2) (2 * (s .edges + 1) + 2) (omega arith) xs
 
--- a letter x of edge e; k and d are the label and the cursor after it
-module _ (m : ℕ) (bs w : List ℕ) (s : State) (l : ℕ) (c : Cursor) (f : Fits m w s c) where
-  abbrev here : Parts
-  here = partsAt m w s
+    opens-below : allBelow (2 * (s .edges + 1)) (a .opens) ≡ true
+    opens-below = below-mono (2 * s .edges) (2 * (s .edges + 1)) (omega arith) (a .opens) (h .opens-in)
 
-  abbrev machineAfter : Letter → ℕ → ℕ → Cursor → Machine
-  machineAfter x e k d = machineOf bs (labelsAt m w) (partsAfter x here s e) (stateAfter x here s e) k d
+    stacked-leafed : (r z : ℕ) → Stacked (entered r z (entered q y a)) (at (s .edges + 1) (s .here) d o p)
+    stacked-leafed r z = let i = h .here-in in record {
+      hangs = h .hangs;
+      here-in = omega arith;
+      below-in = names-below (a .below) (h .below-in);
+      begun-in = names-below (a .begun) (h .begun-in);
+      opens-in = opens-below;
+    }
 
-  moves : (x : Letter) (e : ℕ) (t : State) (w′ : List ℕ) → Stepped x m w s e t w′ → e < m → e ≡ edgeOf x here (c .labels)
-      → (k : ℕ) (d : Cursor) → turn (machineAt m bs w s l c) ≡ goes (x ∷ []) (machineAfter x e k d)
-      → d .labels ≡ begunAfter x (c .labels) → Within m (stateAfter x here s e) d → Moved m bs w s l c t k d w′
-  moves x e t w′ g small edge k d turns begun within =
-      let (bits-in, labels-in, edges, vertices) = subst (λ (u : State). Within m u d) (sym (g .state-is)) within in
-      record {
-        letters = x ∷ [];
-        turns = rw (g .parts-are, labels-kept g, g .state-is) turns;
-        built = λ v. rw begun (stepped-built x m w s e t w′ g (c .labels) edge v);
-        fits = record {
-          stands = stepped-stands x m w s e t w′ g (f .stands) small (omega arith);
-          bits-in = bits-in;
-          labels-in = labels-in;
-          edges = edges;
-          vertices = vertices;
-        };
-        kept = g .kept;
-      }
+    stacked-backed : (l : ℕ) → l < 2 → Stacked (pushedOpen (s .here) (2 * s .edges + l) (entered q y a)) (at (s .edges + 1) (s .here) d o p)
+    stacked-backed l g = let i = h .here-in in record {
+      hangs = h .hangs;
+      here-in = omega arith;
+      below-in = names-below (a .below) (h .below-in);
+      begun-in = below-cons (2 * (s .edges + 1) + 2) (s .here) (a .begun) (omega arith) (names-below (a .begun) (h .begun-in));
+      opens-in = below-cons (2 * (s .edges + 1)) (2 * s .edges + l) (a .opens) (omega arith) opens-below;
+    }
 
--- ---- an edge of label 1 has ended
+    stacked-entered : (l : ℕ) → l < 2 → Stacked (pushedTree (s .here) (entered q y a)) (at (s .edges + 1) (2 * s .edges + l + 2) d o p)
+    unfolding Hangs
+    stacked-entered l g = let i = h .here-in in record {
+      hangs = (omega arith, h .hangs);
+      here-in = omega arith;
+      below-in = below-cons (2 * (s .edges + 1) + 2) (s .here) (a .below) (omega arith) (names-below (a .below) (h .below-in));
+      begun-in = names-below (a .begun) (h .begun-in);
+      opens-in = opens-below;
+    }
 
-module _ (m : ℕ) (bs w : List ℕ) (s : State) (c : Cursor) where
-  pub empty : s .opens ≡ 0 → turn (machineAt m bs w s 1 c) ≡ stuck
-  unfolding machineOf partsOf stack
-  empty e = stuck-none (machineAt m bs w s 1 c) refl (rw e)
+-- ---- the turns
 
-  module _ (h : 0 < s .opens) where
-    begun-some : partsAt m w s .begun ≡ head (partsAt m w s .begun) ∷ tail (partsAt m w s .begun)
-    begun-some = let k = begun-long m w (s .depth) (s .opens) in some _ (omega arith)
+module _ (m : ℕ) (w : List ℕ) (s : State) (f : Fits m w s) where
+  abbrev e : ℕ
+  e = s .edges
 
-    pub early : head (partsAt m w s .begun) ≤ s .here → turn (machineAt m bs w s 1 c) ≡ stuck
-    unfolding machineOf
-    early l = stuck-early (machineAt m bs w s 1 c) _ _ refl begun-some l
+  -- the area before the turn and after it
+  passed : (bs ls : List ℕ) (p l k : ℕ) (t : State) (j i : ℕ) (w′ : List ℕ) (a b : Area) → areaAt m w s ≡ a → areaAt m w′ t ≡ b
+      → Read p bs ls a s l k t j i b → Stacked b t → t .edges ≤ m → t .depth + t .opens ≤ t .edges → t .place < 2 * m → length w′ ≡ length w
+      → labelsAt m w′ ≡ labelsAt m w → Passed p m bs ls w s l k t j i w′
+  passed bs ls p l k t j i w′ a b x y r g n₁ n₂ n₃ kept same = record {
+    read = rw (x, y) r;
+    fits = record {
+      few-edges = f .few-edges;
+      room = let h = f .room in omega arith;
+      edges-in = n₁;
+      few-open = n₂;
+      place-in = n₃;
+      stacked = rw y g;
+    };
+    kept = kept;
+    labels-kept = same;
+  }
 
-    pub closing : Fits m w s c → s .here < head (partsAt m w s .begun) → (e : ℕ) → e ≡ head (partsAt m w s .opens) → e < m
-        → (t : State) (w′ : List ℕ) → Stepped second m w s e t w′ → (k : ℕ) → k ≡ getD (labelsAt m w′) e 0 → Moved m bs w s 1 c t k c w′
-    unfolding machineOf
-    closing f l e q small t w′ g k i =
-        let j = opens-long m w (s .depth) (s .opens) in
-        moves m bs w s 1 c f second e t w′ g small q k c
-        (turn-close (machineAt m bs w s 1 c) _ _ refl begun-some l
-        ∙ ap (goes (second ∷ [])) (rw (i, labels-kept g, q, label-first (labelsAt m w) (partsAt m w s .opens) (omega arith), labels-rest)))
-        refl (f .bits-in, f .labels-in, omega arith, f .vertices)
+  -- ---- an edge ends
 
--- ---- the next bit is 0
+  module _ (some : 0 < s .opens) where
+    abbrev top : ℕ
+    top = s .opens - 1
 
-module _ (m : ℕ) (bs w : List ℕ) (s : State) (l : ℕ) (c : Cursor) (t : l ≢ 1) (d : Cursor) (r : BitRead bs c 0 d) where
-  zero-next : drop (c .bits) bs ≡ 0 ∷ drop (c .bits + 1) bs
-  zero-next = rest-cons bs (c .bits) (r .0) ∙ ap (λ (x : ℕ). x ∷ drop (c .bits + 1) bs) (sym (r .1))
+    -- what is stacked of the last edge, and its vertex
+    abbrev x : ℕ
+    x = getD w (OPENS * (2 * m) + top) 0
 
-  pub at-root : s .depth ≡ 0 → turn (machineAt m bs w s l c) ≡ stuck
-  unfolding machineOf partsOf stack
-  at-root e = stuck-root (machineAt m bs w s l c) (drop (c .bits + 1) bs) t zero-next (rw e)
+    abbrev v : ℕ
+    v = getD w (BEGUN * (2 * m) + top) 0
 
-  pub rising : length bs ≡ 2 * m → Fits m w s c → 0 < s .depth → (e : ℕ) → e ≡ head (partsAt m w s .trees) → e < m
-      → (u : State) (w′ : List ℕ) → Stepped up m w s e u w′ → (k : ℕ) → k ≡ getD (labelsAt m w′) e 0 → Moved m bs w s l c u k d w′
-  unfolding machineOf
-  rising size f h e q small u w′ g k i =
-      let z = r .0 in
-      let j = below-long m w (s .depth) (s .opens) in let n = trees-long m w (s .depth) (s .opens) in
-      rw (r .2)
-      (moves m bs w s l c f up e u w′ g small q k (bitOn c)
-      (turn-up (machineAt m bs w s l c) _ _ (drop (c .bits + 1) bs) t zero-next (some _ (omega arith))
-      ∙ ap (goes (up ∷ [])) (rw (i, labels-kept g, q, label-first (labelsAt m w) (partsAt m w s .trees) (omega arith), labels-rest)))
-      refl (omega arith, f .labels-in, omega arith, f .vertices))
+    abbrev rest : Area
+    rest = areaOf m w (s .depth) top
 
--- ---- the bit before c is not 0
+    popped : areaAt m w s ≡ pushedOpen v x rest
+    popped = open-popped m w (s .depth) (s .opens) some
 
-pub unread-moved : (c d : Cursor) → d ≡ bitOn c → unread d ≡ c
-unread-moved c d e =
-    let k : c .bits + 1 - 1 ≡ c .bits = omega arith in
-    ap unread e ∙ ap (λ (b : ℕ). same b) k
-  where
-    same : ℕ → Cursor
-    same b = record { bits = b; labels = c .labels }
+    pub begun-is : areaAt m w s .begun ≡ v ∷ rest .begun
+    begun-is = ap (λ (a : Area). a .begun) popped
 
-pub one-read : (m : ℕ) (bs w : List ℕ) (s : State) (c : Cursor) (b : ℕ) (d : Cursor) → length bs ≡ 2 * m → Fits m w s c
-    → BitRead bs c b d → b ≢ 0 → OneRead m bs w s d
-one-read m bs w s c b d p f r z = record {
-  fits = subst (λ (x : Cursor). Fits m w s x) (sym (unread-moved c d (r .2))) f;
-  some-bit = let e = ap bitsOf (r .2) in omega arith;
-  bits-in = let e = ap bitsOf (r .2) in let i = r .0 in omega arith;
-  one = λ q. z (r .1 ∙ sym (ap (λ (x : Cursor). getD bs (x .bits) 0) (unread-moved c d (r .2))) ∙ q);
-}
-  where
-    bitsOf : Cursor → ℕ
-    bitsOf x = x .bits
+    still : Stacked (pushedOpen v x rest) s
+    still = subst (λ (a : Area). Stacked a s) popped (f .stacked)
 
-module _ (m : ℕ) (bs w : List ℕ) (s : State) (c : Cursor) (size : length bs ≡ 2 * m) (x : OneRead m bs w s c) where
-  one-next : drop (c .bits - 1) bs ≡ getD bs (c .bits - 1) 0 ∷ drop (c .bits) bs
-  one-next =
-      let e : c .bits - 1 + 1 ≡ c .bits = omega arith in
-      rest-cons bs (c .bits - 1) (omega arith) ∙ ap (λ (k : ℕ). getD bs (c .bits - 1) 0 ∷ drop k bs) e
+    pub open-top : x < 2 * e
+    open-top = below-head (2 * e) x (rest .opens) (still .opens-in)
 
-  two-next : c .bits < length bs → drop (c .bits - 1) bs ≡ getD bs (c .bits - 1) 0 ∷ getD bs (c .bits) 0 ∷ drop (c .bits + 1) bs
-  two-next i = one-next ∙ ap (λ (r : List ℕ). getD bs (c .bits - 1) 0 ∷ r) (rest-cons bs (c .bits) i)
+    pub closing : s .here < v → (y : ℕ) → y ≡ 2 * (x / 2) + 1 → (bs ls : List ℕ) (k : ℕ)
+        → Passed 1 m bs ls w s 1 k (at e (s .here) (s .depth) top y) (x % 2) k (set w (s .place) y)
+    closing l y q bs ls k =
+        let i = open-top in let g = f .edges-in in let h = f .few-open in let c = f .place-in in
+        passed bs ls 1 1 k _ (x % 2) k _ _ _ popped (dart-entered m w (s .depth) top (s .place) y c)
+        (rw q (letters.closing bs ls rest s (s .depth) top k v x still l))
+        (stacked-closed rest s (s .depth) top y (s .place) y v x still)
+        g (omega arith) (omega arith) (length-set w (s .place) y) (labels-beside m w (s .place) y (omega arith))
 
-  module _ (l : ℕ) (t : l ≢ 1) where
-    pub no-bit : length bs ≤ c .bits → turn (machineAt m bs w s l (unread c)) ≡ stuck
-    unfolding machineOf
-    no-bit h =
-        stuck-bit (machineAt m bs w s l (unread c)) _ t
-        (one-next ∙ ap (λ (r : List ℕ). getD bs (c .bits - 1) 0 ∷ r) (drop-of-length-le bs h)) (x .one)
+  module _ (some : 0 < s .depth) where
+    abbrev below-top : ℕ
+    below-top = s .depth - 1
 
-    pub no-label : c .bits < length bs → length (labelsAt m w) ≤ c .labels → turn (machineAt m bs w s l (unread c)) ≡ stuck
-    unfolding machineOf
-    no-label i h = stuck-label (machineAt m bs w s l (unread c)) _ _ _ t (two-next i) (x .one) (drop-of-length-le (labelsAt m w) h)
+    -- the vertex that the present one hangs from
+    abbrev u : ℕ
+    u = getD w (BELOW * (2 * m) + below-top) 0
 
-  -- a bit b and a label y follow, up to the cursor d
-  module _ (b y : ℕ) (d : Cursor) (r : BothRead bs (labelsAt m w) c b y d) where
-    pub room-left : Room m s (c .labels)
-    room-left =
-        let f = x .fits in let j = r .label-left in
-        let k = label-count m w (f .stands .room) in
-        record { one-more = omega arith; edge-in = omega arith; vertices = omega arith }
+    abbrev others : Area
+    others = areaOf m w below-top (s .opens)
 
-    abbrev e : ℕ
-    e = c .labels
+    risen-from : areaAt m w s ≡ pushedTree u others
+    risen-from = tree-popped m w (s .depth) (s .opens) some
 
-    label-next : drop e (labelsAt m w) ≡ getD (labelsAt m w) e 0 ∷ drop (e + 1) (labelsAt m w)
-    label-next = rest-cons (labelsAt m w) e (r .label-left)
+    hung : Stacked (pushedTree u others) s
+    hung = subst (λ (a : Area). Stacked a s) risen-from (f .stacked)
 
-    module _ (l : ℕ) (t : l ≢ 1) (u : State) (w′ : List ℕ) where
-      abbrev machine : Machine
-      machine = machineAt m bs w s l (unread c)
+    pub tree-top : 2 ≤ s .here
+    unfolding Hangs
+    tree-top = hung .hangs .0
 
-      pub leafing : y ≡ star → Leafed m w s (c .labels) u w′ → Moved m bs w s l (unread c) u b d w′
-      unfolding machineOf
-      leafing h g =
-          let f = x .fits in let i = r .bit-left in let room = room-left in
-          let j = g .goes-down in let k = g .comes-up in
-          let mid : g .state ≡ stateAfter down (partsAt m w s) s e = j .state-is in
-          let end : u ≡ stateAfter up (partsAt m (g .area) (g .state)) (g .state) e = k .state-is in
-          let top : e ≡ head (partsAt m (g .area) (g .state) .trees) = rw (j .parts-are) refl in
-          let edges : u .depth + u .opens ≤ e + 1 = rw (end, mid) (omega arith) in
-          rw (r .moved, r .bit-is)
-          record {
-            letters = down ∷ up ∷ [];
-            turns = turn-star machine _ _ _ _ _ t (two-next i) (x .one) label-next (sym (r .label-is) ∙ h)
-                ∙ ap (goes (down ∷ up ∷ [])) (rw (k .parts-are, labels-kept k, end, j .parts-are, labels-kept j, mid, add-one (s .n)));
-            built = λ v. rw (add-one e) (stepped-built up m (g .area) (g .state) e u w′ k _ top v
-                ∙ stepped-built down m w s e (g .state) (g .area) j e refl (up ∷ v));
-            fits = record {
-              stands = stepped-stands up m (g .area) (g .state) e u w′ k
-                  (stepped-stands down m w s e (g .state) (g .area) j (f .stands) (room .edge-in) (rw mid (omega arith))) (room .edge-in) (omega arith);
-              bits-in = omega arith;
-              labels-in = omega arith;
-              edges = edges;
-              vertices = rw (end, mid) (omega arith);
-            };
-            kept = k .kept ∙ j .kept;
-          }
+    pub rising : (p y : ℕ) → p ≡ 2 * (s .here / 2 - 1) → y ≡ p + 1 → (j : ℕ) → j ≡ s .here % 2 → (bs ls : List ℕ) (k : ℕ)
+        → drop k bs ≡ 0 ∷ drop (k + 1) bs
+        → Passed 1 m bs ls w s 0 k (at e u below-top (s .opens) p) j (k + 1) (set w (s .place) y)
+    rising p y q r j z bs ls k b =
+        let t = tree-top in let i = f .stacked .here-in in let g = f .edges-in in let h = f .few-open in let c = f .place-in in
+        let dart : y ≡ 2 * (s .here / 2 - 1) + 1 = omega arith in
+        passed bs ls 1 0 k _ j (k + 1) _ _ _ risen-from (dart-entered m w below-top (s .opens) (s .place) y c)
+        (rw (dart, q, z) (letters.rising bs ls others s below-top (s .opens) k u hung b))
+        (stacked-risen others s below-top (s .opens) p (s .place) y u hung)
+        g (omega arith) (omega arith) (length-set w (s .place) y) (labels-beside m w (s .place) y (omega arith))
 
-      module _ (h : y ≢ star) where
-        no-star : getD (labelsAt m w) e 0 ≢ star
-        no-star q = h (r .label-is ∙ q)
+  -- ---- an edge begins
 
-        pub backing : b ≡ 0 → Stepped first m w s (c .labels) u w′ → Moved m bs w s l (unread c) u 0 d w′
-        unfolding machineOf labelsOf
-        backing z g =
-            let f = x .fits in let i = r .bit-left in let room = room-left in
-            rw (r .moved)
-            (moves m bs w s l (unread c) f first e u w′ g (room .edge-in) refl 0 (labelOn (bitOn c))
-            (turn-back machine _ _ _ _ _ t (two-next i) (x .one) label-next no-star (sym (r .bit-is) ∙ z))
-            (add-one e) (omega arith, omega arith, omega arith, omega arith))
+  -- a bit c that is not 0 is read, a bit b and a label y follow
+  module _ (bs ls : List ℕ) (k c b y : ℕ) (z : c ≢ 0) (i : e < m) (g : drop k bs ≡ c ∷ b ∷ drop (k + 2) bs) (q : drop e ls ≡ y ∷ drop (e + 1) ls) where
+    abbrev dart : List ℕ
+    dart = set w (s .place) (2 * e)
 
-        pub entering : b ≢ 0 → Stepped down m w s (c .labels) u w′
-            → Moved m bs w s l (unread c) u 0 (record { bits = c .bits; labels = d .labels }) w′
-        unfolding machineOf labelsOf
-        entering z g =
-            let f = x .fits in let i = r .bit-left in let room = room-left in
-            rw (r .moved)
-            (moves m bs w s l (unread c) f down e u w′ g (room .edge-in) refl 0 (labelOn c)
-            (turn-tree machine _ _ _ _ _ t (two-next i) (x .one) label-next no-star (λ q. z (r .bit-is ∙ q))
-            ∙ ap (goes (down ∷ [])) (rw (add-one (s .n), rest-cons bs (c .bits) i)))
-            (add-one e) (x .bits-in, omega arith, omega arith, omega arith))
+    dart-long : length dart ≡ length w
+    dart-long = length-set w (s .place) (2 * e)
 
--- ---- no bit is left
+    dart-beside : labelsAt m dart ≡ labelsAt m w
+    dart-beside = let c = f .place-in in labels-beside m w (s .place) (2 * e) (omega arith)
 
-module _ (m : ℕ) (bs w : List ℕ) (s : State) (l : ℕ) (c : Cursor) (t : l ≢ 1) (e : length bs ≤ c .bits) where
-  pub open-left : 0 < s .depth + s .opens → turn (machineAt m bs w s l c) ≡ stuck
-  unfolding machineOf
-  open-left h =
-      let j = below-long m w (s .depth) (s .opens) in let k = begun-long m w (s .depth) (s .opens) in
-      stuck-left (machineAt m bs w s l c) t (drop-of-length-le bs e) (omega arith)
+    dart-in : (d o : ℕ) → areaOf m dart d o ≡ entered (s .place) (2 * e) (areaOf m w d o)
+    dart-in d o = dart-entered m w d o (s .place) (2 * e) (f .place-in)
 
-  pub label-left : c .labels < length (labelsAt m w) → turn (machineAt m bs w s l c) ≡ stuck
-  unfolding machineOf
-  label-left h =
-      stuck-left (machineAt m bs w s l c) t (drop-of-length-le bs e) (let k = length-drop (c .labels) (labelsAt m w) in omega arith)
+    pub leafing : y ≡ star → Passed 1 m bs ls w s 0 k (leafState s) b (k + 2) (leafArea w s)
+    leafing h =
+        let n = f .few-open in
+        passed bs ls 1 0 k _ b (k + 2) _ _ _ refl
+        (dart-entered m dart (s .depth) (s .opens) (2 * e + 1) (2 * e + 1) (omega arith)
+        ∙ ap (entered (2 * e + 1) (2 * e + 1)) (dart-in (s .depth) (s .opens)))
+        (letters.leafing bs ls (areaAt m w s) s k c z (f .stacked) b y g q (s .depth) (s .opens) h)
+        (stacked-leafed (areaAt m w s) s (s .depth) (s .opens) (2 * e) (s .place) (2 * e) (f .stacked) (2 * e + 1) (2 * e + 1))
+        (omega arith) (omega arith) (omega arith) (length-set dart (2 * e + 1) (2 * e + 1) ∙ dart-long)
+        (labels-beside m dart (2 * e + 1) (2 * e + 1) (omega arith) ∙ dart-beside)
 
-  pub finishing : s .depth ≡ 0 → s .opens ≡ 0 → length (labelsAt m w) ≤ c .labels → turn (machineAt m bs w s l c) ≡ done
-  unfolding machineOf partsOf stack
-  finishing p q h = turn-done (machineAt m bs w s l c) t (drop-of-length-le bs e) (rw p) (rw q) (drop-of-length-le (labelsAt m w) h)
+    module _ (h : y ≢ star) (small : y < 3) where
+      pub backing : b ≡ 0 → Passed 1 m bs ls w s 0 k (backState s) 0 (k + 2) (backArea m w s y)
+      backing t =
+          let n = f .few-open in let room = f .room in let long = dart-long in
+          let i₁ = BEGUN * (2 * m) + s .opens in let i₂ = OPENS * (2 * m) + s .opens in
+          passed bs ls 1 0 k _ 0 (k + 2) _ _ _ refl
+          (rw (add-one (s .opens)) (open-pushed m dart (s .depth) (s .opens) (omega arith) (omega arith) (s .here) (2 * e + y))
+          ∙ ap (pushedOpen (s .here) (2 * e + y)) (dart-in (s .depth) (s .opens)))
+          (letters.backing bs ls (areaAt m w s) s k c z (f .stacked) b y g q (s .depth) (s .opens + 1) h small t)
+          (stacked-backed (areaAt m w s) s (s .depth) (s .opens + 1) (2 * e) (s .place) (2 * e) (f .stacked) y (omega arith))
+          (omega arith) (omega arith) (omega arith) (simp length-set refl)
+          (labels-beside m (set dart i₁ (s .here)) i₂ (2 * e + y) (omega arith) ∙ labels-beside m dart i₁ (s .here) (omega arith) ∙ dart-beside)
+
+      pub entering : b ≢ 0 → drop (k + 1) bs ≡ b ∷ drop (k + 2) bs
+          → Passed 1 m bs ls w s 0 k (enterState s y) 0 (k + 1) (enterArea m w s)
+      entering t r =
+          let n = f .few-open in let room = f .room in let long = dart-long in
+          let i₁ = BELOW * (2 * m) + s .depth in
+          passed bs ls 1 0 k _ 0 (k + 1) _ _ _ refl
+          (rw (add-one (s .depth)) (tree-pushed m dart (s .depth) (s .opens) (omega arith) (omega arith) (s .here))
+          ∙ ap (pushedTree (s .here)) (dart-in (s .depth) (s .opens)))
+          (letters.entering bs ls (areaAt m w s) s k c z (f .stacked) b y g q (s .depth + 1) (s .opens) h small t r)
+          (stacked-entered (areaAt m w s) s (s .depth + 1) (s .opens) (2 * e + 1) (s .place) (2 * e) (f .stacked) y (omega arith))
+          (omega arith) (omega arith) (omega arith) (simp length-set refl)
+          (labels-beside m dart i₁ (s .here) (omega arith) ∙ dart-beside)
+
+-- ---- letters one after the other
+
+module _ (m : ℕ) (bs ls w : List ℕ) (s : State) (l k : ℕ) where
+  pub none-passed : Fits m w s → Passed 0 m bs ls w s l k s l k w
+  none-passed f = record { read = letters.none-read bs ls (areaAt m w s) s l k; fits = f; kept = refl; labels-kept = refl }
+
+  module _ (p : ℕ) (t : State) (j i : ℕ) (w′ : List ℕ) (x : Passed p m bs ls w s l k t j i w′) where
+    pub fewer-passed : (q : ℕ) → q ≤ p → Passed q m bs ls w s l k t j i w′
+    fewer-passed q h = record {
+      read = letters.fewer bs ls (areaAt m w s) s p l k t j i (areaAt m w′ t) (x .read) q h;
+      fits = x .fits;
+      kept = x .kept;
+      labels-kept = x .labels-kept;
+    }
+
+    pub more-passed : (q : ℕ) (u : State) (n r : ℕ) (w″ : List ℕ) → Passed q m bs ls w′ t j i u n r w″ → Passed (p + q) m bs ls w s l k u n r w″
+    more-passed q u n r w″ y = record {
+      read = letters.more-read bs ls (areaAt m w s) s p l k t j i (areaAt m w′ t) (x .read) q u n r (areaAt m w″ u) (y .read);
+      fits = y .fits;
+      kept = y .kept ∙ x .kept;
+      labels-kept = y .labels-kept ∙ x .labels-kept;
+    }

@@ -1,114 +1,161 @@
--- The machine in the code: the builder's state s, the label l of the edge that has just ended, a cursor c, and the labels in the work area w. m is the
--- number of edges.
+-- The machine in the code: the state s, the label l of the edge that has just ended, how many bits are read, and the work area w. m is the number of edges.
+-- A tree edge e of label l is stacked as 2e + l + 2, and names the vertex below it; the root is 0. Another edge is stacked as 2e + l, with the name of the
+-- vertex where it began.
 --
---   bitOn c, labelOn c       the cursor moved on by a bit, and by a label
---   nextBit bs c, nextLabel ls c   what the cursor c hands back of the bits bs and the labels ls
---   labelsOf ls es           the labels of the edges es
---   machineOf bs ls p s l c  the machine, where p are the builder's parts
---   machineAt m bs w s l c   the same, in the work area
---   unread c                 the cursor before the bit that was read last
---   Fits m w s c             numbers, stacks and cursor are in range
---   OneRead m bs w s c       a bit that is not 0 was read right before c
---   Leafed m w s e t w′      edge e is gone down and up at once
---   Moved                    a turn that goes on: its letters' darts are entered, and the machine after it
---   Turned                   what one turn hands back, by cases
---   Closed                   the same after an edge of label 1, whichever the bits
---   Descended                the same after an edge of another label, where a bit that is not 0 was read before c
-use Prim.Native.Nat.{ℕ, _+_, _-_, _*_, _≤_, _<_}
+--   Area                     the rotation and the stacks: names of the vertices that the present one hangs from, those where other edges began, and those
+--   areaOf m w d o           those of the work area w, where d tree edges and o others are open
+--   areaAt m w s             those in the state s
+--   treesOf v vs, upsOf v vs   the open tree edges, and their labels, where v is the present vertex and vs are those that it hangs from
+--   edgesOf xs, labelsOf xs  the edges that are stacked as xs, and their labels
+--   machineOf bs ls a s l k  the machine with bits bs and labels ls, where the area is a and k bits are read
+--   machineAt m bs ls w s l k   the same, in the work area
+--   outcomeOf a s v          the rotation that comes out if the word v is still to be read
+--   outcomeAt m w s v        the same in the work area
+--   at e v d o q             the state where these are its parts
+--   firstState               the state at the start
+--   leafState, leafArea, backState, backArea, enterState, enterArea   the state and the work area after an edge of label l has begun: to a leaf, from
+--                            which it is gone up again; outside the tree; in the tree
+--   Hangs v vs               v, where it hangs from vs, is the name of no root
+--   Stacked a s              what is stacked in the area a is in range
+--   Fits m w s               the numbers and stacks are in range
+--   Labelled f m ps w        ps is a payload of family f, and its labels are where they belong
+--   Slid bs c r              the window c is moved on to that of the outcome r
+use Prim.Native.Nat.{ℕ, _+_, _-_, _*_, _/_, _%_, _≤_, _<_}
 use mathlib.Core.Path.{_≡_}
-use mathlib.Core.Logic.{_≢_}
-use mathlib.Core.Bool.{cond}
-use mathlib.Core.List.{List, [], _∷_, _++_}
-use lib.Dec.{ltb}
-use lib.ListN.{length, getD, drop}
-use Rattle.model.specs.Traversal.{Letter, down, up}
-use Rattle.words.specs.Word.{Machine, goes, done, stuck, turn}
-use Rattle.unpacker.specs.Unpacked.{labelsAt}
-use Rattle.builder.specs.declared.State.{State}
-use Rattle.builder.specs.Steps.{Parts, partsAt, outcomeAt, Standing, Stepped}
-use Rattle.decoder.specs.declared.Cursor.{Cursor}
-use Rattle.decoder.specs.declared.Next.{Next}
-use Rattle.decoder.specs.declared.Next.the-variants.{Value, End}
+use mathlib.Core.Bool.{true}
+use mathlib.Core.List.{List, [], _∷_}
+use lib.ListN.{length, set, drop}
+use Rattle.model.specs.Numbers.{allBelow}
+use Rattle.model.specs.Traversal.{Letter}
+use Rattle.words.specs.Word.{Machine, wordDarts}
+use Rattle.packing.specs.Payload.{hasLabels, Sized}
+use Rattle.work.specs.Map.{BELOW, BEGUN, OPENS}
+use Rattle.work.specs.Area.{region, stack}
+use Rattle.unpacker.specs.Unpacked.{labelsIn}
+use Rattle.builder.specs.Steps.{linked}
+use Rattle.bit_window.specs.Window.{Holds}
+use Rattle.decoder.specs.declared.State.{State}
+use Rattle.decoder.specs.declared.Window.{Window}
 use Rattle.decoder.specs.declared.Outcome.{Outcome}
-use Rattle.decoder.specs.declared.Outcome.the-variants.{Goes, Done, Stuck}
+use Rattle.decoder.specs.declared.Outcome.the-variants.{Goes, Stuck}
 
-abbrev pub bitOn : Cursor → Cursor
-bitOn c = record { bits = c .bits + 1; labels = c .labels }
+pub record Area : Type 0 where
+  pub rotation : List ℕ
+  pub below : List ℕ
+  pub begun : List ℕ
+  pub opens : List ℕ
 
-abbrev pub labelOn : Cursor → Cursor
-labelOn c = record { bits = c .bits; labels = c .labels + 1 }
+unfoldable pub areaOf : ℕ → List ℕ → ℕ → ℕ → Area
+areaOf m w d o = record {
+  rotation = region 0 (2 * m) w;
+  below = stack (BELOW * (2 * m)) d w;
+  begun = stack (BEGUN * (2 * m)) o w;
+  opens = stack (OPENS * (2 * m)) o w;
+}
 
-unfoldable pub nextBit : List ℕ → Cursor → Next
-nextBit bs c = cond (ltb (c .bits) (length bs)) (Value (getD bs (c .bits) 0) (bitOn c)) End
+abbrev pub areaAt : ℕ → List ℕ → State → Area
+areaAt m w s = areaOf m w (s .depth) (s .opens)
 
-unfoldable pub nextLabel : List ℕ → Cursor → Next
-nextLabel ls c = cond (ltb (c .labels) (length ls)) (Value (getD ls (c .labels) 0) (labelOn c)) End
+-- ---- what is stacked
+
+unfoldable pub treesOf : ℕ → List ℕ → List ℕ
+treesOf v [] = []
+treesOf v (u ∷ us) = (v / 2 - 1) ∷ treesOf u us
+
+unfoldable pub upsOf : ℕ → List ℕ → List ℕ
+upsOf v [] = []
+upsOf v (u ∷ us) = v % 2 ∷ upsOf u us
+
+unfoldable pub edgesOf : List ℕ → List ℕ
+edgesOf [] = []
+edgesOf (x ∷ xs) = x / 2 ∷ edgesOf xs
+
+unfoldable pub labelsOf : List ℕ → List ℕ
+labelsOf [] = []
+labelsOf (x ∷ xs) = x % 2 ∷ labelsOf xs
 
 -- ---- the machine
 
-unfoldable pub labelsOf : List ℕ → List ℕ → List ℕ
-labelsOf ls [] = []
-labelsOf ls (e ∷ es) = getD ls e 0 ∷ labelsOf ls es
-
-unfoldable pub machineOf : List ℕ → List ℕ → Parts → State → ℕ → Cursor → Machine
-machineOf bs ls p s l c = record {
-  n = s .n;
+-- as many labels are read as edges have begun
+unfoldable pub machineOf : List ℕ → List ℕ → Area → State → ℕ → ℕ → Machine
+machineOf bs ls a s l k = record {
+  n = 2 * s .edges + 2;
   here = s .here;
-  below = p .below;
-  ups = labelsOf ls (p .trees);
-  opens = p .begun;
-  seconds = labelsOf ls (p .opens);
+  below = a .below;
+  ups = upsOf (s .here) (a .below);
+  opens = a .begun;
+  seconds = labelsOf (a .opens);
   label = l;
-  bits = drop (c .bits) bs;
-  labels = drop (c .labels) ls;
+  bits = drop k bs;
+  labels = drop (s .edges) ls;
 }
 
-abbrev pub machineAt : ℕ → List ℕ → List ℕ → State → ℕ → Cursor → Machine
-machineAt m bs w s l c = machineOf bs (labelsAt m w) (partsAt m w s) s l c
+abbrev pub machineAt : ℕ → List ℕ → List ℕ → List ℕ → State → ℕ → ℕ → Machine
+machineAt m bs ls w s l k = machineOf bs ls (areaAt m w s) s l k
+
+unfoldable pub outcomeOf : Area → State → List Letter → List ℕ
+outcomeOf a s v = linked (s .place) v (wordDarts (s .edges) (treesOf (s .here) (a .below)) (edgesOf (a .opens)) v) (a .rotation)
+
+abbrev pub outcomeAt : ℕ → List ℕ → State → List Letter → List ℕ
+outcomeAt m w s v = outcomeOf (areaAt m w s) s v
+
+abbrev pub at : ℕ → ℕ → ℕ → ℕ → ℕ → State
+at e v d o q = record { edges = e; here = v; depth = d; opens = o; place = q }
+
+abbrev pub firstState : State
+firstState = at 0 0 0 0 0
+
+-- ---- an edge begins
+
+abbrev pub leafState : State → State
+leafState s = at (s .edges + 1) (s .here) (s .depth) (s .opens) (2 * s .edges)
+
+abbrev pub leafArea : List ℕ → State → List ℕ
+leafArea w s = set (set w (s .place) (2 * s .edges)) (2 * s .edges + 1) (2 * s .edges + 1)
+
+abbrev pub backState : State → State
+backState s = at (s .edges + 1) (s .here) (s .depth) (s .opens + 1) (2 * s .edges)
+
+abbrev pub backArea : ℕ → List ℕ → State → ℕ → List ℕ
+backArea m w s l =
+    set (set (set w (s .place) (2 * s .edges)) (BEGUN * (2 * m) + s .opens) (s .here)) (OPENS * (2 * m) + s .opens) (2 * s .edges + l)
+
+abbrev pub enterState : State → ℕ → State
+enterState s l = at (s .edges + 1) (2 * s .edges + l + 2) (s .depth + 1) (s .opens) (2 * s .edges + 1)
+
+abbrev pub enterArea : ℕ → List ℕ → State → List ℕ
+enterArea m w s = set (set w (s .place) (2 * s .edges)) (BELOW * (2 * m) + s .depth) (s .here)
 
 -- ---- ranges
 
-abbrev pub unread : Cursor → Cursor
-unread c = record { bits = c .bits - 1; labels = c .labels }
+unfoldable pub Hangs : ℕ → List ℕ → Type 0
+Hangs v [] = Unit
+Hangs v (u ∷ us) = (2 ≤ v) × Hangs u us
 
--- each bit that is read is a letter or an open edge, and each label an edge
-pub record Fits (m : ℕ) (w : List ℕ) (s : State) (c : Cursor) : Type 0 where
-  pub stands : Standing m w s
-  pub bits-in : c .bits ≤ 2 * m
-  pub labels-in : c .labels ≤ m
-  pub edges : s .depth + s .opens ≤ c .labels
-  pub vertices : s .n ≤ c .labels + 1
+pub record Stacked (a : Area) (s : State) : Type 0 where
+  pub hangs : Hangs (s .here) (a .below)
+  pub here-in : s .here < 2 * s .edges + 2
+  pub below-in : allBelow (2 * s .edges + 2) (a .below) ≡ true
+  pub begun-in : allBelow (2 * s .edges + 2) (a .begun) ≡ true
+  pub opens-in : allBelow (2 * s .edges) (a .opens) ≡ true
 
-pub record OneRead (m : ℕ) (bs w : List ℕ) (s : State) (c : Cursor) : Type 0 where
-  pub fits : Fits m w s (unread c)
-  pub some-bit : 0 < c .bits
-  pub bits-in : c .bits ≤ 2 * m
-  pub one : getD bs (c .bits - 1) 0 ≢ 0
+pub record Fits (m : ℕ) (w : List ℕ) (s : State) : Type 0 where
+  pub few-edges : m ≤ 4096
+  pub room : 32 * m ≤ length w
+  pub edges-in : s .edges ≤ m
+  pub few-open : s .depth + s .opens ≤ s .edges
+  pub place-in : s .place < 2 * m
+  pub stacked : Stacked (areaAt m w s) s
 
--- ---- turns
+-- ---- the payload
 
--- state and work area where the leaf is entered, and after it
-pub record Leafed (m : ℕ) (w : List ℕ) (s : State) (e : ℕ) (t : State) (w′ : List ℕ) : Type 0 where
-  pub state : State
-  pub area : List ℕ
-  pub goes-down : Stepped down m w s e state area
-  pub comes-up : Stepped up m area state e t w′
+pub record Labelled (f m : ℕ) (ps w : List ℕ) : Type 0 where
+  pub has : hasLabels f ≡ true
+  pub sized : Sized f m ps
+  pub bits-room : 2 * m ≤ 8 * length ps
+  pub label-count : length (labelsIn f m ps w) ≡ m
+  pub labels-small : allBelow 3 (labelsIn f m ps w) ≡ true
 
--- as many edges have begun as labels are read
-pub record Moved (m : ℕ) (bs w : List ℕ) (s : State) (l : ℕ) (c : Cursor) (t : State) (k : ℕ) (d : Cursor) (w′ : List ℕ) : Type 0 where
-  pub letters : List Letter
-  pub turns : turn (machineAt m bs w s l c) ≡ goes letters (machineAt m bs w′ t k d)
-  pub built : (v : List Letter) → outcomeAt m w′ t (d .labels) v ≡ outcomeAt m w s (c .labels) (letters ++ v)
-  pub fits : Fits m w′ t d
-  pub kept : length w′ ≡ length w
-
-unfoldable pub Turned : ℕ → List ℕ → List ℕ → State → ℕ → Cursor → Outcome → List ℕ → Type 0
-Turned m bs w s l c (Goes t k d) w′ = Moved m bs w s l c t k d w′
-Turned m bs w s l c Done w′ = (turn (machineAt m bs w s l c) ≡ done) × (w′ ≡ w)
-Turned m bs w s l c Stuck w′ = (turn (machineAt m bs w s l c) ≡ stuck) × (w′ ≡ w)
-
-abbrev pub Closed : ℕ → List ℕ → State → Cursor → Outcome → List ℕ → Type 0
-Closed m w s c r w′ = (bs : List ℕ) → Turned m bs w s 1 c r w′
-
-abbrev pub Descended : ℕ → List ℕ → List ℕ → State → Cursor → Outcome → List ℕ → Type 0
-Descended m bs w s c r w′ = (l : ℕ) → l ≢ 1 → Turned m bs w s l (unread c) r w′
+unfoldable pub Slid : List ℕ → Window → Outcome → Type 0
+Slid bs c (Goes t l d) = (n : ℕ) → Holds bs (c .word) (c .at) n → Holds bs (d .word) (d .at) (c .at + n - d .at)
+Slid bs c Stuck = Unit

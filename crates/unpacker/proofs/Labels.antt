@@ -1,13 +1,12 @@
--- Labels put into the work area, one by one or group by group. Assumes nothing.
+-- Labels put into the work area, group by group. Assumes nothing.
 --
---   labels-start, label-on, labels-end   no label, one more, all
 --   five                  five stores place a group's labels
 --   groups-start, group-on, groups-end   the labels of no group, of one more, and the first of all
 use Prim.Native.Nat.{ℕ, suc, _+_, _*_, _/_, _%_, _≤_, _<_}
 use native.Mathlib.Nat.{add-zero}
 use native.Mathlib.Numerals.{add-one}
 use native.Mathlib.Omega.{arith}
-use mathlib.Core.Path.{_≡_, refl, sym, ap, _∙_, subst}
+use mathlib.Core.Path.{_≡_, refl, sym, ap, _∙_}
 use mathlib.Core.List.{List, [], _∷_, _++_, append-nil}
 use lib.ListN.{length, getD, set, take, drop, length-drop}
 use lib.Seq.{take-suc, take-all, getD-drop}
@@ -17,22 +16,6 @@ use Rattle.packing.proofs.Packed.{unpack-append}
 use Rattle.work.specs.Area.{region, placed}
 use Rattle.work.proofs.Regions.{region-region, region-grow, sets-placed}
 use Rattle.unpacker.specs.Unpacked.{grouped}
-
-pub labels-start : (a : ℕ) (xs w : List ℕ) → region a 0 w ≡ take 0 xs
-unfolding region
-labels-start a xs w = refl
-
-pub label-on : (a : ℕ) (xs w : List ℕ) (i v : ℕ) → a + i < length w → i < length xs → v ≡ getD xs i 0 → region a i w ≡ take i xs
-    → region a (i + 1) (set w (a + i) v) ≡ take (i + 1) xs
-label-on a xs w i v h k e q =
-    ap (region a (i + 1)) (sets-placed (v ∷ []) w (a + i) (omega arith))
-    ∙ region-grow a i 1 (v ∷ []) w refl (omega arith)
-    ∙ ap (λ (r : List ℕ). r ++ (v ∷ [])) q
-    ∙ ap (λ (x : ℕ). take i xs ++ (x ∷ [])) e
-    ∙ sym (rw add-one (take-suc xs i 0 k))
-
-pub labels-end : (a : ℕ) (xs w : List ℕ) (i n : ℕ) → i ≡ n → length xs ≡ n → region a i w ≡ take i xs → region a n w ≡ xs
-labels-end a xs w i n e l q = subst (λ (k : ℕ). region a k w ≡ take k xs) e q ∙ take-all n xs (omega arith)
 
 pub five : (w : List ℕ) (at g : ℕ) → at + 5 ≤ length w
     → set (set (set (set (set w at (g / 81 % 3)) (at + 1) (g / 27 % 3)) (at + 2) (g / 9 % 3)) (at + 3) (g / 3 % 3)) (at + 4) (g % 3) ≡ grouped at g w

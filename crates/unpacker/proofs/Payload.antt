@@ -7,21 +7,29 @@
 --   of-kind, labels-of-kind, labels-own   the sizes and the labels, by the kind's number
 --   label-one             where a label of kind 1 stands among all bits
 --   labels-two            the labels of kind 2 are the first of those in the groups
+--   labels-small          every label is below 3
+--   labels-in-one, labels-in-two, labels-in-same   where the labels stand, by the family
 use Prim.Native.Nat.{ℕ, _+_, _*_, _/_, _≤_, _<_}
 use native.Mathlib.Omega.{arith}
 use mathlib.Core.Path.{_≡_, refl, sym, ap, _∙_, subst}
-use mathlib.Core.Bool.{true}
+use mathlib.Core.Logic.{_≢_}
+use mathlib.Core.Bool.{Bool, true, false, cond}
 use mathlib.Core.List.{List}
+use lib.Dec.{eqb}
 use lib.ListN.{length, getD, take, drop}
 use lib.Seq.{length-take-le, getD-take, getD-drop}
-use Rattle.model.specs.Record.{payloadLength}
+use borrow.Author.Tests.{ne-eqb}
+use Rattle.model.specs.Numbers.{allBelow}
+use Rattle.model.specs.Record.{bytesFor, payloadLength}
+use Rattle.model.proofs.Below.{below-mono, below-take, below-drop}
 use Rattle.packing.specs.Unpack.{bits, groups}
 use Rattle.packing.specs.Payload.{hasLabels, Sized, payloadBits, payloadLabels}
 use Rattle.packing.specs.Groups.{groupsFrom, undone, valuesOf}
 use Rattle.packing.proofs.Groups.{undone-other, undone-back}
 use Rattle.packing.proofs.Labelled.{labelled-cases}
-use Rattle.packing.proofs.Packed.{length-bits}
+use Rattle.packing.proofs.Packed.{length-bits, bits-below, unpack-below}
 use Rattle.packing.proofs.Payload.{unpayload-parts}
+use Rattle.unpacker.specs.Unpacked.{labelsAt, labelsIn}
 
 -- ---- tree bits
 
@@ -87,3 +95,26 @@ module _ (ps : List ℕ) (m : ℕ) where
   pub labels-two : (inv : List ℕ) → Sized 2 m ps → take m (groups (drop ((2 * m + 7) / 8) (valuesOf inv ps))) ≡ payloadLabels 2 m (undone inv 2 m ps)
   unfolding payloadLabels groupsFrom
   labels-two inv s = ap (λ (vs : List ℕ). take m (groups vs)) (sym (undone-back inv ps 2 m s))
+
+-- ---- where they stand
+
+module _ (f m : ℕ) (ps w : List ℕ) where
+  pub labels-in-one : f ≡ 1 → labelsIn f m ps w ≡ payloadLabels 1 m ps
+  unfolding labelsIn
+  labels-in-one e = rw e
+
+  pub labels-in-two : f ≢ 1 → labelsIn f m ps w ≡ labelsAt m w
+  unfolding labelsIn
+  labels-in-two n = rw (ne-eqb f 1 n)
+
+  pub labels-in-same : (w′ : List ℕ) → labelsAt m w′ ≡ labelsAt m w → labelsIn f m ps w′ ≡ labelsIn f m ps w
+  unfolding labelsIn
+  labels-in-same w′ e = rw e
+
+  pub labels-small : allBelow 3 (payloadLabels f m ps) ≡ true
+  unfolding payloadLabels groups
+  labels-small = go (eqb f 1)
+    where
+      go : (b : Bool) → allBelow 3 (cond b (take m (drop (2 * m) (bits ps))) (take m (groups (drop (bytesFor (2 * m) 8) ps)))) ≡ true
+      go true = below-mono 2 3 (omega arith) _ (below-take 2 m _ (below-drop 2 (2 * m) (bits ps) (bits-below ps)))
+      go false = below-take 3 m _ (unpack-below 3 5 (omega arith) _ (drop (bytesFor (2 * m) 8) ps))

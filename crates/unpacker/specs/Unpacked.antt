@@ -1,15 +1,22 @@
 -- What the code that takes a payload apart stores.
 --
 --   labelsAt m w          the m labels in the work area w
+--   labelsIn f m ps w     the m labels in family f: of the payload ps in family 1, in the work area w in another
 --   grouped at g w        w with the five labels of the group g from place at on
 use Prim.Native.Nat.{ℕ, _*_}
+use mathlib.Core.Bool.{cond}
 use mathlib.Core.List.{List}
+use lib.Dec.{eqb}
 use Rattle.packing.specs.Unpack.{digitsOf}
+use Rattle.packing.specs.Payload.{payloadLabels}
 use Rattle.work.specs.Map.{LABELS}
 use Rattle.work.specs.Area.{region, placed}
 
 abbrev pub labelsAt : ℕ → List ℕ → List ℕ
 labelsAt m w = region (LABELS * (2 * m)) m w
+
+unfoldable pub labelsIn : ℕ → ℕ → List ℕ → List ℕ → List ℕ
+labelsIn f m ps w = cond (eqb f 1) (payloadLabels 1 m ps) (labelsAt m w)
 
 -- "first label highest in base 3, one byte a group"
 abbrev pub grouped : ℕ → ℕ → List ℕ → List ℕ

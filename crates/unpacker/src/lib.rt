@@ -1,14 +1,14 @@
-// A payload taken apart: whether its padding bits and fill labels are 0 and its groups are a table's, and its labels by number, put into the lent work
-// area. It knows digits and bytes and the inverse of a table; no heads of records, no letters, no words and no plans.
+// A payload taken apart: whether its padding bits and fill labels are 0 and its groups are a table's, and its labels by number, those of kind 2 put into
+// the lent work area. It knows digits and bytes and the inverse of a table; no heads of records, no letters, no words and no plans.
 ghost use mathlib.Core.Path.{_≡_};
 ghost use mathlib.Core.Bool.{true};
 ghost use Prim.Native.Nat.{_+_, _*_, _^_, _≤_, _<_};
-ghost use lib.ListN.{length, take, drop};
+ghost use lib.ListN.{length, getD, take, drop};
 ghost use Rattle.model.specs.Numbers.{allBelow};
 ghost use Rattle.packing.specs.Unpack.{bits, groups};
 ghost use Rattle.packing.specs.Payload.{hasLabels, Sized, payloadLabels, payloadClean};
 ghost use Rattle.packing.specs.Groups.{undone, valuesOf};
-ghost use Rattle.unpacker.specs.Unpacked.{labelsAt, grouped};
+ghost use Rattle.unpacker.specs.Unpacked.{labelsAt, labelsIn, grouped};
 
 // ---- padding bits, fill labels and groups
 
@@ -83,31 +83,21 @@ pub fn clean(payload: &[u8], family: u16, inverse: &[u8], m: usize) -> bool
 
 // ---- labels by number
 
-// The labels of kind 1.
-fn spread_bits(payload: &[u8], m: usize, w: &mut [u16])
-    requires { ⌜ Sized 1 m (now payload) ⌝ }
-    requires { ⌜ 32 * m ≤ length (now w) ⌝ }
-    ensures { λ _. ⌜ labelsAt m (now (w .exit)) ≡ payloadLabels 1 m (now (payload .entry)) ⌝ }
-{
-    let mut i = 0;
-    while i < m {
-        let l = bits::bit_at(payload, 2 * m + i);
-        w[work::LABELS * (2 * m) + i] = l as u16;
-        i += 1;
-    }
-}
-
 // The five labels of a group, from place `at` on.
 fn put_group(w: &mut [u16], at: usize, group: u8)
     requires { ⌜ at + 5 ≤ length (now w) ⌝ }
     ensures { λ _. ⌜ now (w .exit) ≡ grouped at group (now (w .entry)) ⌝ }
 {
     let g = group as u16;
-    w[at] = g / 81 % 3;
-    w[at + 1] = g / 27 % 3;
-    w[at + 2] = g / 9 % 3;
-    w[at + 3] = g / 3 % 3;
-    w[at + 4] = g % 3;
+    let a = g / 3;
+    let b = g / 9;
+    let c = g / 27;
+    let d = g / 81;
+    w[at] = d % 3;
+    w[at + 1] = c - 3 * d;
+    w[at + 2] = b - 3 * c;
+    w[at + 3] = a - 3 * b;
+    w[at + 4] = g - 3 * a;
 }
 
 // The labels of kind 2, and those that fill the last group.
@@ -126,15 +116,26 @@ fn spread_groups(payload: &[u8], inverse: &[u8], m: usize, w: &mut [u16])
     }
 }
 
-// The labels by number, so that whoever reads them one by one needs no division.
+// The labels of kind 2 by number, so that whoever reads them one by one needs no division; those of kind 1 stay in the payload.
 pub fn spread(payload: &[u8], family: u16, inverse: &[u8], m: usize, w: &mut [u16])
     requires { ⌜ (hasLabels family ≡ true) × Sized family m (now payload) × (length (now inverse) ≡ 256) ⌝ }
     requires { ⌜ 32 * m ≤ length (now w) ⌝ }
-    ensures { λ _. ⌜ labelsAt m (now (w .exit)) ≡ payloadLabels family m (undone (now (inverse .entry)) family m (now (payload .entry))) ⌝ }
+    ensures { λ _. ⌜ labelsIn family m (now (payload .entry)) (now (w .exit)) ≡ payloadLabels family m (undone (now (inverse .entry)) family m (now (payload .entry))) ⌝ }
 {
     if family == 1 {
-        spread_bits(payload, m, w);
         return;
     }
     spread_groups(payload, inverse, m, w);
+}
+
+// Label e.
+pub fn label_at(payload: &[u8], family: u16, m: usize, w: &[u16], e: usize) -> u16
+    requires { ⌜ (hasLabels family ≡ true) × Sized family m (now payload) × (32 * m ≤ length (now w)) × (e < m) ⌝ }
+    ensures { λ r. ⌜ r ≡ getD (labelsIn family m (now (payload .entry)) (now (w .entry))) e 0 ⌝ }
+{
+    if family == 1 {
+        let l = bits::bit_at(payload, 2 * m + e);
+        return l as u16;
+    }
+    w[work::LABELS * (2 * m) + e]
 }

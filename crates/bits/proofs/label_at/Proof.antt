@@ -1,6 +1,6 @@
 use Prim.Native.Nat.{_+_, _/_}
-use native.Mathlib.Nat.{one-le-pow}
 use native.Mathlib.Omega.{arith}
+use mathlib.Core.Path.{_∙_}
 use Rattle.bits.proofs.Places.{label-read}
 use borrow.Author.Needs.{needs}
 use Rattle.bits.proofs.label_at.Statement.{statement}
@@ -14,15 +14,12 @@ shared-slice-read-group c =
     let st = c .before .before .before .before in
     omega (arith, c .before .shared-slice-known3 .given (st .args .from + st .args .i / 5))
 
-div-result : tie.Need-div-result
-div-result c = rw (c .place-value .ensures) (one-le-pow _ 3 (omega arith))
-
 returns : tie.Need-returns
 returns c =
     let st = c .before .before .before .before .before in
-    rw (c .place-value .ensures) (label-read (st .args .inverse .now) (st .args .s .now) _ _ (st .pre .1) (st .pre .2))
+    c .label-in .ensures ∙ label-read (st .args .inverse .now) (st .args .s .now) _ _ (st .pre .1) (st .pre .2)
 
 pub label-at-spec : {M : Type 1} → statement M
 label-at-spec =
     tie.close
-    (tie.spec (λ c. search needs) (λ c. search needs) cast-b shared-slice-read-group (λ c κs. search needs) div-result returns)
+    (tie.spec (λ c. search needs) (λ c. search needs) cast-b shared-slice-read-group (λ c κs. search needs) returns)

@@ -1,40 +1,59 @@
 use native.Mathlib.Omega.{arith}
-use mathlib.Core.Path.{refl}
-use Rattle.decoder.specs.States.{Turned}
-use Rattle.decoder.proofs.Moves.{early, empty, closing}
+use Rattle.decoder.specs.Turns.{EndedOne}
+use Rattle.decoder.proofs.Areas.{begun-none}
+use Rattle.decoder.proofs.Letters.{empty, early}
+use Rattle.decoder.proofs.Moves.{begun-is, open-top, closing}
 use borrow.Author.Needs.{needs}
 use Rattle.decoder.proofs.close_last.Statement.{statement}
 use Rattle.decoder.proofs.close_last.Tie as tie
 
 returns : tie.Need-returns
-unfolding Turned
-returns c = λ bs. (empty _ bs _ _ _ (c .if1 .taken), refl)
+unfolding EndedOne
+returns c = λ bs ls k. let a = c .before .args in empty bs ls _ (a .s) k (begun-none (a .m) (a .w .now) (a .s .depth) (a .s .opens) (c .if1 .taken))
 
 returns-2 : tie.Need-returns-2
-unfolding Turned
-returns-2 c = λ bs.
-    let v = c .before .last-begun .ensures in
-    (early _ bs _ _ _ (omega arith) (omega arith), refl)
+unfolding EndedOne
+returns-2 c = λ bs ls k.
+    let st = c .before .before .before in
+    early bs ls _ (st .args .s) k _ _ (begun-is _ _ _ (st .pre) (omega arith)) (omega arith)
+
+add-dart : tie.Need-add-dart
+add-dart c =
+    let st = c .before .before .before .before in
+    let x = open-top _ _ _ (st .pre) (omega arith) in let e = st .pre .edges-in in let m = st .pre .few-edges in omega arith
+
+cast-t17 : tie.Need-cast-t17
+cast-t17 c =
+    let st = c .before .before .before .before in
+    let x = open-top _ _ _ (st .pre) (omega arith) in let e = st .pre .edges-in in let m = st .pre .few-edges in omega arith
 
 returns-3 : tie.Need-returns-3
-unfolding Turned
-returns-3 c = λ bs.
-    let p = c .before .before .before .before .before .before .before .before .before .before .before .before .before .pre in
-    let e = c .before .before .before .before .before .before .last-open .ensures in
-    let test = c .before .before .before .before .before .before .before .before in
-    let v = test .before .last-begun .ensures in let h = test .if2 .left in let o = test .before .before .before .if1 .left in
-    closing _ bs _ _ _ (omega arith) p (omega arith) _ (e .0) (e .1) _ _ (c .before .before .before .before .close .ensures) _ (c .label-of .ensures)
+unfolding EndedOne
+returns-3 c = λ bs ls k.
+    let st = c .before .before .before .before in
+    (omega arith, closing _ _ _ (st .pre) (omega arith) (omega arith) _ (omega arith) bs ls k)
 
 pub close-last-spec : {M : Type 1} → statement M
 close-last-spec =
     tie.close
     (tie.spec
     returns
-    (λ c κs. search needs)
+    (λ c. search needs)
+    (λ c. search needs)
+    (λ c. search needs)
+    (λ c. search needs)
+    (λ c. search needs)
     (λ c. search needs)
     returns-2
-    (λ c κs. search needs)
-    (λ c κs. search needs)
-    (λ c κs. search needs)
+    (λ c. search needs)
+    (λ c. search needs)
+    (λ c. search needs)
+    (λ c. search needs)
+    (λ c. search needs)
+    (λ c. search needs)
+    add-dart
+    (λ c. search needs)
+    (λ c. search needs)
+    cast-t17
     (λ c. search needs)
     returns-3)

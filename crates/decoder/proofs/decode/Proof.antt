@@ -1,7 +1,7 @@
 use mathlib.Core.Path.{sym, _∙_}
 use native.Mathlib.Omega.{arith}
 use borrow.Author.Tests.{not-true, not-false}
-use Rattle.decoder.proofs.Runs.{Prepared, prepared, answer-unclean, answer-clean}
+use Rattle.decoder.proofs.Answers.{Prepared, prepared, answer-unclean, answer-clean}
 use borrow.Author.Needs.{needs}
 use Rattle.decoder.proofs.decode.Statement.{statement}
 use Rattle.decoder.proofs.decode.Tie as tie
@@ -25,7 +25,7 @@ fill-requires c κs =
     omega arith
 
 run-requires : tie.Need-run-requires
-run-requires c κs = let b = begin (c .before .before .before) in (b .sizes, (b .room, b .blank))
+run-requires c κs = let b = begin (c .before .before .before) in (b .labelled, (b .room, b .blank))
 
 returns-2 : tie.Need-returns-2
 returns-2 c = answer-clean _ _ _ _ _ _ _ _ (begin (c .before .before .before .before .before .before)) (c .before .before .run .ensures)
