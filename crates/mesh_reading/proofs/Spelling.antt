@@ -3,7 +3,7 @@
 --   spell-asked           where types are read, what spelling them asks
 --   untyped-spelt, typed-spelt   no types, or what spelling them says
 --   word-there            the word that is found is nested
---   dual-there            its rotation in the output is the dual's
+--   mesh-there            the dual of its rotation in the output is the mesh's
 --   mesh-found, mesh-not-found   what reading then gives
 use Prim.Native.Nat.{ℕ, _-_, _*_, _/_, _%_, _≤_}
 use native.Mathlib.Omega.{arith}
@@ -13,12 +13,13 @@ use mathlib.Core.List.{List, [], _++_, map}
 use lib.ListN.{length, take, drop, length-append, length-drop}
 use lib.Seq.{take-at, drop-at}
 use Rattle.model.specs.Traversal.{Letter, code, standardRotation}
-use Rattle.model.specs.Mesh.{dualPlan}
+use Rattle.model.specs.Mesh.{dualOf, dualPlan}
 use Rattle.model.specs.Calls.{front}
 use Rattle.words.specs.Word.{Found, nested, rotationOf, rooted, planOf}
 use Rattle.words.proofs.Plans.{rotation-length}
 use Rattle.packing.specs.Types.{Types, typed, untyped}
 use Rattle.node_types.specs.Machine.{wordOfTypes}
+use Rattle.duals.proofs.Duals.{length-dual}
 use Rattle.coding.specs.Payloads.{spelled, meshRotation}
 use Rattle.coding.proofs.Meshes.{MeshWord, read-word}
 use Rattle.work.specs.Map.{LETTERS, TYPES}
@@ -28,7 +29,7 @@ use Rattle.work.proofs.Letters.{letters-code}
 use Rattle.mesh_unpacker.specs.Reading.{TypesRead, Typed}
 use Rattle.mesh_decoder.specs.Spelled.{Spelled}
 use Rattle.mesh_reading.specs.Read.{MeshRead}
-use Rattle.mesh_reading.specs.Stages.{Spelt, WordThere, PutFrom, DualThere, meshOf}
+use Rattle.mesh_reading.specs.Stages.{Spelt, WordThere, PutFrom, MeshThere, meshOf}
 use Rattle.mesh_reading.proofs.Turning.{dual-nested, mesh-size}
 
 -- ---- types
@@ -110,21 +111,24 @@ module _ (f : Found) (m : ℕ) (w w₁ : List ℕ) (b : Bool) (s : Spelt f m b w
     }
 
     module _ (w₂ out₁ : List ℕ) (p : PutFrom m w₁ out w₂ out₁) where
-      put-is : out₁ ≡ front (rotationOf v) out
-      put-is = p .filled ∙ ap (λ (u : List Letter). front (rotationOf u) out) letters
+      abbrev rot : List ℕ
+      rot = dualOf (rotationOf v)
 
-      long : length (rotationOf v) ≡ 2 * m
-      long = rotation-length v ∙ s .word-found e .3
+      put-is : out₁ ≡ front rot out
+      put-is = p .filled ∙ ap (λ (u : List Letter). front (dualOf (rotationOf u)) out) letters
 
-      order-is : take (2 * m) out₁ ≡ rotationOf v
+      long : length rot ≡ 2 * m
+      long = length-dual (rotationOf v) ∙ rotation-length v ∙ s .word-found e .3
+
+      order-is : take (2 * m) out₁ ≡ rot
       unfolding front
-      order-is = ap (take (2 * m)) put-is ∙ take-at (rotationOf v) (drop (length (rotationOf v)) out) (2 * m) long
+      order-is = ap (take (2 * m)) put-is ∙ take-at rot (drop (length rot) out) (2 * m) long
 
-      pub dual-there : 2 * m ≤ length out → (m ≤ 4096) × (32 * m ≤ length w₂) × (2 * m ≤ length out₁) × DualThere m out₁
+      pub mesh-there : 2 * m ≤ length out → (m ≤ 4096) × (32 * m ≤ length w₂) × (2 * m ≤ length out₁) × MeshThere m out₁
       unfolding front
-      dual-there space =
-          let a = length-append (rotationOf v) (drop (length (rotationOf v)) out) in
-          let d = length-drop (length (rotationOf v)) out in
+      mesh-there space =
+          let a = length-append rot (drop (length rot) out) in
+          let d = length-drop (length rot) out in
           let z = ap length put-is in
           let l = long in
           let k = s .kept in
@@ -132,15 +136,15 @@ module _ (f : Found) (m : ℕ) (w w₁ : List ℕ) (b : Bool) (s : Spelt f m b w
           (few, omega arith, omega arith, (v, mesh, s .word-found e .3, order-is))
 
       pub mesh-found : (out₂ : List ℕ) → out₂ ≡ front (meshOf m out₁) out₁ → MeshRead f true out out₂
-      unfolding meshOf meshRotation planOf front
+      unfolding meshOf meshRotation dualPlan planOf front
       mesh-found out₂ q = record {
-        word-found = λ g. (v, s .word-found e .1, q ∙ ap (λ (rot : List ℕ). front (standardRotation (dualPlan (rooted rot))) out₁) order-is ∙ over (meshRotation v) size);
+        word-found = λ g. (v, s .word-found e .1, q ∙ ap (λ (xs : List ℕ). front (standardRotation (rooted xs)) out₁) order-is ∙ over (meshRotation v) size);
         none-found = λ g. absurd (true≢false g);
       }
         where
-          size : length (meshRotation v) ≡ length (rotationOf v)
-          size = mesh-size v mesh
+          size : length (meshRotation v) ≡ length rot
+          size = mesh-size v ∙ sym (length-dual (rotationOf v))
 
           -- the one rotation stands where the other stood
-          over : (rot : List ℕ) → length rot ≡ length (rotationOf v) → front rot out₁ ≡ front rot out
-          over rot same = ap (λ (xs : List ℕ). rot ++ xs) (ap₂ drop same put-is ∙ drop-at (rotationOf v) _ (length (rotationOf v)) refl ∙ ap (λ (n : ℕ). drop n out) (sym same))
+          over : (xs : List ℕ) → length xs ≡ length rot → front xs out₁ ≡ front xs out
+          over xs same = ap (λ (ys : List ℕ). xs ++ ys) (ap₂ drop same put-is ∙ drop-at rot _ (length rot) refl ∙ ap (λ (n : ℕ). drop n out) (sym same))

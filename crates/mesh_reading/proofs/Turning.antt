@@ -1,43 +1,41 @@
 -- From the dual of a mesh to the mesh in standard numbers.
 --
 --   put-from              what is built is put to the output
---   mesh-nested, dual-nested   the words of both are nested
---   mesh-size             both have as many darts
---   order-long, dual-asked   what the walk of the dual's dual asks
---   turned-word           its letters are a nested word
---   turned                whose rotation is the mesh in standard numbers
-use Prim.Native.Nat.{ℕ, _*_, _≤_, _<_}
+--   dual-nested           the word of the dual is nested
+--   mesh-size             the mesh has as many darts
+--   order-long, mesh-asked   what the walk of the mesh asks
+--   copied-part, turned   its standard rotation is put to the output
+use Prim.Native.Nat.{ℕ, _-_, _*_, _≤_, _<_}
+use native.Mathlib.Nat.{add-zero}
 use native.Mathlib.Omega.{arith}
 use mathlib.Core.Path.{_≡_, refl, sym, ap, subst, _∙_}
 use mathlib.Core.Bool.{true}
-use mathlib.Core.List.{List, [], map}
-use lib.ListN.{length, take}
+use mathlib.Core.List.{List, []}
+use lib.ListN.{length, take, drop}
 use lib.Seq.{length-take-le}
 use Rattle.model.specs.Numbers.{elem, isPermutation}
-use Rattle.model.specs.Map.{Plan, darts, connected, isFamily, storesOutside, isKind, family, dartCountFits, fit}
-use Rattle.model.specs.Traversal.{Letter, code, word, standardRotation}
-use Rattle.model.specs.Mesh.{dualPlan}
+use Rattle.model.specs.Map.{connected, isFamily, storesOutside, isKind, family, dartCountFits, fit}
+use Rattle.model.specs.Traversal.{Letter, standardRotation, standardPlan}
+use Rattle.model.specs.Mesh.{dualOf, dualPlan}
 use Rattle.model.specs.Calls.{front}
 use Rattle.model.proofs.Fitness.{fit-parts}
+use Rattle.model.proofs.Standard.{standard-darts}
 use Rattle.words.specs.Word.{nested, valid, rotationOf, rooted, planOf}
-use Rattle.words.proofs.Plans.{rotation-length}
-use Rattle.words.proofs.Positions.{word-length}
 use Rattle.building.proofs.Built.{built-fit, built-word}
-use Rattle.fit_plans.proofs.FitPlans.{fit-toured, fit-standard-rotation, fit-nested}
+use Rattle.fit_plans.proofs.FitPlans.{fit-nested}
 use Rattle.node_types.proofs.Nesting.{whole-valid}
 use Rattle.duals.proofs.Duals.{dual-darts}
 use Rattle.coding.specs.Payloads.{meshRotation}
 use Rattle.coding.proofs.Meshes.{MeshWord, mesh-dual-built}
 use Rattle.work.specs.Area.{region}
-use Rattle.work.specs.Letters.{lettersIn}
-use Rattle.work.proofs.Letters.{letters-code}
-use Rattle.dual_contour.specs.DualWord.{DualWord}
+use Rattle.work.proofs.Regions.{region-region}
+use Rattle.numbering.specs.Numbering.{Numbered}
 use Rattle.word_builder.specs.Built.{Built}
-use Rattle.mesh_reading.specs.Stages.{WordThere, PutFrom, DualThere, meshOf}
+use Rattle.mesh_reading.specs.Stages.{PutFrom, MeshThere, meshOf}
 
 -- what is built and copied
-pub put-from : (m : ℕ) (w out w₁ out′ : List ℕ) → Built (2 * m) w w₁ → out′ ≡ front (region 0 (2 * m) w₁) out → PutFrom m w out w₁ out′
-put-from m w out w₁ out′ b e = record { filled = e ∙ ap (λ (rot : List ℕ). front rot out) (b .rotation); kept = b .kept }
+pub put-from : (m : ℕ) (w out w₁ out′ : List ℕ) → Built (2 * m) w w₁ → out′ ≡ front (dualOf (region 0 (2 * m) w₁)) out → PutFrom m w out w₁ out′
+put-from m w out w₁ out′ b e = record { filled = e ∙ ap (λ (rot : List ℕ). front (dualOf rot) out) (b .rotation); kept = b .kept }
 
 module _ (v : List Letter) (mesh : MeshWord v) where
   proper : valid 2 v ≡ true
@@ -50,59 +48,38 @@ module _ (v : List Letter) (mesh : MeshWord v) where
   pub dual-nested : nested true 1 0 [] [] v ≡ true
   dual-nested = subst (λ (u : List Letter). nested true 1 0 [] [] u ≡ true) (built-word 2 v proper) (fit-nested 2 (planOf v) dual-fit)
 
-  mesh-fit : fit 3 (dualPlan (planOf v)) ≡ true
+  mesh-fit : fit 3 (rooted (dualOf (rotationOf v))) ≡ true
+  unfolding dualPlan planOf
   mesh-fit = mesh-dual-built v mesh
 
-  pub mesh-nested : nested true 1 0 [] [] (word (dualPlan (planOf v))) ≡ true
-  mesh-nested = fit-nested 3 (dualPlan (planOf v)) mesh-fit
+-- both have as many darts
+pub mesh-size : (v : List Letter) → length (meshRotation v) ≡ length (rotationOf v)
+unfolding meshRotation planOf standardPlan
+mesh-size v = standard-darts (dualPlan (planOf v)) ∙ dual-darts (planOf v)
 
-  mesh-standard : rotationOf (word (dualPlan (planOf v))) ≡ standardRotation (dualPlan (planOf v))
-  mesh-standard = sym (fit-standard-rotation 3 (dualPlan (planOf v)) mesh-fit)
-
-  mesh-letters : length (word (dualPlan (planOf v))) ≡ darts (planOf v)
-  mesh-letters = word-length (dualPlan (planOf v)) (fit-toured 3 (dualPlan (planOf v)) mesh-fit) ∙ dual-darts (planOf v)
-
-  -- both have as many darts
-  pub mesh-size : length (meshRotation v) ≡ length (rotationOf v)
-  unfolding meshRotation planOf
-  mesh-size = ap length (sym mesh-standard) ∙ rotation-length (word (dualPlan (planOf v))) ∙ mesh-letters
-
-module _ (m : ℕ) (w out : List ℕ) (few : m ≤ 4096) (room : 32 * m ≤ length w) (space : 2 * m ≤ length out) (there : DualThere m out) where
-  abbrev v : List Letter
-  v = there .0
-
+module _ (m : ℕ) (w out : List ℕ) (few : m ≤ 4096) (room : 32 * m ≤ length w) (space : 2 * m ≤ length out) (there : MeshThere m out) where
   abbrev order : List ℕ
   order = take (2 * m) out
 
   pub order-long : length (take (2 * m) out) ≡ 2 * m
   order-long = length-take-le (2 * m) out space
 
-  plan-is : rooted order ≡ planOf v
-  unfolding planOf
-  plan-is = ap rooted (there .3)
+  fits : fit 3 (rooted order) ≡ true
+  fits = subst (λ (rot : List ℕ). fit 3 (rooted rot) ≡ true) (sym (there .3)) (mesh-fit (there .0) (there .1))
 
-  pub dual-asked : (dartCountFits (length order) ≡ true) × (isPermutation order ≡ true) × (0 < length order) × (connected order ≡ true) × (16 * length order ≤ length w)
-  dual-asked =
-      let a = fit-parts 2 (rooted order) (rw plan-is (dual-fit v (there .1))) in
+  pub mesh-asked : (dartCountFits (length order) ≡ true) × (isPermutation order ≡ true) × (0 < length order) × (connected order ≡ true) × (16 * length order ≤ length w)
+  mesh-asked =
+      let a = fit-parts 3 (rooted order) fits in
       let l = order-long in
       (a .count, a .entries, a .root, a .joined, omega arith)
 
-  module _ (w₁ : List ℕ) (walked : DualWord (rooted order) w w₁) where
-    letters : lettersIn (2 * m) w₁ ≡ word (dualPlan (planOf v))
-    letters = letters-code (2 * m) w₁ _ (rw (order-long, plan-is) at (walked .letters))
+  module _ (w₁ : List ℕ) (numbered : Numbered (rooted order) w w₁) where
+    copied-part : region 0 (2 * m) (take (length w₁ - 2 * m) (drop (2 * m) w₁)) ≡ standardRotation (rooted order)
+    unfolding region
+    copied-part =
+        region-region (2 * m) (length w₁ - 2 * m) 0 (2 * m) w₁ (omega (arith, numbered .kept)) ∙ ap (λ (a : ℕ). region a (2 * m) w₁) (add-zero (2 * m))
+        ∙ (rw order-long at (numbered .rotation))
 
-    pub turned-word : WordThere m w₁
-    turned-word =
-        let c = dual-asked in
-        let l = order-long in
-        record {
-          some-edge = omega arith;
-          few-edges = few;
-          room = let k = walked .kept in omega arith;
-          coded = (rw (order-long, plan-is) at (walked .letters)) ∙ ap (map code) (sym letters);
-          nests = rw letters (mesh-nested v (there .1));
-        }
-
-    pub turned : (w₂ out′ : List ℕ) → PutFrom m w₁ out w₂ out′ → out′ ≡ front (meshOf m out) out
+    pub turned : (out′ : List ℕ) → out′ ≡ front (region 0 (2 * m) (take (length w₁ - 2 * m) (drop (2 * m) w₁))) out → out′ ≡ front (meshOf m out) out
     unfolding meshOf
-    turned w₂ out′ p = p .filled ∙ ap (λ (rot : List ℕ). front rot out) (ap rotationOf letters ∙ mesh-standard v (there .1) ∙ ap (λ (p : Plan). standardRotation (dualPlan p)) (sym plan-is))
+    turned out′ e = e ∙ ap (λ (rot : List ℕ). front rot out) copied-part

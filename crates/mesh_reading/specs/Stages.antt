@@ -2,8 +2,8 @@
 --
 --   Spelt f m b w w′      b says whether the word of a dual is found; if so, it stands at LETTERS, and is that of a mesh of m edges
 --   WordThere m w         a nested word of 2m letters stands at LETTERS
---   PutFrom m w out w′ out′   the rotation of that word stands at the front of the output
---   DualThere m out       the rotation of the dual of a mesh of m edges stands there
+--   PutFrom m w out w′ out′   the dual of its rotation stands at the front of the output
+--   MeshThere m out       the rotation of a mesh of m edges stands there, in the numbers of its dual
 --   meshOf m out          that mesh in standard numbers
 use Prim.Native.Nat.{ℕ, _*_, _≤_}
 use mathlib.Core.Path.{_≡_}
@@ -11,7 +11,7 @@ use mathlib.Core.Bool.{Bool, true, false}
 use mathlib.Core.List.{List, [], map}
 use lib.ListN.{length, take}
 use Rattle.model.specs.Traversal.{Letter, code, standardRotation}
-use Rattle.model.specs.Mesh.{dualPlan}
+use Rattle.model.specs.Mesh.{dualOf}
 use Rattle.model.specs.Calls.{front}
 use Rattle.words.specs.Word.{Found, found, none, nested, rotationOf, rooted}
 use Rattle.coding.proofs.Meshes.{MeshWord}
@@ -32,11 +32,11 @@ pub record WordThere (m : ℕ) (w : List ℕ) : Type 0 where
   pub nests : nested true 1 0 [] [] (lettersIn (2 * m) w) ≡ true
 
 pub record PutFrom (m : ℕ) (w out w′ out′ : List ℕ) : Type 0 where
-  pub filled : out′ ≡ front (rotationOf (lettersIn (2 * m) w)) out
+  pub filled : out′ ≡ front (dualOf (rotationOf (lettersIn (2 * m) w))) out
   pub kept : length w′ ≡ length w
 
-abbrev pub DualThere : ℕ → List ℕ → Type 0
-DualThere m out = (v : List Letter) × MeshWord v × (length v ≡ 2 * m) × (take (2 * m) out ≡ rotationOf v)
+abbrev pub MeshThere : ℕ → List ℕ → Type 0
+MeshThere m out = (v : List Letter) × MeshWord v × (length v ≡ 2 * m) × (take (2 * m) out ≡ dualOf (rotationOf v))
 
 unfoldable pub meshOf : ℕ → List ℕ → List ℕ
-meshOf m out = standardRotation (dualPlan (rooted (take (2 * m) out)))
+meshOf m out = standardRotation (rooted (take (2 * m) out))

@@ -2,9 +2,8 @@
 --
 --   head-none, head-one, head-last, head-two   the codeword from place c on, by bits; head-below, head-fits   it is below 4, and its bits are there
 --   digits-append, digits-count, digits-few   the digits of codewords, part by part; one has one or none; no more than codewords
---   after ss c cs         the codewords ss of c bits, before cs
---   Reading               i of n codewords in bs are read: they stand in w from place a on, have c bits and want l digits
---   reading-start, reading-on   none is read; one more is
+--   head-pair             the codeword from place c on, by two bits
+--   reading-start, reading-on   none is read; one more is; reading-from, the area before counts for its length alone
 --   reading-short, reading-end   what is handed back where the bits run out, and after the last codeword
 --   Found, counted, ran-out   what was handed back, by cases; Found: n codewords stand from place a on, have c bits and want l digits
 use Prim.Native.Nat.{ℕ, zero, suc, _+_, _*_, _-_, _/_, _≤_, _<_}
@@ -16,18 +15,21 @@ use mathlib.Core.Bool.{true}
 use mathlib.Core.List.{List, [], _∷_, _++_, append-nil, append-assoc}
 use lib.ListN.{length, getD, set, drop, length-append, length-drop, length-set, drop-of-length-le}
 use lib.Seq.{drop-cons, drop-drop}
+use borrow.Author.Tests.{lt-ltb, le-ltb}
 use Rattle.model.specs.Numbers.{allBelow}
 use Rattle.model.specs.Mesh.{digitOf, typeDigits}
 use Rattle.model.proofs.Below.{below-head, below-tail, below-drop}
+use Rattle.model.proofs.Permutations.{below-all}
 use Rattle.packing.specs.Types.{Codes, coded, short, more, readCodes}
 use Rattle.packing.specs.Unpack.{bits}
 use Rattle.packing.proofs.Packed.{length-bits, bits-below}
 use Rattle.packing.proofs.Codewords.{codes-fit, codes-below}
+use Rattle.orbits.proofs.Order.{lt-or-le}
 use Rattle.work.specs.Area.{region}
 use Rattle.work.proofs.Regions.{length-region, region-push}
 use Rattle.mesh_unpacker.specs.declared.Codewords.{Codewords}
 use Rattle.mesh_unpacker.specs.declared.Codewords.the-variants.{Counted, Short}
-use Rattle.mesh_unpacker.specs.Reading.{codeHead, CodesRead}
+use Rattle.mesh_unpacker.specs.Reading.{codeHead, codeOf, after, Reading, CodesRead}
 
 -- ---- one codeword
 
@@ -52,6 +54,14 @@ module _ (bs : List ℕ) (c : ℕ) where
     pub head-two : getD bs c 0 ≡ 0 → c + 1 < length bs → codeHead (drop c bs) ≡ getD bs (c + 1) 0 + 1
     unfolding codeHead
     head-two z l = let n : c + 1 ≡ suc c = omega arith in rw (n, drop-cons bs c 0 h, z, drop-cons bs (suc c) 0 (omega arith)) (omega arith)
+
+    pub head-pair : allBelow 2 bs ≡ true → c + 1 < length bs → (x : ℕ) → x ≡ 2 * getD bs c 0 + getD bs (c + 1) 0 → codeHead (drop c bs) ≡ codeOf x
+    unfolding codeOf
+    head-pair b l x e =
+        let low = below-all 2 bs b (c + 1) l in
+        lt-or-le x 2
+        (λ h. head-two (omega arith) l ∙ rw (lt-ltb x 2 h) (omega arith))
+        (λ h. head-one (λ z. omega arith) ∙ rw (le-ltb x 2 h) refl)
 
 pub head-below : (xs : List ℕ) → allBelow 2 xs ≡ true → codeHead xs < 4
 unfolding codeHead
@@ -114,10 +124,6 @@ digits-snoc ss t h =
 
 -- ---- one after the other
 
-abbrev pub after : List ℕ → ℕ → Codes → Codes
-after ss c (coded us d) = coded (ss ++ us) (c + d)
-after ss c short = short
-
 after-more : (ss : List ℕ) (c t k : ℕ) (cs : Codes) → after ss c (more t k cs) ≡ after (ss ++ (t ∷ [])) (c + k) cs
 after-more ss c t k (coded us d) = rw (append-assoc ss (t ∷ []) us, add-assoc c k d)
 after-more ss c t k short = refl
@@ -125,14 +131,6 @@ after-more ss c t k short = refl
 after-none : (cs : Codes) → after [] 0 cs ≡ cs
 after-none (coded us d) = rw (zero-add d)
 after-none short = refl
-
-pub record Reading (bs : List ℕ) (n a : ℕ) (w₀ w : List ℕ) (c l i : ℕ) : Type 0 where
-  pub some : i ≤ n
-  pub fits : c ≤ length bs
-  pub digits : l ≡ length (typeDigits (region a i w))
-  pub few : l ≤ i
-  pub left : after (region a i w) c (readCodes (n - i) (drop c bs)) ≡ readCodes n bs
-  pub kept : length w ≡ length w₀
 
 module _ (bs : List ℕ) (n a : ℕ) (w₀ : List ℕ) where
   pub reading-start : Reading bs n a w₀ w₀ 0 0 0
@@ -147,6 +145,9 @@ module _ (bs : List ℕ) (n a : ℕ) (w₀ : List ℕ) where
   }
 
   module _ (w : List ℕ) (c l i : ℕ) (x : Reading bs n a w₀ w c l i) where
+    pub reading-from : (w₁ : List ℕ) → length w ≡ length w₁ → Reading bs n a w₁ w c l i
+    reading-from w₁ e = record { some = x .some; fits = x .fits; digits = x .digits; few = x .few; left = x .left; kept = e }
+
     pub reading-on : allBelow 2 bs ≡ true → a + n ≤ length w₀ → i < n → (t : ℕ) → t ≡ codeHead (drop c bs) → t ≢ 0
         → Reading bs n a w₀ (set w (a + i) t) (c + (2 - t / 3)) (l + t / 3) (i + 1)
     reading-on b room h t q d =

@@ -1,3 +1,4 @@
 mod Codes
+mod Windows
 mod Digits
 mod Whole

@@ -2,7 +2,7 @@
 // looked at, then types 3 to 5 get their digits. It knows codewords, digits and the inverse of a table; no heads of records, no letters and no plans.
 ghost use mathlib.Core.Path.{_≡_};
 ghost use mathlib.Core.Bool.{true};
-ghost use Prim.Native.Nat.{_+_, _-_, _*_, _≤_, _<_};
+ghost use Prim.Native.Nat.{_+_, _-_, _*_, _/_, _≤_, _<_};
 ghost use lib.ListN.{length, getD, drop};
 ghost use Rattle.model.specs.Mesh.{typeDigits};
 ghost use Rattle.model.specs.Numbers.{allBelow};
@@ -11,7 +11,7 @@ ghost use Rattle.packing.specs.Unpack.{bits, groups};
 ghost use Rattle.packing.specs.Types.{readCodes, withDigits, clean, typesIn};
 ghost use Rattle.packing.specs.Groups.{undone, valuesOf};
 ghost use Rattle.work.specs.Area.{region};
-ghost use Rattle.mesh_unpacker.specs.Reading.{codeHead, CodesRead, digitOn, valuesFrom, Typed};
+ghost use Rattle.mesh_unpacker.specs.Reading.{codeHead, codeOf, Reading, CodesRead, digitOn, valuesFrom, Typed};
 
 // What reading codewords comes to: how many bits they have and how many digits they want, or that the bits run out.
 enum Codewords {
@@ -41,14 +41,83 @@ fn codeword(payload: &[u8], c: usize) -> u8
     b + 1
 }
 
+// How many codewords are read, how many bits they have and how many digits they want.
+struct Progress {
+    read: usize,
+    bits: usize,
+    digits: usize,
+}
+
+// As many codewords are read from eight bytes: they have two bits at most, and the first may begin at the eighth bit.
+const MANY: usize = 28;
+
+// The codeword that begins with these two bits.
+fn code_of(pair: u64) -> u16
+    requires { ⌜ pair < 4 ⌝ }
+    ensures { λ r. ⌜ r ≡ codeOf pair ⌝ }
+{
+    if pair < 2 {
+        return pair as u16 + 1;
+    }
+    3
+}
+
+// The next codewords, as many as eight bytes hold.
+fn read_many(payload: &[u8], n: usize, at: usize, w: &mut [u16], s: Progress) -> Progress
+    requires { ⌜ (length (now payload) < 65536) × (n ≤ 65536) × (at + n ≤ length (now w)) ⌝ }
+    requires { ⌜ Reading (bits (now payload)) n at (now w) (now w) (s .bits) (s .digits) (s .read) × (s .read + 28 ≤ n) × (s .bits / 8 + 8 ≤ length (now payload)) ⌝ }
+    ensures { λ r. ⌜ Reading (bits (now (payload .entry))) n at (now (w .entry)) (now (w .exit)) (r .bits) (r .digits) (r .read) × (r .read ≡ s .read + 28) ⌝ }
+{
+    let q = s.bits / 8;
+    let x = bit_window::eight(payload, q);
+    let end = s.read + MANY;
+    let mut c = s.bits;
+    let mut l = s.digits;
+    let mut i = s.read;
+    while i < end {
+        let pair = bit_window::pair(x, c - 8 * q);
+        let t = code_of(pair);
+        w[at + i] = t;
+        let digits = (pair / 2) as usize;
+        c += 2 - digits;
+        l += digits;
+        i += 1;
+    }
+    Progress {
+        read: i,
+        bits: c,
+        digits: l,
+    }
+}
+
+// Codewords as long as there are enough bytes and enough of them are left.
+fn read_windows(payload: &[u8], n: usize, at: usize, w: &mut [u16]) -> Progress
+    requires { ⌜ (length (now payload) < 65536) × (n ≤ 65536) × (at + n ≤ length (now w)) ⌝ }
+    ensures { λ r. ⌜ Reading (bits (now (payload .entry))) n at (now (w .entry)) (now (w .exit)) (r .bits) (r .digits) (r .read) ⌝ }
+{
+    let mut s = Progress {
+        read: 0,
+        bits: 0,
+        digits: 0,
+    };
+    while s.read + MANY <= n {
+        if s.bits / 8 + 8 > payload.len() {
+            return s;
+        }
+        s = read_many(payload, n, at, w, s);
+    }
+    s
+}
+
 // The first n codewords, put from place `at` on.
 fn read_codewords(payload: &[u8], n: usize, at: usize, w: &mut [u16]) -> Codewords
     requires { ⌜ (length (now payload) < 65536) × (n ≤ 65536) × (at + n ≤ length (now w)) ⌝ }
     ensures { λ r. ⌜ CodesRead (readCodes n (bits (now (payload .entry)))) at n r (now (w .exit)) ⌝ }
 {
-    let mut c = 0;
-    let mut l = 0;
-    let mut i = 0;
+    let s = read_windows(payload, n, at, w);
+    let mut c = s.bits;
+    let mut l = s.digits;
+    let mut i = s.read;
     while i < n {
         let t = codeword(payload, c);
         if t == 0 {

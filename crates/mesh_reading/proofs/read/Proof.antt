@@ -1,4 +1,4 @@
-use Rattle.mesh_reading.proofs.Spelling.{word-there, dual-there, mesh-found, mesh-not-found}
+use Rattle.mesh_reading.proofs.Spelling.{word-there, mesh-there, mesh-found, mesh-not-found}
 use borrow.Author.Needs.{needs}
 use borrow.Author.Tests.{not-true, not-false}
 use Rattle.mesh_reading.proofs.read.Statement.{statement}
@@ -21,7 +21,7 @@ turn-requires c κs =
     let e = u .before .before .before in
     let k = e .before .before .before in
     let p = k .before .before .before .before .before .before .pre in
-    dual-there _ _ _ _ _ (k .spell .ensures) _ (not-false _ (e .if1 .left)) (p .1) (p .2) (p .4) _ _ (u .put .ensures) (p .5)
+    mesh-there _ _ _ _ _ (k .spell .ensures) _ (not-false _ (e .if1 .left)) (p .1) (p .2) (p .4) _ _ (u .put .ensures) (p .5)
 
 returns-2 : tie.Need-returns-2
 returns-2 c =

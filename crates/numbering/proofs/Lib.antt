@@ -1,0 +1,6 @@
+pub mod Areas
+pub mod Numbers
+pub mod Marking
+pub mod Entries
+pub mod Stepping
+pub mod Whole
