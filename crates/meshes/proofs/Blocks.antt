@@ -5,7 +5,8 @@
 --   turn-down, turn-flat′, turn-last, turn-up   the next dart about the vertex, by the letter
 --   Three i           the vertex of the dart at position i has three darts; three-of, by three positions in turn
 --   Fine k            so it is at k, and if a tree edge is entered there it is crossed; no-down, where none is
---   from i            the types of the nodes that are entered from position i on; type-other, where none is
+--   from i            the types of the nodes that are entered from position i on; type-down, where one is, and type-other, where none is
+--   node-type         the type of a node, from the letters at its two places
 --   Block t a r       t stands at a, and then r: where it ends, what it leaves open, that all its positions are fine, and that its types are found
 --   crosses           where it leaves an edge open, its first letter's tree edge is crossed
 --   Inside, enclose   a block, from what stands between the first letter and the last
@@ -172,7 +173,7 @@ module _ (q : Plan) (fits : fit 2 q ≡ true) where
   visit-left : (i : ℕ) → i < N → drop i (visits q) ≡ getD (visits q) i no-visit ∷ drop (suc i) (visits q)
   visit-left i h = drop-cons (visits q) i no-visit (omega (arith, toured .all-met))
 
-  type-down : (i : ℕ) → i < N → ℓ i ≡ down → from i ≡ typeFrom q (x i) ∷ from (suc i)
+  pub type-down : (i : ℕ) → i < darts q → letterOf q i ≡ down → from i ≡ typeFrom q (dartAt q i) ∷ from (suc i)
   unfolding along typeAt
   type-down i h e = rw (visit-left i h, visit-letter q i, visit-dart q i, e)
 
@@ -256,8 +257,8 @@ module _ (q : Plan) (fits : fit 2 q ≡ true) where
       let z : m e ≡ a = cc in
       (ap m (sym z) ∙ mate-back q toured (parts .count) e he, cc, c)
 
-  -- the type of the node, from the letters at its two places
-  node-type : (a j : ℕ) → a < N → ℓ a ≡ down → suc a < N → j < N → σ (x (suc a)) ≡ x j → typeFrom q (x a) ≡ nodeType (ℓ (suc a)) (ℓ j)
+  pub node-type : (a j : ℕ) → a < darts q → letterOf q a ≡ down → suc a < darts q → j < darts q → next (q .rotation) (dartAt q (suc a)) ≡ dartAt q j
+      → typeFrom q (dartAt q a) ≡ nodeType (letterOf q (suc a)) (letterOf q j)
   unfolding typeFrom
   node-type a j ha d h₁ h₂ t =
       let s : σ (opposite (x a)) ≡ x (suc a) = ap σ (sym (mate-dart q toured (parts .count) a ha)) ∙ turn-up a (m a) ha d refl in

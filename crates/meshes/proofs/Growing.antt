@@ -1,6 +1,9 @@
 -- A plan that is fit for kind 2, whose vertices have three darts and whose edges have two faces, has the word of a good tree.
 --
---   Places a j        the node that is entered at a has its second place at j
+--   after-flat, after-tree   the next place about a vertex
+--   second-late       a second stands after the first place of its node, and its edge begins between them
+--   Places a j, places   the node that is entered at a has its second place at j; it has one
+--   not-up            an up stands at none of a node's places but that of its arrival dart
 --   node, grow        the letters from a down to its up are those of a good tree (lemma 4.1: no other node type comes)
 --   grown             the whole word is that of a good tree with two open edges
 use Prim.Native.Nat.{ℕ, zero, suc, _+_, _≤_, _<_}
@@ -73,12 +76,14 @@ module _ (q : Plan) (fits : fit 2 q ≡ true) where
   further : (i j : ℕ) → i < N → j < N → σ (x i) ≡ x j → posOf q (σ (x i)) ≡ j
   further i j hi hj s = ap (posOf q) s ∙ toured .pos-dart j hj
 
-  after-flat : (i j : ℕ) → i < N → j < N → σ (x i) ≡ x j → isTree (ℓ i) ≡ false → (j ≡ suc i) ⊎ ((j ≡ 0) × (suc i ≡ N))
+  pub after-flat : (i j : ℕ) → i < darts q → j < darts q → next (q .rotation) (dartAt q i) ≡ dartAt q j → isTree (letterOf q i) ≡ false
+      → (j ≡ suc i) ⊎ ((j ≡ 0) × (suc i ≡ darts q))
   after-flat i j hi hj s e =
       let p : j ≡ chord.next N i = sym (further i j hi hj s) ∙ turn-flat q fits i hi e in
       ⊎-elim (λ c. inl (p ∙ c .1)) (λ c. inr (p ∙ c .1, c .0)) (next-cases N i hi)
 
-  after-tree : (i j : ℕ) → i < N → j < N → σ (x i) ≡ x j → isTree (ℓ i) ≡ true → (j ≡ suc (m i)) ⊎ ((j ≡ 0) × (suc (m i) ≡ N))
+  pub after-tree : (i j : ℕ) → i < darts q → j < darts q → next (q .rotation) (dartAt q i) ≡ dartAt q j → isTree (letterOf q i) ≡ true
+      → (j ≡ suc (mateOf q i)) ⊎ ((j ≡ 0) × (suc (mateOf q i) ≡ darts q))
   after-tree i j hi hj s e =
       let p : j ≡ chord.next N (m i) = sym (further i j hi hj s) ∙ turn-tree q fits i hi e in
       ⊎-elim (λ c. inl (p ∙ c .1)) (λ c. inr (p ∙ c .1, c .0)) (next-cases N (m i) (mate-bound q toured (parts .count) i hi))
@@ -108,7 +113,7 @@ module _ (q : Plan) (fits : fit 2 q ≡ true) where
       ∙ enters-arrival q fits (m k) (mate-bound q toured (parts .count) k h) (mate-letter q toured k h up e)
 
   -- a second ends an edge that began in a vertex entered later, so not before that vertex's first place
-  second-late : (k : ℕ) → k < N → ℓ k ≡ second → (enteredAt q k < m k) × (m k < k)
+  pub second-late : (k : ℕ) → k < darts q → letterOf q k ≡ second → (enteredAt q k < mateOf q k) × (mateOf q k < k)
   second-late k h e =
       let d = fit-descends 2 q fits (no-loop q fits) k h e in
       let l = enters-before q fits (m k) (le-of-lt (mate-bound q toured (parts .count) k h)) in
@@ -183,7 +188,7 @@ module _ (q : Plan) (fits : fit 2 q ≡ true) where
       pub other₁ : suc a ≢ mateOf q a
       pub other₂ : j ≢ mateOf q a
 
-    places : (a : ℕ) → a < N → ℓ a ≡ down → (j : ℕ) × Places a j
+    pub places : (a : ℕ) → a < darts q → letterOf q a ≡ down → (j : ℕ) × Places a j
     places a h e =
         let b = m a in
         let hb = mate-bound q toured (parts .count) a h in
@@ -206,7 +211,7 @@ module _ (q : Plan) (fits : fit 2 q ≡ true) where
           },
         )
 
-    not-up : (a k : ℕ) → a < N → k < N → enteredAt q k ≡ suc a → k ≢ m a → ℓ k ≢ up
+    pub not-up : (a k : ℕ) → a < darts q → k < darts q → enteredAt q k ≡ suc a → k ≢ mateOf q a → letterOf q k ≢ up
     not-up a k ha h n o e =
         let s = up-entered k h e in
         let z : m k ≡ a = omega arith in

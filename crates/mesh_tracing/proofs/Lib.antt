@@ -1,0 +1,8 @@
+pub mod Ends
+mod Views
+mod Faces
+mod Walks
+mod Seconds
+mod Firsts
+mod Homes
+mod Turns

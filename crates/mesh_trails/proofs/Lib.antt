@@ -1,0 +1,3 @@
+pub mod Strolls
+pub mod Climbs
+pub mod Places

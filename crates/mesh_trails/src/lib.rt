@@ -1,0 +1,1 @@
+// Theory: the walk of a mesh's dual, face by face.
