@@ -4,8 +4,7 @@
 --   Coding n count w₀ i s w   the first i types are put
 --   start-coding, next-coding, end-coding   before the first, one more, after the last
 --   type-here              the next type is one, and has its places
---   codes-typed            the codes of the types that a word has are its codes
-use Prim.Native.Nat.{ℕ, zero, suc, _+_, _-_, _*_, _/_, _≤_, _<_}
+use Prim.Native.Nat.{ℕ, zero, suc, _+_, _-_, _*_, _≤_, _<_}
 use native.Mathlib.Nat.{not-suc-le-zero, le-of-suc-le-suc, le-refl}
 use native.Mathlib.Omega.{arith}
 use native.Mathlib.Numerals.{add-one}
@@ -21,7 +20,7 @@ use Rattle.work.specs.Map.{TYPES, BITS, LABELS}
 use Rattle.work.specs.Area.{region}
 use Rattle.work.proofs.Regions.{length-region, getD-region, region-set-other, region-push}
 use Rattle.mesh_encoder.specs.declared.Sizes.{Sizes}
-use Rattle.mesh_encoder.specs.Encoded.{Typed, CodesOf, Encoded}
+use Rattle.mesh_encoder.specs.Encoded.{CodesOf}
 use Rattle.mesh_encoder.specs.Passes.{Put}
 
 -- ---- one type
@@ -190,15 +189,3 @@ module _ (n count : ℕ) (w₀ : List ℕ) (room : 16 * n ≤ length w₀) (half
           digits = digits-are;
           kept = size;
         }
-
-pub codes-typed : (n : ℕ) (w w₁ : List ℕ) (r : Sizes) (w′ : List ℕ) → Typed n w w₁
-    → CodesOf n (region (TYPES * n) (n / 3 - 1) w₁) w₁ r w′ → Encoded n w r w′
-codes-typed n w w₁ r w′ t e = record {
-  bit-count = rw (← t .types) (e .bit-count);
-  digit-count = rw (← t .types) (e .digit-count);
-  bits-fit = e .bits-fit;
-  digits-fit = e .digits-fit;
-  bits = rw (← t .types) (e .bits);
-  digits = rw (← t .types) (e .digits);
-  kept = e .kept ∙ t .kept;
-}

@@ -1,3 +1,1 @@
-mod Letters
-mod Scanning
 mod Coding

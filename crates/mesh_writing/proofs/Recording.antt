@@ -14,38 +14,33 @@ use lib.ListN.{length}
 use borrow.Author.Tests.{lt-ltb, le-ltb}
 use Rattle.model.specs.declared.Table.{Table}
 use Rattle.model.specs.Numbers.{elem}
-use Rattle.model.specs.Map.{Plan, darts, edges, storesOutside, family, fit}
-use Rattle.model.specs.Mesh.{dualPlan, types}
-use Rattle.model.specs.Traversal.{word}
+use Rattle.model.specs.Map.{Plan, darts, edges, storesOutside, family}
+use Rattle.model.specs.Mesh.{types}
 use Rattle.model.specs.Groups.{byteFor}
 use Rattle.model.specs.Record.{headed, meshPayload, payloadOf, outsideBytes, recordOf}
 use Rattle.model.specs.Calls.{front}
 use Rattle.model.proofs.Fitness.{fit-parts, count-parts}
-use Rattle.packing.specs.Types.{allTypes}
 use Rattle.packing.proofs.Types.{type-bits-below, type-digits-below}
 use Rattle.packing.proofs.Headed.{headed-length}
-use Rattle.coding.proofs.Meshes.{mesh-proper, mesh-types, all-types}
 use Rattle.mesh_encoder.specs.declared.Sizes.{Sizes}
 use Rattle.mesh_encoder.specs.Encoded.{CodesOf}
 use Rattle.mesh_writing.specs.Laid.{Ready, payloadSize, tabledPayload}
-use Rattle.mesh_writing.specs.Recorded.{MeshRecorded}
+use Rattle.mesh_writing.specs.Recorded.{Typed, MeshRecorded}
+use Rattle.mesh_writing.proofs.Coding.{types-proper}
 use Rattle.mesh_writing.proofs.Laying.{payload-long}
 
-module _ (p : Plan) (w : List ℕ) (s : Sizes) (w₁ : List ℕ) (fits : fit 3 p ≡ true) (room : 16 * darts p ≤ length w) (c : CodesOf (darts p) (types p) w s w₁) where
+module _ (p : Plan) (w : List ℕ) (s : Sizes) (w₁ : List ℕ) (t : Typed p w) (c : CodesOf (darts p) (types p) w s w₁) where
   few : darts p ≤ 8192
-  few = count-parts (darts p) (fit-parts 3 p fits .count) .2
-
-  proper : allTypes (types p) ≡ true
-  proper = rw (mesh-types p fits) (all-types (word (dualPlan p)) (mesh-proper p fits))
+  few = count-parts (darts p) (fit-parts 3 p (t .mesh) .count) .2
 
   pub ready : Ready (darts p) s w₁
   ready = record {
     few = few;
-    room = omega (arith, c .kept);
+    room = omega (arith, t .room, c .kept);
     bits-fit = c .bits-fit;
     digits-fit = c .digits-fit;
     bits-low = rw (c .bits) (type-bits-below (types p));
-    digits-low = rw (c .digits) (type-digits-below (types p) proper);
+    digits-low = rw (c .digits) (type-digits-below (types p) (types-proper p (t .mesh)));
   }
 
   pub small : (s .bits ≤ 8192) × (s .digits ≤ 8192)

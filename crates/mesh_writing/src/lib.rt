@@ -1,28 +1,24 @@
-// The record of a mesh: the word of its dual, its node types and their codes in the work area, then head and payload in the output. A plan that does not fit
-// is not known here.
+// The record of a mesh whose node types are in the work area: their codes there, then head and payload in the output. How types are found is not known here.
 use mesh_encoder::Sizes;
 ghost use mathlib.Core.Path.{_≡_};
-ghost use mathlib.Core.Bool.{true};
 ghost use Prim.Native.Nat.{_+_, _*_, _/_, _^_, _≤_};
 ghost use lib.ListN.{length};
-ghost use Rattle.model.specs.Map.{fit};
 ghost use Rattle.model.specs.Mesh.{types};
 ghost use Rattle.model.specs.Record.{headed};
 ghost use Rattle.model.specs.Calls.{front};
 ghost use Rattle.work.specs.Area.{placed};
 ghost use Rattle.mesh_encoder.specs.Encoded.{CodesOf};
 ghost use Rattle.mesh_writing.specs.Laid.{Ready, payloadSize, tabledPayload};
-ghost use Rattle.mesh_writing.specs.Recorded.{MeshRecorded};
+ghost use Rattle.mesh_writing.specs.Recorded.{Typed, MeshRecorded};
 
-// The bits and digits of the types of a mesh, in the work area.
+// The bits and digits of the types, in the work area.
 fn coded(order: &[u16], root: u16, w: &mut [u16]) -> Sizes
-    requires { ⌜ (fit 3 (record { rotation = now order; root = root; outside = 0 }) ≡ true) × (16 * length (now order) ≤ length (now w)) ⌝ }
+    requires { ⌜ Typed (record { rotation = now order; root = root; outside = 0 }) (now w) ⌝ }
     ensures { λ r. ⌜ CodesOf (length (now (order .entry))) (types (record { rotation = now (order .entry); root = root; outside = 0 }))
         (now (w .entry)) r (now (w .exit)) ⌝ }
 {
     let n = order.len();
-    dual_contour::walk(order, root as usize, w);
-    mesh_encoder::encode(w, n)
+    mesh_encoder::codes(w, n, n / 3 - 1)
 }
 
 // The payload under the table with these bytes, from place at on.
@@ -48,10 +44,10 @@ fn laid_out(bytes: &[u8], w: &[u16], n: usize, s: Sizes, total: u16, out: &mut [
     put_payload(bytes, w, n, s, out, at);
 }
 
-// The record of a mesh, under the table with these bytes: its length; 0 where the output has no room for it, and is left as it was.
+// The record of a mesh whose types stand in their place, under the table with these bytes: its length; 0 where the output has no room for it, and is left as it
+// was.
 pub fn write(bytes: &[u8], order: &[u16], root: u16, w: &mut [u16], out: &mut [u8]) -> u16
-    requires { ⌜ (length (now bytes) ≡ 243) × (fit 3 (record { rotation = now order; root = root; outside = 0 }) ≡ true)
-        × (16 * length (now order) ≤ length (now w)) ⌝ }
+    requires { ⌜ (length (now bytes) ≡ 243) × Typed (record { rotation = now order; root = root; outside = 0 }) (now w) ⌝ }
     ensures { λ r. ⌜ MeshRecorded (now (bytes .entry)) (record { rotation = now (order .entry); root = root; outside = 0 })
         (now (w .entry)) (now (out .entry)) r (now (w .exit)) (now (out .exit)) ⌝ }
 {
