@@ -3,14 +3,13 @@
 --   no-table             the table's refusal
 --   turned-away          an early one
 --   sound-late, late-sound   a plan of another kind than 3 is sound exactly if no late refusal concerns it
+--   fit-late             none concerns a plan that fits
 --   Begun                the early refusals are passed, and the plan is walked
---   walk-laid            what laying out asks of a plan that the walk has found fit
---   made-fast            and what is then written
---   to-judge, made-slow  what judging asks of another, and what is then answered
---   mesh-asked           what writing a mesh asks
---   mesh-laid, mesh-refused   what is laid out of it, and where it has no room
---   Told, tell           the plan's verdict
---   judged-refused, judged-curved, judged-mesh   what is answered by it
+--   walk-fits, made-laid     what laying out asks of a plan that the walk has found fit, and what is then answered
+--   walk-unfit, made-refused what judging asks of another, and what is then answered
+--   other-laid           what is laid out of a plan of another kind than 3
+--   mesh-laid, mesh-refused, mesh-kind   what is laid out of a mesh, and where it has no room
+--   told-refused, told-curved, told-fits   what is answered by the plan's verdict
 use Prim.Native.Nat.{ℕ, _+_, _*_, _%_, _≤_, _<_}
 use native.Mathlib.Omega.{arith}
 use mathlib.Core.Path.{_≡_, refl, sym, ap, subst, _∙_}
@@ -53,7 +52,7 @@ use Rattle.laying.specs.Laid.{ToLay, Recorded}
 use Rattle.mesh_writing.specs.Recorded.{MeshRecorded}
 use Rattle.write_checks.specs.Early.{earlyRefusal}
 use Rattle.write_checks.proofs.Refusing.{Passed, early-parts}
-use Rattle.writing.specs.Made.{Answered, Made, lastRefusal, laterRefusal, Walked, ToJudge}
+use Rattle.writing.specs.Made.{Answered, Made, lastRefusal, Walked, Unfit, Refused, Fits}
 use Rattle.writing.proofs.Refusing.{refusal-table, refusal-split, early-not-ten}
 
 pub no-table : {table : Table} {k : ℕ} {p : Plan} {w out : List ℕ} → tableRefused table ≡ true → Made table k p w out (written.Refused 19) w out
@@ -78,6 +77,10 @@ turned-away {table} {k} {p} {w} {out} {w₁} {r} stands kept e₁ ne =
 same-late : (f : ℕ) (p : Plan) → lateRefusal f (withOutside p 0) ≡ lateRefusal f p
 unfolding lateRefusal lateRefusals degreeRefused
 same-late f p = rw (same-dead-ends p 0)
+
+mesh-outside-free : (p : Plan) → fit 3 p ≡ true → fit 3 (withOutside p 0) ≡ true
+unfolding storesOutside elem
+mesh-outside-free p e = fit-outside p 0 3 e (λ s. absurd (false≢true s))
 
 passed : (k : ℕ) (p : Plan) (w o : ℕ) → earlyRefusal k p w o ≡ 0 → lateRefusal (family k) p ≡ 0 → fit k p ≡ true
 unfolding earlyRefusal lateRefusal
@@ -106,6 +109,10 @@ module _ (f : ℕ) (p : Plan) (other : f ≢ 3) where
         no-loop = λ n. rw (ne-eqb f 4 n) at (holds 11);
         no-leaf = λ q. same-dead-ends p 0 ∙ (rw (eq-eqb f 1 q) at (holds 12));
       }
+
+pub fit-late : (k : ℕ) (p : Plan) → fit k p ≡ true → lateRefusal (family k) p ≡ 0
+unfolding lateRefusal lateRefusals firstRefusal
+fit-late k p e = let f = fit-parts k p e in rw (f .joined, f .flat, f .loops, f .triangles, f .degrees)
 
 -- ---- the marks of a plan that fits tell its standard numbers
 
@@ -136,66 +143,93 @@ pub record Begun (table : Table) (k : ℕ) (p : Plan) (w out w₁ w₂ : List �
   pub walk : Walked k (withOutside p 0) w₁ b w₂
 
 module _ {table : Table} {k : ℕ} {p : Plan} {w out w₁ w₂ : List ℕ} {b : Bool} (begun : Begun table k p w out w₁ w₂ b) where
-  left : writeRefusal table k p (length w) (length out) ≡ laterRefusal table k p (length out)
-  unfolding laterRefusal lastRefusal
-  left = refusal-split table k p (length w) (length out) (begun .stands)
-      ∙ rw (ap (λ (l : ℕ). earlyRefusal k p l (length out)) (sym (begun .kept)) ∙ begun .passes)
-
   handed : Passed k p (length w₁) (length out)
   handed = early-parts k p (length w₁) (length out) (begun .passes)
 
-  module _ (yes-fits : b ≡ true) where
-    other : k ≢ 3
-    other = begun .walk .fits yes-fits .0
+  abbrev late : ℕ
+  late = lateRefusal (family k) p
 
-    fitting : Fitting (family k) (withOutside p 0) w₂
-    fitting = begun .walk .fits yes-fits .1
+  left : writeRefusal table k p (length w) (length out) ≡ cond (eqb late 0) (lastRefusal table k p (length out)) late
+  unfolding lastRefusal
+  left = refusal-split table k p (length w) (length out) (begun .stands)
+      ∙ rw (ap (λ (l : ℕ). earlyRefusal k p l (length out)) (sym (begun .kept)) ∙ begun .passes)
 
+  kept : length w₂ ≡ length w
+  kept = begun .walk .kept ∙ begun .kept
+
+  room : 16 * darts p ≤ length w₂
+  room = omega (arith, handed .room, begun .walk .kept)
+
+  other-family : k ≢ 3 → family k ≢ 3
+  other-family = family-not-three k (handed .kind)
+
+  module _ (yes : b ≡ true) where
     none-late : lateRefusal (family k) p ≡ 0
-    none-late = sound-late (family k) p (family-not-three k (handed .kind) other) (fitting .sound)
+    none-late = eq-split k 3
+        (λ q. sym (same-late (family k) p) ∙ subst (λ (j : ℕ). lateRefusal (family j) (withOutside p 0) ≡ 0) (sym q) (fit-late 3 (withOutside p 0) (begun .walk .mesh yes q .mesh)))
+        (λ n. sound-late (family k) p (other-family n) (begun .walk .fits yes n .sound))
 
-    fits : fit k p ≡ true
-    fits = passed k p (length w₁) (length out) (begun .passes) none-late
+    module _ (n : k ≢ 3) where
+      fitting : Fitting (family k) (withOutside p 0) w₂
+      fitting = begun .walk .fits yes n
 
-    room : 16 * darts p ≤ length w₂
-    room = omega (arith, handed .room, begun .walk .kept)
+      fits : fit k p ≡ true
+      fits = passed k p (length w₁) (length out) (begun .passes) none-late
 
-    pub walk-laid : ToLay k p w₂ out
-    walk-laid = record {
-      other = other;
-      fits = fits;
-      spelt = record {
-        letters = λ f. fitting .letters f ∙ ap (map code) (same-word p 0);
-        bits = λ f. fitting .bits f ∙ ap (wordBits false) (same-word p 0);
-        labels = λ f. fitting .labels f ∙ ap wordLabels (same-word p 0);
-      };
-      marks = λ s. marked (family k) p w₂ (fit-widest k p fits s) (omega (arith, room)) fitting;
-      room = room;
-      space = handed .space (ne-eqb k 3 other);
-    }
+      to-lay : ToLay k p w₂ out
+      to-lay = record {
+        other = n;
+        fits = fits;
+        spelt = record {
+          letters = λ f. fitting .letters f ∙ ap (map code) (same-word p 0);
+          bits = λ f. fitting .bits f ∙ ap (wordBits false) (same-word p 0);
+          labels = λ f. fitting .labels f ∙ ap wordLabels (same-word p 0);
+        };
+        marks = λ s. marked (family k) p w₂ (fit-widest k p fits s) (omega (arith, room)) fitting;
+        room = room;
+        space = handed .space (ne-eqb k 3 n);
+      }
 
-    pub made-fast : (n : ℕ) (out′ : List ℕ) → Recorded table k p out n out′ → Made table k p w out (written.Length n) w₂ out′
-    unfolding laterRefusal lastRefusal lastRefusals firstRefusal answerOf
-    made-fast n out′ r =
-        let none : writeRefusal table k p (length w) (length out) ≡ 0 = left ∙ rw (none-late, ne-eqb k 3 other) in
-        record { answered = rw (none, r .answered); filled = r .filled ∙ rw none; kept = begun .walk .kept ∙ begun .kept }
+    pub walk-fits : Fits k p w₂ out
+    walk-fits = record { other = to-lay; mesh = begun .walk .mesh yes }
 
-  module _ (not-fit : b ≡ false) where
-    pub to-judge : ToJudge k p w₂
-    to-judge = record {
+    pub made-laid : (a : Written) (w₃ out′ : List ℕ) → Answered (lastRefusal table k p (length out)) table k p w₂ out a w₃ out′ → Made table k p w out a w₃ out′
+    made-laid a w₃ out′ r =
+        let last : writeRefusal table k p (length w) (length out) ≡ lastRefusal table k p (length out) = left ∙ rw none-late in
+        record { answered = r .answered ∙ rw last; filled = r .filled ∙ rw last; kept = r .kept ∙ kept }
+
+  module _ (no : b ≡ false) where
+    some-late : lateRefusal (family k) p ≢ 0
+    some-late e = eq-split k 3
+        (λ q. begun .walk .no-mesh no q (mesh-outside-free p (subst (λ (j : ℕ). fit j p ≡ true) q (passed k p (length w₁) (length out) (begun .passes) e))))
+        (λ n. begun .walk .unfit no n (late-sound (family k) p (other-family n) e))
+
+    pub walk-unfit : Unfit k (withOutside p 0) w₂
+    walk-unfit = record {
       count = handed .count;
       entries = handed .entries;
       root-in = handed .root;
-      room = omega (arith, handed .room, begun .walk .kept);
-      checked = λ e. (
-        eq-split k 3 (λ q. q)
-            (λ n. absurd (begun .walk .unfit not-fit n (late-sound (family k) p (family-not-three k (handed .kind) n) e))),
-        passed k p (length w₁) (length out) (begun .passes) e,
-      );
+      room = room;
+      late = λ e. some-late (sym (same-late (family k) p) ∙ e);
     }
 
-    pub made-slow : (a : Written) (w₃ out′ : List ℕ) → Answered (laterRefusal table k p (length out)) table k p w₂ out a w₃ out′ → Made table k p w out a w₃ out′
-    made-slow a w₃ out′ r = record { answered = r .answered ∙ rw left; filled = r .filled ∙ rw left; kept = r .kept ∙ begun .walk .kept ∙ begun .kept }
+    pub made-refused : (a : Written) (w₃ : List ℕ) → Refused k (withOutside p 0) w₂ a w₃ → Made table k p w out a w₃ out
+    unfolding answerOf
+    made-refused a w₃ r =
+        let some = ne-eqb late 0 some-late in
+        let first : writeRefusal table k p (length w) (length out) ≡ late = left ∙ rw some in
+        record {
+          answered = r .answered table ∙ rw (first, same-late (family k) p, some);
+          filled = rw (first, some);
+          kept = r .kept ∙ kept;
+        }
+
+-- ---- a plan of another kind than 3
+
+pub other-laid : (t : Table) (k : ℕ) (p : Plan) (w out : List ℕ) (n : ℕ) (out′ : List ℕ) → k ≢ 3 → Recorded t k p out n out′
+    → Answered (lastRefusal t k p (length out)) t k p w out (written.Length n) w out′
+unfolding lastRefusal lastRefusals firstRefusal answerOf
+other-laid t k p w out n out′ other r = record { answered = rw (ne-eqb k 3 other, r .answered); filled = r .filled ∙ rw (ne-eqb k 3 other); kept = refl }
 
 -- ---- a mesh
 
@@ -236,58 +270,29 @@ module _ (t : Table) {bs : List ℕ} (p : Plan) {w out : List ℕ} {n : ℕ} {w�
       go true e = absurd (some (rw e at answered))
       go false e = record { answered = rw e (ap written.Length (rw e at answered)); filled = filled ∙ rw e; kept = m .kept }
 
--- what writing a mesh asks
-pub mesh-asked : (bs : List ℕ) (p : Plan) (w : List ℕ) → length bs ≡ 243 → fit 3 p ≡ true → 16 * darts p ≤ length w
-    → (length bs ≡ 243) × (fit 3 (withOutside p 0) ≡ true) × (16 * darts p ≤ length w)
-unfolding storesOutside elem
-mesh-asked bs p w long e wide = (long, fit-outside p 0 3 e (λ s. absurd (false≢true s)), wide)
+-- in the kind that it is of
+pub mesh-kind : (t : Table) (k : ℕ) (p : Plan) (w out : List ℕ) (a : Written) (w′ out′ : List ℕ) → k ≡ 3
+    → Answered (lastRefusal t 3 p (length out)) t 3 p w out a w′ out′ → Answered (lastRefusal t k p (length out)) t k p w out a w′ out′
+mesh-kind t k p w out a w′ out′ q = subst (λ (j : ℕ). Answered (lastRefusal t j p (length out)) t j p w out a w′ out′) (sym q)
 
 -- ---- the verdict
 
-pub record Told (k : ℕ) (p : Plan) (w : List ℕ) (v : Verdict) (w₁ : List ℕ) : Type 0 where
-  pub asked : ToJudge k p w
-  pub judged : Judged (family k) (withOutside p 0) w v w₁
-
-pub tell : {k : ℕ} {p : Plan} {w : List ℕ} {v : Verdict} {w₁ : List ℕ} (f : ℕ) → ToJudge k p w → f ≡ family k → Judged f (withOutside p 0) w v w₁ → Told k p w v w₁
-tell {k} {p} {w} {v} {w₁} f asked of j = record { asked = asked; judged = subst (λ (g : ℕ). Judged g (withOutside p 0) w v w₁) of j }
-
-module _ (out : List ℕ) {k : ℕ} {p : Plan} {w : List ℕ} {v : Verdict} {w₁ : List ℕ} (told : Told k p w v w₁) where
+module _ (k f : ℕ) {p : Plan} {w : List ℕ} {v : Verdict} {w₁ : List ℕ} (of : f ≡ family k) (judged : Judged f p w v w₁) where
   -- the verdict of this form is the plan's
-  found : {u : Verdict} → v ≡ u → u ≡ verdictOf (family k) (withOutside p 0)
-  found z = sym z ∙ told .judged .answered
+  found : {u : Verdict} → v ≡ u → u ≡ verdictOf (family k) p
+  found z = sym z ∙ judged .answered ∙ ap (λ (g : ℕ). verdictOf g p) of
 
-  pub judged-refused : {r : ℕ} → v ≡ verdict.Refused r → (table : Table) → Answered (laterRefusal table k p (length out)) table k p w out (written.Refused r) w₁ out
-  unfolding answerOf laterRefusal
-  judged-refused z table =
-      let (late, some, other) = verdict-refused (family k) (withOutside p 0) (found z) in
-      record {
-        answered = rw (← same-late (family k) p, some, some, other) (ap written.Refused (sym late));
-        filled = rw (← same-late (family k) p, some, some);
-        kept = told .judged .kept;
-      }
+  pub told-refused : {r : ℕ} → v ≡ verdict.Refused r → Refused k p w (written.Refused r) w₁
+  unfolding answerOf
+  told-refused z =
+      let (late, some, other) = verdict-refused (family k) p (found z) in
+      record { answered = λ t. rw (some, other) (ap written.Refused (sym late)); kept = judged .kept }
 
-  pub judged-curved : {x : ℤ} → v ≡ verdict.NotPlanar x → (table : Table) → Answered (laterRefusal table k p (length out)) table k p w out (written.NotPlanar x) w₁ out
-  unfolding answerOf laterRefusal
-  judged-curved z table =
-      let (late, e) = verdict-curved (family k) (withOutside p 0) (found z) in
-      let first : lateRefusal (family k) p ≡ 10 = sym (same-late (family k) p) ∙ late in
-      record { answered = rw first (ap written.NotPlanar e); filled = rw first; kept = told .judged .kept }
+  pub told-curved : {x : ℤ} → v ≡ verdict.NotPlanar x → Refused k p w (written.NotPlanar x) w₁
+  unfolding answerOf
+  told-curved z =
+      let (late, e) = verdict-curved (family k) p (found z) in
+      record { answered = λ t. rw late (ap written.NotPlanar e); kept = judged .kept }
 
-  module _ {f : ℕ} (z : v ≡ verdict.Fits f) where
-    none-refused : lateRefusal (family k) p ≡ 0
-    none-refused = sym (same-late (family k) p) ∙ verdict-fits (family k) (withOutside p 0) (found z) .0
-
-    three : k ≡ 3
-    three = told .asked .checked none-refused .0
-
-    pub mesh-fits : fit 3 p ≡ true
-    mesh-fits = subst (λ (j : ℕ). fit j p ≡ true) three (told .asked .checked none-refused .1)
-
-    pub judged-mesh : (table : Table) {a : Written} {w₂ out′ : List ℕ} → Answered (lastRefusal table 3 p (length out)) table 3 p w₁ out a w₂ out′
-        → Answered (laterRefusal table k p (length out)) table k p w out a w₂ out′
-    unfolding laterRefusal
-    judged-mesh table {a} {w₂} {out′} r =
-        let last : laterRefusal table k p (length out) ≡ lastRefusal table 3 p (length out) = rw none-refused (ap (λ (j : ℕ). lastRefusal table j p (length out)) three) in
-        let q : Answered (lastRefusal table 3 p (length out)) table k p w₁ out a w₂ out′ =
-        subst (λ (j : ℕ). Answered (lastRefusal table 3 p (length out)) table j p w₁ out a w₂ out′) (sym three) r in
-        record { answered = q .answered ∙ rw last; filled = q .filled ∙ rw last; kept = q .kept ∙ told .judged .kept }
+  pub told-fits : {n : ℕ} → v ≡ verdict.Fits n → lateRefusal (family k) p ≡ 0
+  told-fits z = verdict-fits (family k) p (found z) .0

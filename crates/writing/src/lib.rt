@@ -7,10 +7,36 @@ ghost use mathlib.Core.Bool.{true};
 ghost use Prim.Native.Nat.{_*_, _≤_, _<_};
 ghost use lib.ListN.{length, replicate};
 ghost use Rattle.model.specs.Numbers.{isPermutation};
-ghost use Rattle.model.specs.Map.{dartCountFits, fit};
+ghost use Rattle.model.specs.Map.{dartCountFits};
 ghost use Rattle.model.specs.Calls.{Wrote};
 ghost use Rattle.work.specs.Area.{region};
-ghost use Rattle.writing.specs.Made.{Made, LaidUnder, JudgedUnder, Walked, ToJudge};
+ghost use Rattle.mesh_writing.specs.Recorded.{Typed};
+ghost use Rattle.writing.specs.Made.{Made, LaidUnder, Walked, Unfit, Refused, Fits};
+
+// Whether the plan fits the kind; then what its record is made of is in the work area.
+fn walked(order: &[u16], root: u16, kind: u16, w: &mut [u16]) -> bool
+    requires { ⌜ (dartCountFits (length (now order)) ≡ true) × (isPermutation (now order) ≡ true) × (root < length (now order))
+        × (16 * length (now order) ≤ length (now w)) × (region 0 (length (now order)) (now w) ≡ replicate (length (now order)) 0) ⌝ }
+    ensures { λ r. ⌜ Walked kind (record { rotation = now (order .entry); root = root; outside = 0 }) (now (w .entry)) r (now (w .exit)) ⌝ }
+{
+    if kind == 3 {
+        return mesh_tracing::walk(order, root as usize, w);
+    }
+    tracing::walk(order, root as usize, heads::family(kind), w)
+}
+
+// The answer for a plan that does not fit, by its verdict.
+fn refused(order: &[u16], root: u16, kind: u16, w: &mut [u16]) -> Written
+    requires { ⌜ Unfit kind (record { rotation = now order; root = root; outside = 0 }) (now w) ⌝ }
+    ensures { λ r. ⌜ Refused kind (record { rotation = now (order .entry); root = root; outside = 0 }) (now (w .entry)) r (now (w .exit)) ⌝ }
+{
+    let v = fitting::judge(order, root as usize, heads::family(kind), w);
+    match v {
+        Verdict::Refused(x) => Written::Refused(x),
+        Verdict::NotPlanar(x) => Written::NotPlanar(x),
+        Verdict::Fits(_) => Written::Refused(0), // it is never this one
+    }
+}
 
 // The answer for a mesh: its record, but 8 where the record is known to be too long only now.
 fn mesh(
@@ -21,8 +47,7 @@ fn mesh(
     w: &mut [u16],
     out: &mut [u8],
 ) -> Written
-    requires { ⌜ (length (now bytes) ≡ 243) × (fit 3 (record { rotation = now order; root = root; outside = outside }) ≡ true)
-        × (16 * length (now order) ≤ length (now w)) ⌝ }
+    requires { ⌜ (length (now bytes) ≡ 243) × Typed (record { rotation = now order; root = root; outside = 0 }) (now w) ⌝ }
     ensures { λ r. ⌜ LaidUnder (now (bytes .entry)) 3 (record { rotation = now (order .entry); root = root; outside = outside })
         (now (w .entry)) (now (out .entry)) r (now (w .exit)) (now (out .exit)) ⌝ }
 {
@@ -33,8 +58,8 @@ fn mesh(
     Written::Length(length)
 }
 
-// The answer for a plan of kind 3, or for one that the walk has found unfit: by its verdict.
-fn judged(
+// The answer for a plan that fits.
+fn laid(
     bytes: &[u8],
     order: &[u16],
     root: u16,
@@ -43,28 +68,15 @@ fn judged(
     w: &mut [u16],
     out: &mut [u8],
 ) -> Written
-    requires { ⌜ (length (now bytes) ≡ 243) × ToJudge kind (record { rotation = now order; root = root; outside = outside }) (now w) ⌝ }
-    ensures { λ r. ⌜ JudgedUnder (now (bytes .entry)) kind (record { rotation = now (order .entry); root = root; outside = outside })
+    requires { ⌜ (length (now bytes) ≡ 243) × Fits kind (record { rotation = now order; root = root; outside = outside }) (now w) (now out) ⌝ }
+    ensures { λ r. ⌜ LaidUnder (now (bytes .entry)) kind (record { rotation = now (order .entry); root = root; outside = outside })
         (now (w .entry)) (now (out .entry)) r (now (w .exit)) (now (out .exit)) ⌝ }
 {
-    let v = fitting::judge(order, root as usize, heads::family(kind), w);
-    match v {
-        Verdict::Refused(x) => Written::Refused(x),
-        Verdict::NotPlanar(x) => Written::NotPlanar(x),
-        Verdict::Fits(_) => mesh(bytes, order, root, outside, w, out), // of another kind none fits
-    }
-}
-
-// Whether the plan is of a kind other than 3 and fits; then what its record is made of is in the work area.
-fn walked(order: &[u16], root: u16, kind: u16, w: &mut [u16]) -> bool
-    requires { ⌜ (dartCountFits (length (now order)) ≡ true) × (isPermutation (now order) ≡ true) × (root < length (now order))
-        × (16 * length (now order) ≤ length (now w)) × (region 0 (length (now order)) (now w) ≡ replicate (length (now order)) 0) ⌝ }
-    ensures { λ r. ⌜ Walked kind (record { rotation = now (order .entry); root = root; outside = 0 }) (now (w .entry)) r (now (w .exit)) ⌝ }
-{
     if kind == 3 {
-        return false;
+        return mesh(bytes, order, root, outside, w, out);
     }
-    tracing::walk(order, root as usize, heads::family(kind), w)
+    let length = laying::laid_out(bytes, order, root, outside, kind, w, out);
+    Written::Length(length)
 }
 
 // The answer and the output, before the work area is cleared.
@@ -90,11 +102,10 @@ fn made<'a>(
     if r != 0 {
         return Written::Refused(r);
     }
-    if walked(order, root, kind, w) {
-        let length = laying::laid_out(bytes, order, root, outside, kind, w, out);
-        return Written::Length(length);
+    if !walked(order, root, kind, w) {
+        return refused(order, root, kind, w);
     }
-    judged(bytes, order, root, outside, kind, w, out)
+    laid(bytes, order, root, outside, kind, w, out)
 }
 
 // A plan is written as a record of this kind. Any content and any length of what is lent.

@@ -8,7 +8,7 @@ use Rattle.model.specs.Calls.{tableRefused}
 use Rattle.model.proofs.Fitness.{count-parts}
 use Rattle.write_checks.specs.Early.{earlyRefusal}
 use Rattle.write_checks.proofs.Refusing.{early-parts}
-use Rattle.writing.proofs.Making.{no-table, turned-away, Begun, walk-laid, made-fast, to-judge, made-slow}
+use Rattle.writing.proofs.Making.{no-table, turned-away, Begun, walk-fits, made-laid, walk-unfit, made-refused}
 use borrow.Author.Needs.{needs}
 use Rattle.writing.proofs.made.Statement.{statement}
 use Rattle.writing.proofs.made.Tie as tie
@@ -69,38 +69,35 @@ walked-requires c κs =
     let good = g .ensures .answer (count-parts _ (q .count) .2) ∙ q .entries in
     (q .count, q .entries, q .root, q .room, g .ensures .zeros good (omega (arith, q .room, g .kept .1 .0)))
 
-laid-out-requires : tie.Need-laid-out-requires
-laid-out-requires c κs =
-    let a = c .before .before .before .before .before in
-    (start (a .before .before) .pre .0, walk-laid (begun a) (c .before .before .if3 .taken))
+refused-requires : tie.Need-refused-requires
+refused-requires c κs =
+    let a = c .before .before .before .before in
+    walk-unfit (begun a) (not-true _ (c .before .if3 .taken))
 
 same-length-2 : tie.Need-same-length-2
 same-length-2 c = search needs
 
-same-length-3 : tie.Need-same-length-3
-same-length-3 c = search needs
-
 returns-3 : tie.Need-returns-3
 returns-3 c =
-    let a = c .before .before .before .before .before .before .before .before in
-    made-fast (begun a) (c .before .before .before .before .before .if3 .taken) _ _ (c .before .before .laid-out .ensures (table (start (a .before .before))) refl)
+    let a = c .before .before .before .before .before .before .before in
+    made-refused (begun a) (not-true _ (c .before .before .before .before .if3 .taken)) _ _ (c .before .before .refused .ensures)
 
-judged-requires : tie.Need-judged-requires
-judged-requires c κs =
+laid-requires : tie.Need-laid-requires
+laid-requires c κs =
     let a = c .before .before .before .before .before in
-    (start (a .before .before) .pre .0, to-judge (begun a) (c .before .before .if3 .left))
+    (start (a .before .before) .pre .0, walk-fits (begun a) (not-false _ (c .before .before .if3 .left)))
+
+same-length-3 : tie.Need-same-length-3
+same-length-3 c = search needs
 
 same-length-4 : tie.Need-same-length-4
 same-length-4 c = search needs
 
-same-length-5 : tie.Need-same-length-5
-same-length-5 c = search needs
-
 returns-4 : tie.Need-returns-4
 returns-4 c =
     let a = c .before .before .before .before .before .before .before .before .before .before in
-    made-slow (begun a) (c .before .before .before .before .before .before .before .if3 .left) _ _ _
-    (c .before .before .before .before .judged .ensures (table (start (a .before .before))) refl)
+    made-laid (begun a) (not-false _ (c .before .before .before .before .before .before .before .if3 .left)) _ _ _
+    (c .before .before .before .before .laid .ensures (table (start (a .before .before))) refl)
 
 pub made-spec : {M : Type 1} → statement M
 made-spec =
@@ -113,11 +110,10 @@ made-spec =
     same-length
     returns-2
     walked-requires
-    laid-out-requires
+    refused-requires
     same-length-2
-    same-length-3
     returns-3
-    judged-requires
+    laid-requires
+    same-length-3
     same-length-4
-    same-length-5
     returns-4)

@@ -1,5 +1,5 @@
 use Rattle.model.specs.Map.{Plan}
-use Rattle.writing.proofs.Making.{mesh-asked, mesh-laid, mesh-refused}
+use Rattle.writing.proofs.Making.{mesh-laid, mesh-refused}
 use borrow.Author.Needs.{needs}
 use Rattle.writing.proofs.mesh.Statement.{statement}
 use Rattle.writing.proofs.mesh.Tie as tie
@@ -9,9 +9,7 @@ abbrev plan : tie.Start → Plan
 plan c = record { rotation = c .args .order .now; root = c .args .root; outside = c .args .outside }
 
 write-requires : tie.Need-write-requires
-write-requires c κs =
-    let st = c .before .before .before .before .before .before in
-    mesh-asked (st .args .bytes .now) (plan st) (st .args .w .now) (st .pre .0) (st .pre .1) (st .pre .2)
+write-requires c κs = c .before .before .before .before .before .before .pre
 
 same-length : tie.Need-same-length
 same-length c = search needs
