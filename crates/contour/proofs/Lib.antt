@@ -1,3 +1,2 @@
-pub mod Facing
 pub mod Steps
 mod Rest

@@ -82,7 +82,7 @@ fn surveyed(order: &[u16], root: usize, family: u16, w: &mut [u16]) -> Survey
     let n = order.len();
     let vertices = cycles::name(order, false, w, 0, work::DEGREES * n);
     let looped = loop_refused(order, family, w);
-    let met = contour::walk(order, false, root, w);
+    let met = contour::walk(order, root, w);
     Survey {
         vertices,
         looped,

@@ -7,17 +7,17 @@ use Rattle.contour.proofs.walk.Statement.{statement}
 use Rattle.contour.proofs.walk.Tie as tie
 
 abbrev Inv-loop : tie.InvT-loop
-Inv-loop order across root w₀ n v d₀ i₀ w d i = Walking order across root w₀ d i w
+Inv-loop order root w₀ n v d₀ i₀ w d i = Walking order root w₀ d i w
 
 abbrev μ-loop : tie.MeasureT-loop
-μ-loop order across root w₀ n v d₀ i₀ w d i = length order - i
+μ-loop order root w₀ n v d₀ i₀ w d i = length order - i
 
 -- the area is cleared
 start : (c : tie.After-slice-known3 Inv-loop μ-loop) → let a = c .before .before .before .before .before .before .before .before .before .before in
-    Started (a .args .order .now) (a .args .across) (a .args .root) (a .args .w .now) (c .before .before .fill2 .last .0)
+    Started (a .args .order .now) (a .args .root) (a .args .w .now) (c .before .before .fill2 .last .0)
 start c =
     let a = c .before .before .before .before .before .before .before .before .before .before in
-    started (a .args .order .now) (a .args .across) (a .args .root) (a .args .w .now) (c .before .before .before .before .before .before .fill .last .0)
+    started (a .args .order .now) (a .args .root) (a .args .w .now) (c .before .before .before .before .before .before .fill .last .0)
     (c .before .before .fill2 .last .0) (a .pre .0) (a .pre .1) (a .pre .2) (a .pre .3) (a .pre .4)
     (c .before .before .before .before .before .before .fill .ensures) (c .before .before .fill2 .ensures)
 
@@ -49,7 +49,7 @@ visit-requires : tie.Need-visit-requires Inv-loop μ-loop
 visit-requires c κs =
     let s = start (c .before .before .before .before) in
     let at = c .before .before .loop .inv in
-    (s .count, at .inside, c .before .loop-test .taken, at .room, at .names)
+    (s .count, at .inside, at .room, at .names)
 
 add-i : tie.Need-add-i Inv-loop μ-loop
 add-i c =
