@@ -8,13 +8,14 @@
 use Prim.Native.Nat.{ℕ, _/_, _<_}
 use native.Mathlib.Omega.{arith}
 use mathlib.Core.Path.{_≡_, refl, sym, ap, ap₂, subst, _∙_}
-use mathlib.Core.Logic.{_≢_}
+use mathlib.Core.Logic.{_⊎_, ⊎-elim, _≢_}
 use mathlib.Core.Bool.{true, false}
 use mathlib.Core.List.{List}
 use lib.ListN.{length, getD, set, length-set}
 use lib.Seq.{getD-set-same, getD-set-other}
 use Rattle.model.specs.Numbers.{isPermutation}
 use Rattle.model.specs.Map.{next, faceNext, vertexOf, dartCountFits, isTriangle}
+use Rattle.model.proofs.Booleans.{not-intro}
 use Rattle.model.proofs.Fitness.{count-even}
 use Rattle.orbits.specs.Permutation.{Perm}
 use Rattle.orbits.proofs.Order.{eq-split}
@@ -87,9 +88,18 @@ faced order o x y z ex ey ez back p q s w =
       ap₂ (λ (i j : ℕ). set (set (set w o 32768) i 32768) j 32768) ex second,
     )
 
-pub unfaced : (order : List ℕ) (o : ℕ) (w : List ℕ) → Faced order o w false w
+pub unfaced : (order : List ℕ) (o x y z : ℕ) → x ≡ faceNext order o → y ≡ faceNext order x → z ≡ faceNext order y
+    → (z ≢ o) ⊎ ((o / 2 ≡ x / 2) ⊎ ((x / 2 ≡ y / 2) ⊎ (y / 2 ≡ o / 2))) → (w : List ℕ) → Faced order o w false w
 unfolding Faced
-unfaced order o w = refl
+unfaced order o x y z ex ey ez wrong w = (
+  not-intro _ (λ good.
+      let t = triangle-parts order o good in
+      let second : y ≡ faceNext order (faceNext order o) = ey ∙ ap (faceNext order) ex in
+      let half : (i j : ℕ) → i ≡ j → i / 2 ≡ j / 2 = λ i j e. ap (λ (k : ℕ). k / 2) e in
+      ⊎-elim (λ u. u (ez ∙ ap (faceNext order) second ∙ t .round)) (⊎-elim (λ e. t .one-two (e ∙ half _ _ ex))
+      (⊎-elim (λ e. t .two-three (half _ _ (sym ex) ∙ e ∙ half _ _ second)) (λ e. t .three-one (half _ _ (sym second) ∙ e)))) wrong),
+  refl,
+)
 
 -- the next dart of a face is a dart
 pub next-below : (order : List ℕ) → dartCountFits (length order) ≡ true → isPermutation order ≡ true → (x : ℕ) → x < length order → faceNext order x < length order

@@ -4,7 +4,7 @@
 --   entered              a face is entered
 --   first-ranges, first-in, first-over, first-second, first-edge   what is read and put at a first place is in range
 --   held-down            the walk goes down there
---   held-second          it begins an edge outside the tree, and is at the second place
+--   held-second          it begins an edge outside the tree, and is at the second place, two positions after the down
 use Prim.Native.Nat.{ℕ, suc, _+_, _-_, _≤_, _<_}
 use native.Mathlib.Nat.{le-refl, le-of-lt}
 use native.Mathlib.Numerals.{add-one}
@@ -143,35 +143,38 @@ module _ (order w : List ℕ) (y : ℕ) (s : Stroll) (a : AtFirst order w y s) w
       }
 
   pub held-second : 32768 ≤ getD w (opposite (s .dart)) 0
-      → AtSecond order (edgeArea (length order) (s .dart) (s .edges) (s .waiting) w) first (s .faces - 1) (s .edges - 1)
-      (record { root = s .root; dart = y; edges = s .edges + 1; faces = s .faces; waiting = s .waiting + 1; halves = s .halves })
+      → (t : AtSecond order (edgeArea (length order) (s .dart) (s .edges) (s .waiting) w) first (s .faces - 1) (s .edges - 1)
+      (record { root = s .root; dart = y; edges = s .edges + 1; faces = s .faces; waiting = s .waiting + 1; halves = s .halves }))
+      × (suc (suc (a .k)) ≡ t .k)
   held-second big =
       let big′ : 32768 ≤ getD (a .b) (opposite (D (suc k))) 0 = subst (λ (x : ℕ). 32768 ≤ x) (sym mark-here) big in
       let is = tells-first rot r (turn order (h .count) (h .perm)) (cross order (h .count) (h .perm)) hr (suc k) (a .b) (a .waits) (a .stands .strolled .trail)
       (λ _. a .stands .away) big′ in
       let half = first-leaf (Good order) rot r (turn order (h .count) (h .perm)) (cross order (h .count) (h .perm)) hr (few order (h .count) (h .perm))
-      (three order (h .count) (h .perm)) k (a .us) (a .b) (a .waits) (a .ts) (a .stands) big′ in
-      record {
-        k = suc (suc k);
-        node = k;
-        us = a .us;
-        b = set (a .b) (D (suc k)) (8192 + opened ℓ (suc k));
-        waits = opened ℓ (suc k) ∷ a .waits;
-        ts = a .ts;
-        held = record {
-          count = h .count;
-          perm = h .perm;
-          root-in = h .root-in;
-          edges = ap (λ (x : ℕ). x + 1) (h .edges) ∙ add-one (opened ℓ (suc k)) ∙ sym (opened-more ℓ (suc k) (ap opens is));
-          faces = h .faces ∙ sym (entered-stays ℓ (suc k) first is refl);
-          view = view-edge n (s .waiting) (s .halves) w (a .b) (a .waits) _ _ _ (a .ts) (h .view) (first-ranges .waiting) half-few (s .dart) (s .edges)
-              (D (suc k)) (opened ℓ (suc k)) first-in (a .here) (h .edges);
-        };
-        stands = half;
-        here = a .second ∙ sym (half .here);
-        number = face-before;
-        entry = edge-before;
-      }
+      (three order (h .count) (h .perm)) k (a .us) (a .b) (a .waits) (a .ts) (a .stands) big′ in (
+        record {
+          k = suc (suc k);
+          node = k;
+          us = a .us;
+          b = set (a .b) (D (suc k)) (8192 + opened ℓ (suc k));
+          waits = opened ℓ (suc k) ∷ a .waits;
+          ts = a .ts;
+          held = record {
+            count = h .count;
+            perm = h .perm;
+            root-in = h .root-in;
+            edges = ap (λ (x : ℕ). x + 1) (h .edges) ∙ add-one (opened ℓ (suc k)) ∙ sym (opened-more ℓ (suc k) (ap opens is));
+            faces = h .faces ∙ sym (entered-stays ℓ (suc k) first is refl);
+            view = view-edge n (s .waiting) (s .halves) w (a .b) (a .waits) _ _ _ (a .ts) (h .view) (first-ranges .waiting) half-few (s .dart) (s .edges)
+                (D (suc k)) (opened ℓ (suc k)) first-in (a .here) (h .edges);
+          };
+          stands = half;
+          here = a .second ∙ sym (half .here);
+          number = face-before;
+          entry = edge-before;
+        },
+        refl,
+      )
 
 -- ---- at a down
 

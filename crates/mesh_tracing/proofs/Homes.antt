@@ -2,23 +2,22 @@
 --
 --   back-at              up to the last second place that is to come
 --   home-at              where none is, back at the root's face
---   end-mark             the mark of a dart that begins an edge
---   ended, not-meshed, is-meshed   the last two positions, and what the walk answers there
+--   ended                the last two positions
 --   begun                the root's face is marked
 use Prim.Native.Nat.{ℕ, suc, _+_, _-_, _*_, _/_, _≤_, _<_}
 use native.Mathlib.Nat.{le-refl}
 use native.Mathlib.Omega.{arith}
 use mathlib.Core.Path.{_≡_, refl, sym, ap, subst, _∙_}
 use mathlib.Core.Logic.{⊎-elim, _≢_}
-use mathlib.Core.Bool.{Bool, true, false, false≢true}
+use mathlib.Core.Bool.{true}
 use mathlib.Core.List.{List, [], _∷_, map}
-use lib.Dec.{eqb}
-use borrow.Author.Tests.{eqb-true}
 use lib.ListN.{length, getD, set, take, replicate, length-replicate}
+use lib.Seq.{getD-set-other}
 use Rattle.model.specs.Numbers.{isPermutation, count}
 use Rattle.model.specs.Map.{opposite, next, faceNext, vertexOf, dartCountFits, isTriangle, fit}
-use Rattle.model.specs.Traversal.{Letter, up, first, opens}
+use Rattle.model.specs.Traversal.{Letter, up, opens}
 use Rattle.model.specs.Mesh.{dualOf, types}
+use Rattle.model.proofs.Opposite.{opposite-ne, opposite-bound, opposite-edge}
 use Rattle.model.proofs.Fitness.{count-even}
 use Rattle.words.specs.Brackets.{treeStack}
 use Rattle.words.specs.Position.{opened, vertexCount}
@@ -32,13 +31,14 @@ use Rattle.work.specs.Area.{region, stack}
 use Rattle.work.proofs.Regions.{length-region, region-region}
 use Rattle.tracing.specs.Tracing.{from}
 use Rattle.tracing.proofs.Places.{mark-at}
+use Rattle.tracing.proofs.Whole.{unmarked-root}
 use Rattle.mesh_trails.specs.Strolls.{Strolled, place}
 use Rattle.mesh_trails.proofs.Strolls.{stroll-start, within}
 use Rattle.mesh_trails.proofs.Climbs.{Climbed, climbs}
 use Rattle.mesh_trails.proofs.Places.{starts, home-first, home-second, all-even}
 use Rattle.mesh_tracing.specs.declared.Stroll.{Stroll}
 use Rattle.mesh_tracing.specs.Areas.{WAITING, HALVES, OWNERS, ENTRIES, faceArea, View}
-use Rattle.mesh_tracing.specs.Walks.{Good, Held, AtDown, AtSecond, AtUp, AtHome, Meshed}
+use Rattle.mesh_tracing.specs.Walks.{Good, Held, AtDown, AtSecond, AtUp, AtHome}
 use Rattle.mesh_tracing.proofs.Ends.{turn, cross, few, three, mesh-walked, types-walked}
 use Rattle.mesh_tracing.proofs.Views.{view-mark, half-top, view-release}
 use Rattle.mesh_tracing.proofs.Faces.{triangle-on, face-rounded, face-good}
@@ -261,31 +261,10 @@ module _ (order w : List ℕ) (s : Stroll) (a : AtHome order w s) (two : s .wait
           let e : TYPES * n₂ + 0 ≡ TYPES * n₂ = omega arith in
           ap (λ (i : ℕ). region i (n₂ / 3 - 1) w) (sym e) ∙ sym (region-region (TYPES * n₂) n₂ 0 (n₂ / 3 - 1) w (omega arith))
 
--- the mark of a dart that begins an edge
-pub end-mark : (m l : ℕ) → 8192 ≤ m → eqb (m - 8192) l ≡ true → m ≡ 8192 + l
-end-mark m l h e = let q = eqb-true (m - 8192) l e in omega arith
-
-pub not-meshed : (order : List ℕ) (r : ℕ) (w w′ : List ℕ) → length w′ ≡ length w → Meshed (from order r) w false w′
-not-meshed order r w w′ l = record { kept = l; mesh = λ e. absurd (false≢true e); typed = λ e. absurd (false≢true e) }
-
-pub is-meshed : (order w : List ℕ) (s : Stroll) → AtHome order w s → s .waiting ≡ 2 → s .edges ≡ length order / 2 → (x y o p : ℕ) → x ≡ faceNext order (s .root)
-    → y ≡ faceNext order x → o ≡ opposite x → p ≡ opposite y → getD w o 0 ≡ 8192 + getD w (WAITING * length order + 1) 0 → (b : Bool)
-    → (b ≡ true → getD w p 0 ≡ 8192 + getD w (WAITING * length order + 0) 0) → Meshed (from order (s .root)) w b w
-is-meshed order w s a two all x y o p ex ey eo ep fst b snd =
-    let first = ap (λ (i : ℕ). getD w i 0) (sym (eo ∙ ap opposite ex)) ∙ fst in
-    let last : b ≡ true → getD w (opposite (faceNext order (faceNext order (s .root)))) 0 ≡ 8192 + getD w (WAITING * length order + 0) 0 = λ e.
-    ap (λ (i : ℕ). getD w i 0) (sym (ep ∙ ap opposite (ey ∙ ap (faceNext order) ex))) ∙ snd e in
-    record {
-      kept = refl;
-      mesh = λ e. ended order w s a two all first (last e) .0;
-      typed = λ e. ended order w s a two all first (last e) .1;
-    }
-
 -- ---- the beginning
 
 module _ (order : List ℕ) (root : ℕ) (w : List ℕ) (count-fits : dartCountFits (length order) ≡ true) (perm : isPermutation order ≡ true) (hr : root < length order)
-    (room : 16 * length order ≤ length w) (none : region 0 (length order) w ≡ replicate (length order) 0) (good : isTriangle order root ≡ true)
-    (blank : getD (faceArea order root w) (opposite root) 0 ≡ 0) where
+    (room : 16 * length order ≤ length w) (none : region 0 (length order) w ≡ replicate (length order) 0) (good : isTriangle order root ≡ true) where
   abbrev n₃ : ℕ
   n₃ = length order
 
@@ -302,6 +281,22 @@ module _ (order : List ℕ) (root : ℕ) (w : List ℕ) (count-fits : dartCountF
   next₃ z l =
       let e = dual-next order z l in
       (e, subst (λ (m : ℕ). m < n₃) e (subst (λ (m : ℕ). next rot₃ z < m) size (turn order count-fits perm .bound z (subst (λ (m : ℕ). z < m) (sym size) l))))
+
+  over : opposite root < n₃
+  over = opposite-bound n₃ root (count-even n₃ count-fits) hr
+
+  -- the root's opposite is on another edge than the face's other two darts
+  blank : getD (faceArea order root w) (opposite root) 0 ≡ 0
+  unfolding faceArea
+  blank =
+      let x = faceNext order root in
+      let y = faceNext order x in
+      let t = triangle-parts order root good in
+      let edge = opposite-edge root in
+      getD-set-other (set (set w root 32768) x 32768) y (opposite root) 32768 0 (λ e. t .three-one (ap (λ (i : ℕ). i / 2) (sym e) ∙ edge))
+      ∙ getD-set-other (set w root 32768) x (opposite root) 32768 0 (λ e. t .one-two (sym edge ∙ ap (λ (i : ℕ). i / 2) e))
+      ∙ getD-set-other w root (opposite root) 32768 0 (opposite-ne root)
+      ∙ unmarked-root order w none (opposite root) over
 
   pub begun : AtDown order (faceArea order root w) (record { root = root; dart = root; edges = 0; faces = 1; waiting = 0; halves = 0 })
   unfolding faceArea dart at start stack opened vertexCount count
@@ -333,7 +328,6 @@ module _ (order : List ℕ) (root : ℕ) (w : List ℕ) (count-fits : dartCountF
       let v₃ = view-mark n₃ 0 0 (set (set w root 32768) x 32768) (set (set b₀ root 32768) x 32768) [] [] [] [] ts v₂ z z y 32768 l₂ in
       let rounds = subst (λ (l : List ℕ). Rounded rot₃ root 32768 l b₃) zeros (face-rounded rot₃ t root hr₃ b₀ long clear x y e₁ e₂ home) in
       let all = face-good rot₃ t root hr₃ b₀ long clear x y e₁ e₂ home (Good order) good good₁ good₂ in
-      let over : opposite root < n₃ = subst (λ (m : ℕ). opposite root < m) size (c .bound root hr₃) in
       record {
         k = 0;
         us = [];

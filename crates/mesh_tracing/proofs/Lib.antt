@@ -5,4 +5,5 @@ mod Walks
 mod Seconds
 mod Firsts
 mod Homes
+mod Declining
 mod Turns

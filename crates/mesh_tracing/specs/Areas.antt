@@ -39,7 +39,7 @@ halfArea n y f e halves w = set (set (set w (HALVES * n + halves) y) (OWNERS * n
 
 unfoldable pub Faced : List ℕ → ℕ → List ℕ → Bool → List ℕ → Type 0
 Faced order o w true w′ = (isTriangle order o ≡ true) × (w′ ≡ faceArea order o w)
-Faced order o w false w′ = w′ ≡ w
+Faced order o w false w′ = (isTriangle order o ≡ false) × (w′ ≡ w)
 
 pub record View (n waiting halves : ℕ) (w b waits ps fs es ts : List ℕ) : Type 0 where
   pub marks : region 0 n w ≡ b

@@ -1,17 +1,18 @@
-// The contour walk of a mesh's dual by marks, face by face, which says of a plan that it is a mesh, or leaves it to others to judge. Every face has three
-// places: the one that it is entered by, which is also the last, its first and its second. Edges outside the dual's tree wait on a stack until they end, and
-// second places while a subtree hangs from the first.
+// The contour walk of a mesh's dual by marks, face by face, which says of a plan whether it is a mesh. Every face has three places: the one that it is entered
+// by, which is also the last, its first and its second. Edges outside the dual's tree wait on a stack until they end, and second places while a subtree hangs
+// from the first.
 ghost use mathlib.Core.Path.{_≡_};
 ghost use mathlib.Core.Bool.{true};
 ghost use Prim.Native.Nat.{suc, _+_, _-_, _*_, _≤_, _<_};
+ghost use lib.Dec.{eqb};
 ghost use lib.ListN.{length, getD, replicate};
 ghost use Rattle.model.specs.Numbers.{isPermutation};
-ghost use Rattle.model.specs.Map.{dartCountFits, faceNext};
+ghost use Rattle.model.specs.Map.{opposite, dartCountFits, faceNext};
 ghost use Rattle.model.specs.Traversal.{up};
 ghost use Rattle.work.specs.Area.{region};
 ghost use Rattle.trace_steps.specs.Steps.{Ground};
 ghost use Rattle.mesh_tracing.specs.Areas.{WAITING, Faced, edgeArea, halfArea};
-ghost use Rattle.mesh_tracing.specs.Walks.{AtDown, AtFirst, AtSecond, Telling, AtUp, AtHome, Stepped, Ended, Meshed};
+ghost use Rattle.mesh_tracing.specs.Walks.{AtDown, AtFirst, AtSecond, Ending, Telling, AtUp, AtHome, Stepped, Ended, Meshed};
 
 // Stacks in the work area, in units of the number of darts: edges outside the tree that wait for their end, by number; and of each face whose second place is
 // still to come, that place, the face's number, and that of the edge it was entered by.
@@ -120,7 +121,7 @@ fn second_place(order: &[u16], w: &mut [u16], f: usize, a: u16, b: u16, s: Strol
 
 // The first place of the face entered last, whose second is y, begins an edge outside the tree.
 fn leaf(order: &[u16], w: &mut [u16], y: usize, s: Stroll) -> Step
-    requires { ⌜ AtFirst (now order) (now w) y s ⌝ }
+    requires { ⌜ AtFirst (now order) (now w) y s × (0 < getD (now w) (opposite (s .dart)) 0) ⌝ }
     ensures { λ r. ⌜ Stepped (now (order .entry)) (s .root) (s .edges) (s .halves) (now (w .entry)) r (now (w .exit)) ⌝ }
 {
     let n = order.len();
@@ -208,7 +209,7 @@ fn enter(order: &[u16], w: &mut [u16], s: Stroll) -> Step
 
 // At the second place of face f, which edge e entered, the last edge that waits must end, and the one before it have begun after e.
 fn end_edge(order: &[u16], w: &mut [u16], f: usize, e: u16, s: Stroll) -> Step
-    requires { ⌜ AtSecond (now order) (now w) up f e s ⌝ }
+    requires { ⌜ AtSecond (now order) (now w) up f e s × Ending (now w) (s .dart) ⌝ }
     ensures { λ r. ⌜ Stepped (now (order .entry)) (s .root) (s .edges) (s .halves) (now (w .entry)) r (now (w .exit)) ⌝ }
 {
     let n = order.len();
@@ -309,10 +310,10 @@ fn turn(order: &[u16], w: &mut [u16], s: Stroll) -> Step
 
 // ---- the walk
 
-// The edge that began at dart o is the one in place i of those that wait.
+// Whether the edge that began at dart o is the one in place i of those that wait.
 fn is_end(w: &[u16], n: usize, o: usize, i: usize) -> bool
     requires { ⌜ (n ≤ 8192) × (16 * n ≤ length (now w)) × (o < n) × (i < n) ⌝ }
-    ensures { λ r. ⌜ (r ≡ true → getD (now (w .entry)) o 0 ≡ 8192 + getD (now (w .entry)) (WAITING * n + i) 0) ⌝ }
+    ensures { λ r. ⌜ r ≡ eqb (getD (now (w .entry)) o 0) (8192 + getD (now (w .entry)) (WAITING * n + i) 0) ⌝ }
 {
     let mark = w[o];
     if mark < trace_steps::FIRST {
@@ -338,7 +339,7 @@ fn at_end(order: &[u16], w: &[u16], s: Stroll) -> bool
     is_end(w, n, cycles::other(y), 0)
 }
 
-// Whether the plan is known to be a mesh; then its node types stand in their place. The marks are zeros before.
+// Whether the plan is a mesh; then its node types stand in their place. The marks are zeros before.
 pub fn walk(order: &[u16], root: usize, w: &mut [u16]) -> bool
     requires { ⌜ (dartCountFits (length (now order)) ≡ true) × (isPermutation (now order) ≡ true) × (root < length (now order))
         × (16 * length (now order) ≤ length (now w)) × (region 0 (length (now order)) (now w) ≡ replicate (length (now order)) 0) ⌝ }
@@ -348,9 +349,6 @@ pub fn walk(order: &[u16], root: usize, w: &mut [u16]) -> bool
     let x = cycles::step(order, true, root);
     let y = cycles::step(order, true, x);
     if !mark_face(order, w, root, x, y) {
-        return false;
-    }
-    if w[cycles::other(root)] != 0 {
         return false;
     }
     let mut s = Stroll {

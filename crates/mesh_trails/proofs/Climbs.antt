@@ -132,7 +132,6 @@ module _ (P : ℕ → Type 0) (rot : List ℕ) (r : ℕ) (turn : Perm (length ro
     pub edges : opened (letterAfter rot r) (suc k) ≡ opened (letterAfter rot r) k
     pub faces : vertexCount (letterAfter rot r) (suc k) ≡ vertexCount (letterAfter rot r) k
     pub earlier : j < k
-    pub was-down : letterAfter rot r j ≡ down
     pub marked : getD b (dart rot r j) 0 ≢ 0
 
   module _ (b waits ts : List ℕ) where
@@ -158,7 +157,6 @@ module _ (P : ℕ → Type 0) (rot : List ℕ) (r : ℕ) (turn : Perm (length ro
           edges = opened-stays ℓ k (ap opens e);
           faces = entered-stays ℓ k up e refl;
           earlier = l;
-          was-down = d;
           marked = λ z. let q : getD b (opposite (D k)) 0 ≡ 0 = ap (λ (x : ℕ). getD b x 0) back ∙ z in omega arith;
         }
 

@@ -1,3 +1,4 @@
 pub mod Strolls
 pub mod Climbs
 pub mod Places
+pub mod Meshes

@@ -5,11 +5,9 @@
 --   mesh-crossed      the plan is a mesh, where the tree edges are crossed after whose last position but one an edge ends
 --   mesh-fits         or where more edges are open at such an up than at its down
 --   mesh-fits-top     or where the edge opened last begins after that down
---   mesh-fits-number  or, by the numbers of vertices, where it begins at no vertex entered earlier
 use Prim.Native.Nat.{ℕ, suc, _/_, _%_, _≤_, _<_}
-use native.Mathlib.Nat.{le-of-lt}
 use native.Mathlib.Omega.{arith}
-use mathlib.Core.Path.{_≡_, refl, sym, ap, subst, _∙_}
+use mathlib.Core.Path.{_≡_, sym, ap, subst, _∙_}
 use mathlib.Core.Logic.{_≢_}
 use mathlib.Core.Bool.{true, false, not}
 use mathlib.Core.List.{List, _∷_}
@@ -21,23 +19,16 @@ use Rattle.model.specs.Traversal.{down, up, second}
 use Rattle.model.specs.Mesh.{dualOf, dualPlan}
 use Rattle.model.proofs.Booleans.{some-no}
 use Rattle.model.proofs.Fitness.{count-even}
-use Rattle.orbits.proofs.Order.{lt-or-le}
-use Rattle.orbits.proofs.Tally.{count-grows}
 use Rattle.orbits.proofs.Maps.{face-perm}
 use Rattle.words.specs.Toured.{Toured, letterOf, mateOf, isChord, Brackets}
 use Rattle.words.specs.Brackets.{chordStack}
-use Rattle.words.specs.Entered.{isDown}
-use Rattle.words.specs.Position.{vertexCount, vertexTop, vertexNo}
 use Rattle.words.proofs.Positions.{mate-bound, mate-back, mate-letter}
-use Rattle.words.proofs.OpenEdges.{chord-whole, part-head, tour-balance}
-use Rattle.words.proofs.Mates.{vertex-entered}
 use Rattle.traversal.proofs.Toured.{walk-toured}
 use Rattle.planarity.proofs.Planar.{chords-planar}
-use Rattle.fit_plans.proofs.FitPlans.{fit-toured, fit-bracketed}
+use Rattle.fit_plans.proofs.FitPlans.{fit-toured}
 use Rattle.duals.proofs.Duals.{length-dual, dual-darts, dual-next, dual-dual, dual-perm, dual-planar, dual-connected, dual-loopless}
 use Rattle.meshes.proofs.Fits.{two-parts, mesh-of-parts}
 use Rattle.meshes.proofs.Triangles.{Triangle, triangle-parts, triangle-apart}
-use Rattle.meshes.proofs.OpenEdges.{after-up}
 use Rattle.meshes.proofs.Faces.{Crossed, edges-apart}
 use Rattle.mesh_walks.proofs.Crossings.{crossed-all, crossed-top, crossed-higher}
 
@@ -142,21 +133,3 @@ module _ (p : Plan) (count : dartCountFits (darts p) ≡ true) (root : p .root <
   mesh-fits-top late = mesh-from-up (λ a k h d e back b s u.
       let (x, r, c, l) = late k b s u in
       crossed-top q dual-fits a h d x r (ap (chordStack (letterOf q)) (sym e) ∙ c) (omega arith))
-
-  -- an edge that begins before a position begins at a vertex entered before
-  number-late : (a i x : ℕ) → i < darts q → letterOf q i ≡ up → mateOf q i ≡ a → x ≤ darts q → vertexNo (letterOf q) i ≤ vertexNo (letterOf q) x → a ≤ x
-  unfolding vertexNo vertexCount
-  number-late a i x h u back hx l =
-      let n = ap (vertexTop (letterOf q)) (after-up q dual-fits i h u .0) in
-      let v = vertex-entered (letterOf q) (darts q) (tour-balance q toured dual-count (fit-bracketed 2 q dual-fits)) x hx in
-      lt-or-le x a
-      (λ k. absurd (let c = count-grows (λ j. isDown (letterOf q j)) x a (le-of-lt k) in let z = ap (vertexCount (letterOf q)) back in omega arith))
-      (λ k. k)
-
-  pub mesh-fits-number : ((k : ℕ) → suc k < darts p → letterOf (dualPlan p) k ≡ second → letterOf (dualPlan p) (suc k) ≡ up
-      → Opened (suc k) (λ x. vertexNo (letterOf (dualPlan p)) (suc k) ≤ vertexNo (letterOf (dualPlan p)) x)) → fit 3 p ≡ true
-  mesh-fits-number late = mesh-fits-top (λ k b s u.
-      let (x, r, c, l) = late k b s u in
-      let h : suc k < darts q = omega (arith, dual-darts p) in
-      let before = part-head isChord chord-whole q toured dual-count (fit-bracketed 2 q dual-fits .chords) (suc k) (le-of-lt h) x r c .0 in
-      (x, r, c, number-late (mateOf q (suc k)) (suc k) x h u refl (omega arith) l))

@@ -1,5 +1,6 @@
 -- The plan whose word is that of a good tree below the start node.
 --
+--   whole-home        the start node's second place is the last position but one; there and at the last one edges end
 --   whole-types       the types found along the walk are those of the tree
 --   whole-fine        its vertices have three darts, and its tree edges are crossed
 use Prim.Native.Nat.{ℕ, suc, _<_}
@@ -8,14 +9,14 @@ use mathlib.Core.Path.{_≡_, sym, ap, subst, _∙_}
 use mathlib.Core.Bool.{true}
 use mathlib.Core.List.{List, [], _∷_}
 use lib.ListN.{length, drop, drop-of-length-le}
-use Rattle.model.specs.Map.{Plan, darts, fit}
+use Rattle.model.specs.Map.{Plan, darts, next, fit}
 use Rattle.model.specs.Traversal.{Letter, second, visits, word}
 use Rattle.model.specs.LabelledTree.{along}
 use Rattle.model.specs.Mesh.{typeAt}
 use Rattle.orbits.proofs.Order.{tri, le-split}
-use Rattle.words.specs.Toured.{letterOf, isTree}
+use Rattle.words.specs.Toured.{dartAt, letterOf, isTree}
 use Rattle.words.specs.Entered.{isDown}
-use Rattle.words.proofs.Positions.{word-length}
+use Rattle.words.proofs.Positions.{word-length, dart-inj}
 use Rattle.fit_plans.proofs.FitPlans.{fit-toured}
 use Rattle.node_types.specs.Tree.{Tree, whole, typeList, good}
 use Rattle.node_types.proofs.Trees.{net-positive, length-letters}
@@ -53,6 +54,16 @@ module _ (q : Plan) (fits : fit 2 q ≡ true) (t : Tree) (g : good t ≡ true) (
       let s = b .sized in
       omega arith
 
+  -- the start node's second place comes after the tree
+  home : next (q .rotation) (dartAt q 0) ≡ dartAt q i
+  home = let inside = b .inside in turn-down q fits 0 i (omega arith) (b .enters) (ap suc (b .ends)) (at-i .0)
+
+  pub whole-home : (k : ℕ) → k < darts q → next (q .rotation) (dartAt q 0) ≡ dartAt q k
+      → (suc (suc k) ≡ darts q) × (letterOf q k ≡ second) × (letterOf q (suc k) ≡ second)
+  whole-home k h e =
+      subst (λ (n : ℕ). (suc (suc n) ≡ N) × (letterOf q n ≡ second) × (letterOf q (suc n) ≡ second))
+      (dart-inj q (fit-toured 2 q fits) i k (at-i .0) h (sym home ∙ e)) (long, at-i .1, at-j .1)
+
   pub whole-types : along (typeAt q) (visits q) ≡ typeList t []
   unfolding along
   whole-types =
@@ -64,7 +75,7 @@ module _ (q : Plan) (fits : fit 2 q ≡ true) (t : Tree) (g : good t ≡ true) (
       let inside = b .inside in
       let hi = at-i .0 in
       let hj = at-j .0 in
-      let r = turn-down q fits 0 i (omega arith) (b .enters) (ap suc (b .ends)) hi in
+      let r = home in
       let s = turn-flat′ q fits i hj (ap isTree (at-i .1)) in
       let u = turn-last q fits j long (ap isTree (at-j .1)) in
       let first-place : Fine q fits 0 = (

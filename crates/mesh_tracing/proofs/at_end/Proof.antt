@@ -1,11 +1,12 @@
-use Rattle.mesh_tracing.proofs.Homes.{not-meshed, is-meshed}
+use Rattle.mesh_tracing.proofs.Turns.{home-unfit, mark-unfit, is-meshed}
 use Rattle.mesh_tracing.proofs.Faces.{next-below}
 use Rattle.model.proofs.Opposite.{opposite-bound}
 use Rattle.model.proofs.Fitness.{count-parts, count-even, count-positive}
 use Rattle.model.specs.Map.{opposite, faceNext}
-use borrow.Author.Tests.{eqb-true, not-false}
+use borrow.Author.Tests.{eqb-true, eqb-false, not-true, not-false}
 use lib.ListN.{length}
-use mathlib.Core.Path.{refl, sym, ap, subst, _∙_}
+use mathlib.Core.Path.{sym, ap, subst, _∙_}
+use mathlib.Core.Logic.{inl, inr, ⊎-elim}
 use Prim.Native.Nat.{ℕ, _<_}
 use native.Mathlib.Omega.{arith}
 use Rattle.mesh_tracing.proofs.at_end.Statement.{statement}
@@ -26,7 +27,7 @@ step-requires-2 c κs = let a = c .before .before .before .pre in let n = count-
 
 -- src/lib.rt:263:9
 returns : tie.Need-returns
-returns c = not-meshed _ _ _ _ refl
+returns c = home-unfit _ _ _ (c .before .before .before .before .before .before .pre) (⊎-elim (λ u. inl (u .taken)) (λ u. inr (eqb-false _ _ (not-true _ (u .2 .taken)))) (c .if1 .came))
 
 -- src/lib.rt:265:22
 other-requires : tie.Need-other-requires
@@ -38,7 +39,7 @@ is-end-requires c κs = let a = c .before .before .before .before .before .befor
 
 -- src/lib.rt:266:9
 returns-2 : tie.Need-returns-2
-returns-2 c = not-meshed _ _ _ _ refl
+returns-2 c = mark-unfit _ _ _ (c .before .before .before .before .before .before .before .before .before .before .before .pre) _ _ (c .before .before .before .before .before .before .before .before .step .ensures) (c .before .before .other .ensures) _ (c .before .is-end .ensures) (not-true _ (c .if3 .taken))
 
 -- src/lib.rt:268:18
 other-requires-2 : tie.Need-other-requires-2
@@ -50,7 +51,9 @@ is-end-requires-2 c κs = let a = c .before .before .before .before .before .bef
 
 -- src/lib.rt:255:1
 returns-3 : tie.Need-returns-3
-returns-3 c = let a = c .before .before .before .before .before .before .before .before .before .before .before .before .before .pre in is-meshed _ _ _ a (c .before .before .before .before .before .before .before .if1 .left) (eqb-true _ _ (not-false _ (c .before .before .before .before .before .if2 .left))) _ _ _ _ (c .before .before .before .before .before .before .before .before .before .before .step .ensures) (c .before .before .before .before .before .before .before .before .before .step2 .ensures) (c .before .before .before .before .other .ensures) (c .before .other2 .ensures) (c .before .before .before .is-end .ensures (not-false _ (c .before .before .if3 .left))) _ (c .is-end2 .ensures)
+returns-3 c =
+    is-meshed _ _ _ (c .before .before .before .before .before .before .before .before .before .before .before .before .before .pre) _ _ (c .before .before .before .before .before .before .before .before .before .before .step .ensures) (c .before .before .before .before .other .ensures) _ (c .before .before .before .is-end .ensures) (c .before .before .before .before .before .before .before .if1 .left)
+    (eqb-true _ _ (not-false _ (c .before .before .before .before .before .if2 .left))) (not-false _ (c .before .before .if3 .left)) _ _ (c .before .before .before .before .before .before .before .before .before .step2 .ensures) (c .before .other2 .ensures) _ (c .is-end2 .ensures)
 
 pub at-end-spec : {M : Type 1} → statement M
 at-end-spec =

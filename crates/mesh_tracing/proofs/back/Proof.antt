@@ -1,7 +1,9 @@
-use Rattle.mesh_tracing.proofs.Turns.{half-tells}
+use Rattle.mesh_tracing.proofs.Turns.{ending, half-tells}
 use Rattle.mesh_tracing.proofs.Homes.{back-at}
 use Rattle.mesh_tracing.proofs.Seconds.{second-ranges, second-in, second-over, second-index}
 use native.Mathlib.Omega.{arith}
+use mathlib.Core.Logic.{inl, inr, ⊎-elim}
+use borrow.Author.Tests.{leb-true, leb-false}
 use Rattle.mesh_tracing.proofs.back.Statement.{statement}
 use Rattle.mesh_tracing.proofs.back.Tie as tie
 use Rattle.mesh_tracing.proofs.back.Reads as reads
@@ -84,7 +86,7 @@ slice-read-mark c = let s = c .before .before .before .before .before .before .b
 
 -- src/lib.rt:195:9
 second-place-requires : tie.Need-second-place-requires
-second-place-requires c κs = let s = c .before .before .before .before .before .before .before .before .before .before in let a = back-at _ _ _ (s .pre .0) (s .pre .1) in let r = second-ranges _ _ _ _ _ _ a in let m = a .held .view .room in half-tells _ _ _ _ _ a
+second-place-requires c κs = let s = c .before .before .before .before .before .before .before .before .before .before in let a = back-at _ _ _ (s .pre .0) (s .pre .1) in let r = second-ranges _ _ _ _ _ _ a in let m = a .held .view .room in half-tells _ _ _ _ _ a _ (c .before .before .before .other .ensures) (⊎-elim (λ u. inl (u .taken)) (λ u. inr (leb-true _ _ (u .1 .taken))) (c .before .if1 .came))
 
 -- src/lib.rt:195:9
 same-length : tie.Need-same-length
@@ -96,7 +98,7 @@ returns c = c .before .before .second-place .ensures
 
 -- src/lib.rt:197:5
 end-edge-requires : tie.Need-end-edge-requires
-end-edge-requires c κs = let s = c .before .before .before .before .before .before .before .before .before .before .before in let a = back-at _ _ _ (s .pre .0) (s .pre .1) in let r = second-ranges _ _ _ _ _ _ a in let m = a .held .view .room in a
+end-edge-requires c κs = let s = c .before .before .before .before .before .before .before .before .before .before .before in let a = back-at _ _ _ (s .pre .0) (s .pre .1) in let r = second-ranges _ _ _ _ _ _ a in let m = a .held .view .room in (a, ending (s .args .w .now) _ _ (c .before .before .before .before .other .ensures) (c .before .before .if1 .left) (leb-false _ _ (c .before .if2 .left)))
 
 -- src/lib.rt:180:1
 same-length-2 : tie.Need-same-length-2

@@ -1,7 +1,7 @@
-use Rattle.mesh_tracing.proofs.Turns.{unfit, stepped-since, enters}
+use Rattle.mesh_tracing.proofs.Turns.{stepped-since, enters, enter-unfit}
 use Rattle.mesh_tracing.proofs.Firsts.{down-ranges, down-in, down-over, down-next, next-below}
 use Rattle.model.specs.Map.{faceNext}
-use borrow.Author.Tests.{not-false}
+use borrow.Author.Tests.{not-true, not-false}
 use native.Mathlib.Omega.{arith}
 use lib.ListN.{length-set}
 use mathlib.Core.Path.{refl, sym, ap, _∙_}
@@ -44,7 +44,7 @@ same-length c = c .before .before .before .mark-face .kept .1 .0
 
 -- src/lib.rt:146:9
 returns : tie.Need-returns
-returns c = unfit _ _ _ _ _ _ (c .before .before .before .mark-face .kept .1 .0)
+returns c = let f = c .before .before .before .mark-face in enter-unfit _ _ _ (c .before .before .before .before .before .before .before .before .before .before .pre) _ _ _ (c .before .before .before .before .before .before .before .other .ensures) _ _ (f .ensures) (not-true _ (c .if1 .taken)) (f .kept .1 .0)
 
 -- src/lib.rt:148:32
 cast-w : tie.Need-cast-w

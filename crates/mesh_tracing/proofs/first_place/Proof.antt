@@ -1,4 +1,4 @@
-use Rattle.mesh_tracing.proofs.Turns.{first-goes-down}
+use Rattle.mesh_tracing.proofs.Turns.{marked, first-goes-down}
 use Rattle.mesh_tracing.proofs.Firsts.{first-ranges, first-in, first-over, first-second, first-edge}
 use native.Mathlib.Omega.{arith}
 use Rattle.mesh_tracing.proofs.first_place.Statement.{statement}
@@ -23,7 +23,7 @@ slice-read-if1 c = let s = c .before .before .before .before in let a = s .pre i
 
 -- src/lib.rt:161:9
 leaf-requires : tie.Need-leaf-requires
-leaf-requires c κs = c .before .before .before .before .before .before .pre
+leaf-requires c κs = let s = c .before .before .before .before .before .before in (s .pre, marked (s .args .w .now) _ _ (c .before .before .before .other .ensures) (c .before .if1 .taken))
 
 -- src/lib.rt:161:9
 same-length : tie.Need-same-length

@@ -1,6 +1,4 @@
-use Rattle.mesh_tracing.proofs.Homes.{end-mark}
-use mathlib.Core.Bool.{false≢true}
-use native.Mathlib.Omega.{arith}
+use Rattle.mesh_tracing.proofs.Turns.{no-end, is-end}
 use borrow.Author.Needs.{needs}
 use Rattle.mesh_tracing.proofs.is_end.Statement.{statement}
 use Rattle.mesh_tracing.proofs.is_end.Tie as tie
@@ -17,7 +15,7 @@ shared-slice-read-mark c = search needs
 
 -- src/lib.rt:249:9
 returns : tie.Need-returns
-returns c = λ e. absurd (false≢true e)
+returns c = no-end _ _ (c .if1 .taken)
 
 -- src/lib.rt:251:36
 mul-result : tie.Need-mul-result
@@ -37,7 +35,7 @@ shared-slice-read-result c = search needs
 
 -- src/lib.rt:243:1
 returns-2 : tie.Need-returns-2
-returns-2 c = λ e. let l = c .before .if1 .left in end-mark _ _ (omega arith) e
+returns-2 c = is-end _ _ (c .before .if1 .left)
 
 pub is-end-spec : {M : Type 1} → statement M
 is-end-spec =

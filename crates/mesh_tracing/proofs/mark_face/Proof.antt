@@ -1,9 +1,10 @@
-use borrow.Author.Tests.{eqb-false}
+use borrow.Author.Tests.{eqb-true, eqb-false}
 use Rattle.mesh_tracing.proofs.Faces.{faced, unfaced, next-below}
 use Rattle.trace_steps.proofs.Grounds.{few}
 use native.Mathlib.Omega.{arith}
 use lib.ListN.{length, length-set}
 use mathlib.Core.Path.{sym, subst}
+use mathlib.Core.Logic.{inl, inr, ⊎-elim}
 use Prim.Native.Nat.{ℕ, _<_}
 use Rattle.mesh_tracing.proofs.mark_face.Statement.{statement}
 use Rattle.mesh_tracing.proofs.mark_face.Tie as tie
@@ -23,7 +24,10 @@ step-requires c κs = let s = c .before .before in (s .pre .0 .count, y-in s)
 
 -- src/lib.rt:53:9
 returns : tie.Need-returns
-returns c = unfaced _ _ _
+returns c =
+    let s = c .before .before .before .before in
+    unfaced _ _ _ _ _ (s .pre .2) (s .pre .3) (c .before .step .ensures) (⊎-elim (λ u. inl (u .taken)) (λ v. inr (⊎-elim (λ u. inl (eqb-true _ _ (u .1 .taken)))
+    (λ v. inr (⊎-elim (λ u. inl (eqb-true _ _ (u .2 .taken))) (λ u. inr (eqb-true _ _ (u .3 .taken))) v)) v)) (c .if1 .came)) _
 
 -- src/lib.rt:55:5
 mul-w : tie.Need-mul-w

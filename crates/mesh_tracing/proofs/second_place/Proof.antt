@@ -1,8 +1,7 @@
-use Rattle.mesh_tracing.proofs.Turns.{unfit, second-goes-down, second-goes-up}
+use Rattle.mesh_tracing.proofs.Turns.{second-goes-down, second-goes-up, second-unfit}
 use Rattle.mesh_tracing.proofs.Seconds.{second-ranges, second-in, second-over, second-index}
 use native.Mathlib.Omega.{arith}
 use lib.ListN.{length-set}
-use mathlib.Core.Path.{refl}
 use Rattle.mesh_tracing.proofs.second_place.Statement.{statement}
 use Rattle.mesh_tracing.proofs.second_place.Tie as tie
 use Rattle.mesh_tracing.proofs.second_place.Reads as reads
@@ -52,7 +51,7 @@ returns c = let s = c .before .before .before .before .before in let a = s .pre 
 
 -- src/lib.rt:100:9
 returns-2 : tie.Need-returns-2
-returns-2 c = unfit _ _ _ _ _ _ refl
+returns-2 c = let s = c .before .before .before .before .before .before in second-unfit _ _ _ _ _ _ (s .pre) _ (c .before .before .before .other .ensures) (c .before .if1 .left) (c .if2 .taken)
 
 -- src/lib.rt:102:5
 put-edge-requires : tie.Need-put-edge-requires
