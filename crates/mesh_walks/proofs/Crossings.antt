@@ -2,63 +2,30 @@
 --
 --   crossed-all       all are, where those are after whose last position but one an edge ends
 --   crossed-top       one is, where the edge opened last before its up begins after its down
---   crossed-higher    or where more edges are open at its up than at its down
 use Prim.Native.Nat.{ℕ, zero, suc, _+_, _-_, _≤_, _<_}
-use native.Mathlib.Nat.{le-refl, le-of-lt, le-of-suc-le-suc}
+use native.Mathlib.Nat.{le-of-lt}
 use native.Mathlib.Omega.{arith}
 use mathlib.Core.Path.{_≡_, refl, sym, ap, subst, _∙_}
-use mathlib.Core.Logic.{_⊎_, inl, inr, ⊎-elim, _≢_}
-use mathlib.Core.Bool.{Bool, true, false, false≢true}
+use mathlib.Core.Logic.{inl, _≢_}
+use mathlib.Core.Bool.{true}
 use mathlib.Core.List.{List, _∷_}
-use lib.Dec.{leb}
-use lib.ListN.{length}
-use borrow.Author.Tests.{leb-true, le-leb}
 use Rattle.model.specs.Map.{Plan, darts, next, fit}
 use Rattle.model.specs.Traversal.{Letter, down, up, first, second, code, opens}
 use Rattle.model.proofs.Fitness.{Fit, fit-parts}
-use Rattle.orbits.specs.Stack.{top, keep, pending}
+use Rattle.orbits.specs.Stack.{top}
 use Rattle.orbits.proofs.Order.{tri, le-split}
-use Rattle.words.specs.Toured.{Toured, dartAt, letterOf, mateOf, isTree, isChord, matching}
+use Rattle.words.specs.Toured.{Toured, dartAt, letterOf, mateOf, isTree}
 use Rattle.words.specs.Brackets.{chordStack}
 use Rattle.words.specs.Entered.{enteredAt}
 use Rattle.words.proofs.Letters.{apart, tree-fellow}
 use Rattle.words.proofs.Positions.{mate-bound, mate-back, mate-letter}
-use Rattle.words.proofs.OpenEdges.{chord-whole, part-pending, part-holds}
+use Rattle.words.proofs.OpenEdges.{part-holds}
 use Rattle.fit_plans.proofs.FitPlans.{fit-toured, fit-bracketed, fit-descends}
 use Rattle.meshes.proofs.Fits.{no-loop}
 use Rattle.meshes.proofs.OpenEdges.{openChords, after-down, after-up, after-first, In, open-chord}
 use Rattle.meshes.proofs.Turns.{enters-arrival}
 use Rattle.meshes.proofs.Blocks.{turn-up}
 use Rattle.meshes.proofs.Faces.{Crossed}
-
--- ---- pending positions
-
--- fewer end so late
-pending-fewer : (μ : ℕ → ℕ) (a b : ℕ) → a ≤ b → (n : ℕ) → length (pending μ b n) ≤ length (pending μ a n)
-unfolding pending
-pending-fewer μ a b l zero = le-refl 0
-pending-fewer μ a b l (suc n) = go (leb b (μ n)) (leb a (μ n)) refl refl (pending-fewer μ a b l n)
-  where
-    go : (c d : Bool) → leb b (μ n) ≡ c → leb a (μ n) ≡ d → length (pending μ b n) ≤ length (pending μ a n)
-        → length (keep c n (pending μ b n)) ≤ length (keep d n (pending μ a n))
-    go true true e f k = omega arith
-    go true false e f k = let h = leb-true b (μ n) e in absurd (false≢true (sym f ∙ le-leb a (μ n) (omega arith)))
-    go false true e f k = omega arith
-    go false false e f k = k
-
--- one of them begins at a or later, or none does
-pending-late : (μ : ℕ → ℕ) (a b n : ℕ) → a ≤ n → ((x : ℕ) × (a ≤ x) × In x (pending μ b n)) ⊎ (length (pending μ b n) ≤ length (pending μ b a))
-unfolding pending
-pending-late μ a b zero l = inr (omega arith)
-pending-late μ a b (suc n) l =
-    le-split l
-    (λ e. inr (subst (λ (k : ℕ). length (pending μ b (suc n)) ≤ length (pending μ b k)) (sym e) (le-refl (length (pending μ b (suc n))))))
-    (λ k. go (leb b (μ n)) (le-of-suc-le-suc k) (pending-late μ a b n (le-of-suc-le-suc k)))
-  where
-    go : (c : Bool) → a ≤ n → ((x : ℕ) × (a ≤ x) × In x (pending μ b n)) ⊎ (length (pending μ b n) ≤ length (pending μ b a))
-        → ((x : ℕ) × (a ≤ x) × In x (keep c n (pending μ b n))) ⊎ (length (keep c n (pending μ b n)) ≤ length (pending μ b a))
-    go true k ih = inl (n, k, inl refl)
-    go false k ih = ih
 
 module _ (q : Plan) (fits : fit 2 q ≡ true) where
   abbrev N : ℕ
@@ -102,18 +69,6 @@ module _ (q : Plan) (fits : fit 2 q ≡ true) where
 
     pub crossed-top : (x : ℕ) (s : List ℕ) → chordStack (letterOf q) (mateOf q a) ≡ x ∷ s → a ≤ x → Crossed q fits a
     crossed-top x s e l = open-crosses x l (subst (In x) (sym e) (inl refl))
-
-    pub crossed-higher : length (chordStack (letterOf q) a) < length (chordStack (letterOf q) (mateOf q a)) → Crossed q fits a
-    crossed-higher more =
-        let μ = matching isChord q in
-        let at = part-pending isChord chord-whole q toured (parts .count) (fit-bracketed 2 q fits .chords) in
-        let low = ap length (at a (le-of-lt h)) in
-        let high = ap length (at (m a) (le-of-lt hb)) in
-        let fewer = pending-fewer μ a (m a) (le-of-lt before) a in
-        ⊎-elim
-        (λ r. open-crosses (r .0) (r .1) (subst (In (r .0)) (sym (at (m a) (le-of-lt hb))) (r .2)))
-        (λ l. absurd (omega arith))
-        (pending-late μ a (m a) (m a) (le-of-lt before))
 
   -- ---- all edges
 

@@ -3,7 +3,6 @@
 --
 --   dual-fits         the dual is fit for kind 2
 --   mesh-crossed      the plan is a mesh, where the tree edges are crossed after whose last position but one an edge ends
---   mesh-fits         or where more edges are open at such an up than at its down
 --   mesh-fits-top     or where the edge opened last begins after that down
 use Prim.Native.Nat.{ℕ, suc, _/_, _%_, _≤_, _<_}
 use native.Mathlib.Omega.{arith}
@@ -11,7 +10,6 @@ use mathlib.Core.Path.{_≡_, sym, ap, subst, _∙_}
 use mathlib.Core.Logic.{_≢_}
 use mathlib.Core.Bool.{true, false, not}
 use mathlib.Core.List.{List, _∷_}
-use lib.ListN.{length}
 use borrow.Author.Tests.{not-false}
 use Rattle.model.specs.Numbers.{isPermutation}
 use Rattle.model.specs.Map.{Plan, darts, opposite, next, faceOf, dartCountFits, connected, planar, hasLoop, isTriangle, hasOtherFace, fit}
@@ -30,7 +28,7 @@ use Rattle.duals.proofs.Duals.{length-dual, dual-darts, dual-next, dual-dual, d
 use Rattle.meshes.proofs.Fits.{two-parts, mesh-of-parts}
 use Rattle.meshes.proofs.Triangles.{Triangle, triangle-parts, triangle-apart}
 use Rattle.meshes.proofs.Faces.{Crossed, edges-apart}
-use Rattle.mesh_walks.proofs.Crossings.{crossed-all, crossed-top, crossed-higher}
+use Rattle.mesh_walks.proofs.Crossings.{crossed-all, crossed-top}
 
 module _ (p : Plan) (count : dartCountFits (darts p) ≡ true) (root : p .root < darts p) (entries : isPermutation (p .rotation) ≡ true)
     (joined : connected (dualOf (p .rotation)) ≡ true) (nested : Brackets isChord (dualPlan p)) (triangles : hasOtherFace (p .rotation) ≡ false) where
@@ -115,15 +113,6 @@ module _ (p : Plan) (count : dartCountFits (darts p) ≡ true) (root : p .root <
   mesh-from-up f = mesh-crossed (λ a k h d e s. f a k h d e
       (ap (mateOf q) e ∙ mate-back q toured dual-count a h)
       (omega (arith, e, mate-bound q toured dual-count a h, dual-darts p)) s (ap (letterOf q) e ∙ mate-letter q toured a h down d))
-
-  pub mesh-fits : ((k : ℕ) → suc k < darts p → letterOf (dualPlan p) k ≡ second → letterOf (dualPlan p) (suc k) ≡ up
-      → length (chordStack (letterOf (dualPlan p)) (mateOf (dualPlan p) (suc k))) < length (chordStack (letterOf (dualPlan p)) (suc k)))
-      → fit 3 p ≡ true
-  mesh-fits higher = mesh-from-up (λ a k h d e back b s u.
-      let l = higher k b s u in
-      let x = ap (λ (i : ℕ). length (chordStack (letterOf q) i)) back in
-      let y = ap (λ (i : ℕ). length (chordStack (letterOf q) i)) e in
-      crossed-higher q dual-fits a h d (omega arith))
 
   abbrev pub Opened : ℕ → (ℕ → Type 0) → Type 0
   Opened i P = (x : ℕ) × (s : List ℕ) × (chordStack (letterOf (dualPlan p)) i ≡ x ∷ s) × P x

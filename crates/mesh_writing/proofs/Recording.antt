@@ -4,7 +4,7 @@
 --   small                there are few of them
 --   record-is, record-long   the record under a table with these bytes, and its length
 --   no-room, recorded    the two ways of writing
-use Prim.Native.Nat.{ℕ, _+_, _*_, _/_, _≤_, _<_}
+use Prim.Native.Nat.{ℕ, _+_, _/_, _≤_, _<_}
 use native.Mathlib.Omega.{arith}
 use mathlib.Core.Path.{_≡_, sym, ap, _∙_}
 use mathlib.Core.Bool.{true, false}

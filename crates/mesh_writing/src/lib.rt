@@ -1,7 +1,7 @@
 // The record of a mesh whose node types are in the work area: their codes there, then head and payload in the output. How types are found is not known here.
 use mesh_encoder::Sizes;
 ghost use mathlib.Core.Path.{_≡_};
-ghost use Prim.Native.Nat.{_+_, _*_, _/_, _^_, _≤_};
+ghost use Prim.Native.Nat.{_+_, _/_, _^_, _≤_};
 ghost use lib.ListN.{length};
 ghost use Rattle.model.specs.Mesh.{types};
 ghost use Rattle.model.specs.Record.{headed};
