@@ -5,11 +5,10 @@
 --   place-bound, place-inj   the places of the labels are below the number of edges, one for each edge
 --   Placed p L         in L the label of each edge stands at its place, as it is read where the edge ends
 --   labels-by-place    then L has the word's labels
---   labels-length      as many as edges
 --   Written p n L      in L stand the labels of the edges that end before n
 --   written-none, written-opens, written-ends   none; past a position that opens an edge, past one that ends an edge
 --   written-placed     in the end all stand there
-use Prim.Native.Nat.{ℕ, suc, _+_, _/_, _<_}
+use Prim.Native.Nat.{ℕ, suc, _/_, _<_}
 use native.Mathlib.Nat.{not-suc-le-zero}
 use native.Mathlib.Omega.{arith}
 use mathlib.Core.Path.{_≡_, refl, sym, ap, ap₂, subst, _∙_}
@@ -44,13 +43,6 @@ no-label up w r o = refl
 no-label first w r o = absurd (true≢false o)
 no-label second w r o = refl
 
-one-label : (l : Letter) (w : List Letter) (r : Ends) → opens l ≡ true → length (endsOne l w r .labels) ≡ suc (length (r .labels))
-unfolding endsOne
-one-label down w r o = refl
-one-label up w r o = absurd (false≢true o)
-one-label first w r o = refl
-one-label second w r o = absurd (false≢true o)
-
 -- ---- the places
 
 module _ (p : Plan) (t : Toured p) (fits : dartCountFits (darts p) ≡ true) where
@@ -81,32 +73,6 @@ module _ (p : Plan) (t : Toured p) (fits : dartCountFits (darts p) ≡ true) whe
   place-inj i j hi hj u v e =
       sym (mate-back p t fits i hi) ∙ ap (mateOf p) (opened-inj (mateOf p i) (mateOf p j) (begins i hi u) (begins j hj v) e)
       ∙ mate-back p t fits j hj
-
-  -- ---- how many labels
-
-  Many : ℕ → Type 0
-  Many i = length (endsFrom p i .labels) + opened ℓ i ≡ darts p / 2
-
-  many-step : (i : ℕ) → i < darts p → Many (suc i) → Many i
-  unfolding Many
-  many-step i h ih = ap (λ (r : Ends). length (r .labels) + opened ℓ i) (ends-at p t i h) ∙ go (opens (ℓ i)) refl
-    where
-      go : (c : Bool) → opens (ℓ i) ≡ c → length (endsOne (ℓ i) (drop (suc i) (word p)) (endsFrom p (suc i)) .labels) + opened ℓ i ≡ darts p / 2
-      go true o =
-          let e = one-label (ℓ i) (drop (suc i) (word p)) (endsFrom p (suc i)) o in
-          let r = rank-opens p i o in
-          omega arith
-      go false o =
-          let e = ap length (no-label (ℓ i) (drop (suc i) (word p)) (endsFrom p (suc i)) o) in
-          let r = rank-stays p i o in
-          omega arith
-
-  pub labels-length : length (wordLabels (word p)) ≡ darts p / 2
-  unfolding Many wordLabels ends opened count
-  labels-length =
-      let end : Many (darts p) = omega (arith, ap (λ (w : List Letter). length (ends w .labels)) (word-end p t), opened-half) in
-      let e = from-end Many (darts p) end many-step 0 (omega arith) in
-      omega arith
 
 -- ---- the labels
 

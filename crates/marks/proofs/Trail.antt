@@ -12,7 +12,7 @@
 --   trail-down, trail-first, trail-up, trail-second   one step
 use mathlib.Core.Path.{_≡_, refl, sym, ap, _∙_, subst}
 use mathlib.Core.Logic.{⊎-elim, _≢_}
-use mathlib.Core.Bool.{true, false, false≢true}
+use mathlib.Core.Bool.{true, false≢true}
 use mathlib.Core.List.{List, [], _∷_, map}
 use Prim.Native.Nat.{ℕ, zero, suc, _+_, _≤_, _<_}
 use native.Mathlib.Nat.{le-refl}
@@ -31,7 +31,7 @@ use Rattle.words.specs.Brackets.{chordKind, chordWord, chordStack}
 use Rattle.words.specs.Position.{opened}
 use Rattle.words.specs.Word.{head, tail}
 use Rattle.words.proofs.Bracketing.{is-first}
-use Rattle.traversal.specs.Steps.{at, dart, letterAfter, mark}
+use Rattle.traversal.specs.Steps.{dart, letterAfter, mark}
 use Rattle.traversal.proofs.Marks.{zeros-at}
 use Rattle.traversal.proofs.Steps.{Case, new, old, back, noted, case, code-some, mark-met, dart-bound, across-bound}
 use Rattle.traversal.proofs.Follow.{Away, Followed, follows, away-less, apart}
