@@ -1,13 +1,11 @@
--- The stacks of a walk as code keeps them: the darts or the numbers of the edges that are open, not their positions.
+-- How much room the stacks of a walk take; what is on top of them, `words/Opened` says.
 --
---   chord-opener       what is on top of the stack of edges outside the tree is a first, met before
---   tree-opener        and what is on top of that of tree edges, a down
 --   stacks-size        both stacks have no more entries than edges are opened
 --   open-room          as many positions are left as edges outside the tree are open
-use Prim.Native.Nat.{ℕ, zero, suc, _+_, _≤_, _<_}
+use Prim.Native.Nat.{ℕ, zero, suc, _+_, _≤_}
 use native.Mathlib.Nat.{le-step, lt-suc-self}
 use native.Mathlib.Omega.{arith}
-use mathlib.Core.Path.{_≡_, refl, ap, subst}
+use mathlib.Core.Path.{_≡_, refl, ap}
 use mathlib.Core.Bool.{Bool, true, false}
 use mathlib.Core.List.{List, [], _∷_}
 use lib.Dec.{T}
@@ -15,50 +13,17 @@ use lib.ListN.{length}
 use Rattle.model.specs.Numbers.{tick, count}
 use Rattle.model.specs.Map.{Plan, darts, dartCountFits}
 use Rattle.model.specs.Traversal.{Letter, down, up, first, second, opens}
-use Rattle.orbits.specs.Stack.{Kind, flat, open′, close, push, stack, Served}
+use Rattle.orbits.specs.Stack.{push, stack, Served}
 use Rattle.model.proofs.Booleans.{true-T}
 use Rattle.orbits.proofs.Order.{le-split}
 use Rattle.orbits.proofs.Tally.{count-grows, count-inj}
 use Rattle.orbits.proofs.Chord.{μ-inj}
-use Rattle.orbits.proofs.Decode.{Each}
 use Rattle.words.specs.Toured.{Toured, letterOf, mateOf}
-use Rattle.words.specs.Brackets.{treeKind, chordKind, treeWord, chordWord, treeStack, chordStack}
+use Rattle.words.specs.Brackets.{treeKind, chordKind, chordWord, treeStack, chordStack}
 use Rattle.words.specs.Position.{opened}
-use Rattle.words.proofs.Bracketing.{is-down, is-first}
+pub use Rattle.words.proofs.Opened.{chord-opener, tree-opener}
 use Rattle.words.proofs.Positions.{mate-bound, mate-inv, mate-letter}
 use Rattle.forward.proofs.Stacked.{OnTopTo, on-top-served}
-
--- ---- what is on a stack
-
--- a is an opening bracket before i
-Opener : (ℕ → Kind) → ℕ → ℕ → Type 0
-Opener K i a = (a < i) × (K a ≡ open′)
-
-wider : (K : ℕ → Kind) (i : ℕ) (s : List ℕ) → Each (Opener K i) s → Each (Opener K (suc i)) s
-unfolding Opener
-wider K i [] e = tt
-wider K i (a ∷ s) e = ((le-step (e .0 .0), e .0 .1), wider K i s (e .1))
-
-openers : (K : ℕ → Kind) (i : ℕ) → Each (Opener K i) (stack K i)
-unfolding stack Opener
-openers K zero = tt
-openers K (suc i) = go (K i) (stack K i) refl (openers K i)
-  where
-    go : (k : Kind) (s : List ℕ) → K i ≡ k → Each (Opener K i) s → Each (Opener K (suc i)) (push k i s)
-    go flat s e h = wider K i s h
-    go open′ s e h = ((lt-suc-self i, e), wider K i s h)
-    go close [] e h = tt
-    go close (a ∷ s) e h = wider K i s (h .1)
-
-pub chord-opener : (ℓ : ℕ → Letter) (i a : ℕ) (s : List ℕ) → chordStack ℓ i ≡ a ∷ s → (a < i) × (ℓ a ≡ first)
-unfolding Opener
-chord-opener ℓ i a s e = let (l, k) = subst (Each (Opener (chordWord ℓ) i)) e (openers (chordWord ℓ) i) .0 in (l, is-first (ℓ a) k)
-
-pub tree-opener : (ℓ : ℕ → Letter) (i a : ℕ) (s : List ℕ) → treeStack ℓ i ≡ a ∷ s → (a < i) × (ℓ a ≡ down)
-unfolding Opener
-tree-opener ℓ i a s e = let (l, k) = subst (Each (Opener (treeWord ℓ) i)) e (openers (treeWord ℓ) i) .0 in (l, is-down (ℓ a) k)
-
--- ---- how much room they take
 
 pub stacks-size : (ℓ : ℕ → Letter) (i : ℕ) → length (treeStack ℓ i) + length (chordStack ℓ i) ≤ opened ℓ i
 unfolding stack opened count

@@ -25,9 +25,9 @@ use Rattle.traversal.proofs.Toured.{walk-toured}
 use Rattle.forward.proofs.Stacked.{planar-stacked}
 use Rattle.forward.proofs.Loops.{loop-first}
 use Rattle.forward.proofs.DeadEnds.{dead-end-up}
+use Rattle.work.specs.Map.{WAITING}
 use Rattle.work.specs.Area.{stack}
 use Rattle.trace_steps.specs.declared.Trace.{Trace}
-use Rattle.trace_steps.specs.Putting.{WAITING}
 use Rattle.trace_steps.specs.Steps.{lastIs}
 use Rattle.tracing.specs.Tracing.{from, Tracing, Sound}
 use Rattle.tracing.proofs.Places.{mark-at}
