@@ -2,23 +2,25 @@
 --
 --   digits-split           the digits of a number in two parts
 --   byte-digits            the eight bits of a byte
---   window-none, window-more   the number of no bytes, and with one more byte; window-room, it has room for one
+--   window-more            the number with one more byte
+--   digits-bytes           eight bytes joined are the number of their bits
 --   window-pair            two bits of the whole, by dividing
 use Prim.Native.Nat.{ℕ, zero, suc, _+_, _-_, _*_, _/_, _%_, _^_, _≤_, _<_}
-use native.Mathlib.Nat.{zero-add, zero-mul, suc-add, add-assoc, add-mul, mul-assoc, mul-comm, not-suc-le-zero, le-of-suc-le-suc, lt-of-lt-of-le}
+use native.Mathlib.Nat.{zero-add, zero-mul, suc-add, add-assoc, add-mul, mul-assoc, mul-comm, not-suc-le-zero, le-of-suc-le-suc}
 use native.Mathlib.Omega.{arith}
 use mathlib.Core.Path.{_≡_, refl, sym, ap, ap₂, _∙_}
 use mathlib.Core.Bool.{true}
 use mathlib.Core.List.{List, [], _∷_}
 use lib.ListN.{length, getD, drop, length-drop}
-use lib.Pow.{pow-mono, pow-add, shr-shr}
+use lib.Pow.{pow-add, shr-shr}
 use lib.Seq.{drop-cons, drop-drop, getD-drop, getD-take}
 use Rattle.model.specs.Record.{digitsFrom, digits}
 use Rattle.model.specs.Numbers.{allBelow}
 use Rattle.model.proofs.Below.{below-drop}
 use Rattle.packing.specs.Unpack.{digitsOf, unpack, bits}
-use Rattle.packing.proofs.Digits.{digits-cons, digits-below, digits-append, length-digitsOf, digitsOf-digits, digits-digitsOf, digitsOf-at}
+use Rattle.packing.proofs.Digits.{digits-cons, digits-append, length-digitsOf, digitsOf-digits, digits-digitsOf, digitsOf-at}
 use Rattle.packing.proofs.Packed.{unpack-drop, length-bits, bits-below}
+use Rattle.bit_window.specs.Window.{joinedBytes}
 
 digits-split : (u w : ℕ) (ds : List ℕ) → u ≤ length ds → digits 2 (u + w) ds ≡ digits 2 u ds * 2 ^ w + digits 2 w (drop u ds)
 unfolding digitsFrom
@@ -49,12 +51,8 @@ module _ (s : List ℕ) (q : ℕ) where
 
   -- ---- byte by byte
 
-  pub window-none : digits 2 (8 * 0) ds ≡ 0
-  unfolding digitsFrom
-  window-none = refl
-
   module _ (k : ℕ) (h : k < 8) (there : q + k < length s) where
-    pub window-more : getD s (q + k) 0 < 256 → digits 2 (8 * (k + 1)) ds ≡ digits 2 (8 * k) ds * 256 + getD s (q + k) 0
+    window-more : getD s (q + k) 0 < 256 → digits 2 (8 * (k + 1)) ds ≡ digits 2 (8 * k) ds * 256 + getD s (q + k) 0
     window-more low =
         let more : 8 * (k + 1) ≡ 8 * k + 8 = omega arith in
         let place : 8 * q + 8 * k ≡ 8 * (q + k) = omega arith in
@@ -64,8 +62,18 @@ module _ (s : List ℕ) (q : ℕ) where
         ∙ ap (λ (y : ℕ). digits 2 (8 * k) ds * 256 + y)
         (ap (digits 2 8) (drop-drop (8 * k) (8 * q) (bits s) ∙ ap (λ (j : ℕ). drop j (bits s)) place) ∙ byte-digits s (q + k) there low)
 
-    pub window-room : digits 2 (8 * k) ds < 2 ^ 56
-    window-room = lt-of-lt-of-le (digits-below 2 (omega arith) (8 * k) ds below) (pow-mono {j = 56} (omega arith))
+  pub digits-bytes : q + 8 ≤ length s → ((k : ℕ) → k < 8 → getD s (q + k) 0 < 256)
+      → joinedBytes (getD s q 0) (getD s (q + 1) 0) (getD s (q + 2) 0) (getD s (q + 3) 0) (getD s (q + 4) 0) (getD s (q + 5) 0) (getD s (q + 6) 0) (getD s (q + 7) 0)
+      ≡ digits 2 64 ds
+  unfolding digitsFrom
+  digits-bytes room low =
+      let more : (k : ℕ) → k < 8 → digits 2 (8 * (k + 1)) ds ≡ digits 2 (8 * k) ds * 256 + getD s (q + k) 0 =
+      λ k h. window-more k h (omega arith) (low k h) in
+      let none : digits 2 (8 * 0) ds ≡ 0 = refl in
+      let z : getD s (q + 0) 0 ≡ getD s q 0 = ap (λ (k : ℕ). getD s k 0) (omega arith) in
+      let a = more 0 (omega arith) in let b = more 1 (omega arith) in let c = more 2 (omega arith) in let d = more 3 (omega arith) in
+      let e = more 4 (omega arith) in let f = more 5 (omega arith) in let g = more 6 (omega arith) in let h = more 7 (omega arith) in
+      omega arith
 
   -- ---- two bits
 

@@ -24,10 +24,10 @@ fn joined(a: u64, b: u64, c: u64, d: u64, e: u64, f: u64, g: u64, h: u64) -> u64
     ((((((a * 256 + b) * 256 + c) * 256 + d) * 256 + e) * 256 + f) * 256 + g) * 256 + h
 }
 
-// The 64 bits of the eight bytes from byte q on.
+// The 64 bits of the eight bytes from byte q on, as a window and as a number.
 fn inside(bytes: &[u8], q: usize) -> u64
     requires { ⌜ q + 8 ≤ length (now bytes) ⌝ }
-    ensures { λ r. ⌜ Holds (bits (now (bytes .entry))) r (8 * q) 64 ⌝ }
+    ensures { λ r. ⌜ Holds (bits (now (bytes .entry))) r (8 * q) 64 × (r ≡ digits 2 64 (drop (8 * q) (bits (now (bytes .entry))))) ⌝ }
 {
     let a = bytes[q] as u64;
     let b = bytes[q + 1] as u64;
@@ -83,13 +83,7 @@ pub fn eight(s: &[u8], q: usize) -> u64
     requires { ⌜ (length (now s) < 65536) × (q + 8 ≤ length (now s)) ⌝ }
     ensures { λ r. ⌜ r ≡ digits 2 64 (drop (8 * q) (bits (now (s .entry)))) ⌝ }
 {
-    let mut x: u64 = 0;
-    let mut k = 0;
-    while k < 8 {
-        x = x * 256 + s[q + k] as u64;
-        k += 1;
-    }
-    x
+    inside(s, q)
 }
 
 // The two bits of it from place k on.

@@ -1,6 +1,6 @@
 -- The parts of the work area, where d tree edges and o others are open: what stores and pops make of them. Assumes nothing.
 --
---   below-long, trees-long, begun-long, opens-long   as many entries on the stacks as edges are open
+--   below-long, begun-long   as many entries on the stacks as edges are open
 --   region-beside         two stores beside a region
 --   entered q x p         the parts p with dart x entered at place q
 --   dart-entered          a store into the rotation
@@ -54,17 +54,9 @@ module _ (m : ℕ) (w : List ℕ) (d o : ℕ) where
   unfolding partsOf
   below-long = length-stack (BELOW * n) d w
 
-  pub trees-long : length (partsOf m w d o .trees) ≡ d
-  unfolding partsOf
-  trees-long = length-stack (TREES * n) d w
-
   pub begun-long : length (partsOf m w d o .begun) ≡ o
   unfolding partsOf
   begun-long = length-stack (BEGUN * n) o w
-
-  pub opens-long : length (partsOf m w d o .opens) ≡ o
-  unfolding partsOf
-  opens-long = length-stack (OPENS * n) o w
 
   pub dart-entered : (q x : ℕ) → q < 2 * m → partsOf m (set w q x) d o ≡ entered q x (partsOf m w d o)
   unfolding partsOf

@@ -2,7 +2,6 @@
 -- there are.
 --
 --   coderOf               the coder of the kind that a plan is fit for
---   has-decodes           bytes that are a fit plan's record decode to its word
 --   none-has              bytes that do not decode are the record of no fit plan
 --   decodes-map           bytes that decode build a rotation of as many darts as the head says
 --   Sound r v             the outside that the bytes r name is the least dart of its face, in the rotation that the word v builds
@@ -18,7 +17,7 @@ use lib.ListN.{length, drop}
 use Rattle.model.specs.declared.Table.{Table}
 use Rattle.model.specs.Numbers.{allBelow, isPermutation}
 use Rattle.model.specs.Map.{Plan, faceOf, family, dartCountFits, fit}
-use Rattle.model.specs.Traversal.{Letter, word, standardRotation}
+use Rattle.model.specs.Traversal.{Letter, standardRotation}
 use Rattle.model.specs.Record.{headLength}
 use Rattle.model.specs.Shelf.{kindOf, edgesOf, passes}
 use Rattle.model.specs.Calls.{tableRefused, HasRecord, outsideRead}
@@ -45,10 +44,6 @@ Sound r v = (outsideOf r < length v) × (faceOf (rotationOf v) (outsideOf r) ≡
 module _ (t : Table) (stands : tableRefused t ≡ false) (r : List ℕ) (other : kindOf r ≢ 3) where
   coder-for : (p : Plan) → HasRecord t r p → Coder (kindOf r)
   coder-for p h = plain-coder (kindOf r) (fit-parts (kindOf r) p (h .0) .kind) other
-
-  pub has-decodes : (p : Plan) → HasRecord t r p → decodeRecord (t .inverse) r ≡ found (word p)
-  unfolding coder-for plain-coder decodeRecord
-  has-decodes p h = generic.has-decodes t stands r (coder-for p h) p h
 
   pub none-has : decodeRecord (t .inverse) r ≡ none → (p : Plan) → HasRecord t r p → ⊥
   unfolding coder-for plain-coder decodeRecord

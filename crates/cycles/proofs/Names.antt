@@ -3,10 +3,9 @@
 --   named-length       the work area is as long
 --   named-names        the names
 --   named-sizes        the sizes
---   named-beside       parts beside both are as they were
 use mathlib.Core.Path.{_≡_, sym, ap, _∙_}
 use mathlib.Core.List.{List}
-use Prim.Native.Nat.{ℕ, _+_, _≤_, _<_}
+use Prim.Native.Nat.{ℕ, _+_, _≤_}
 use native.Mathlib.Omega.{arith}
 use lib.ListN.{length}
 use Rattle.model.specs.Numbers.{least, isLeast, cycles, cycleSizes}
@@ -37,12 +36,6 @@ module _ (f : ℕ → ℕ) (n a b : ℕ) (w : List ℕ) (c : ℕ) (w′ : List �
 
   pub named-length : length w′ ≡ length w
   named-length = ap length (s .named) ∙ length-placed b (cycleSizes f n) (placed a names w) second-fits ∙ as-long
-
-  pub named-beside : (p k : ℕ) → (a < p + k → a + n ≤ p) → (b < p + k → b + n ≤ p) → region p k w′ ≡ region p k w
-  named-beside p k out off =
-      ap (region p k) (s .named)
-      ∙ region-placed-other b (cycleSizes f n) (placed a names w) second-fits p k (λ h. let o = off h in omega (arith, few))
-      ∙ region-placed-other a names w first-fits p k (λ h. let o = out h in omega (arith, length-tabulate (least f n) 0 n))
 
   pub named-names : region a n w′ ≡ names
   named-names =

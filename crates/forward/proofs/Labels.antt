@@ -1,15 +1,14 @@
 -- The labels of a word, written forward: each is known where its edge ends, and stands at the number of edges opened before that edge.
 --
 --   opened-half        half of the positions open an edge
---   opened-bound, opened-inj how many edges are opened before a position that opens one: below the number of edges, and different for each
+--   opened-bound       how many edges are opened before a position that opens one: below the number of edges
 --   place-bound, place-inj   the places of the labels are below the number of edges, one for each edge
 --   Placed p L         in L the label of each edge stands at its place, as it is read where the edge ends
 --   labels-by-place    then L has the word's labels
---   labels-length      as many as edges
 --   Written p n L      in L stand the labels of the edges that end before n
 --   written-none, written-opens, written-ends   none; past a position that opens an edge, past one that ends an edge
 --   written-placed     in the end all stand there
-use Prim.Native.Nat.{ℕ, suc, _+_, _/_, _<_}
+use Prim.Native.Nat.{ℕ, suc, _/_, _<_}
 use native.Mathlib.Nat.{not-suc-le-zero}
 use native.Mathlib.Omega.{arith}
 use mathlib.Core.Path.{_≡_, refl, sym, ap, ap₂, subst, _∙_}
@@ -21,12 +20,12 @@ use Rattle.model.specs.Numbers.{count}
 use Rattle.model.specs.Map.{Plan, darts, degreeOne, dartCountFits}
 use Rattle.model.specs.Traversal.{Letter, down, up, first, second, opens, word}
 use Rattle.model.specs.LabelledTree.{star}
-use Rattle.orbits.proofs.Order.{lt-suc-split, tri, from-end}
-use Rattle.orbits.proofs.Tally.{count-below}
+use Rattle.orbits.proofs.Order.{lt-suc-split, from-end}
 use Rattle.words.specs.Word.{Ends, ends, endsOne, startsSecond, wordLabels}
 use Rattle.words.specs.Toured.{Toured, Bracketed, dartAt, letterOf, mateOf, isTree, isChord}
 use Rattle.words.specs.Position.{opened}
 use Rattle.words.proofs.Positions.{mate-bound, mate-dart, mate-back, mate-letter, mate-opens, word-end}
+use Rattle.words.proofs.Opened.{opened-rises, opened-inj}
 use Rattle.words.proofs.Numbered.{numbered-half}
 use Rattle.labelling.proofs.Lit.{startsAt}
 use Rattle.labelling.proofs.Flags.{endsFrom, ends-at, waits-head}
@@ -44,13 +43,6 @@ no-label up w r o = refl
 no-label first w r o = absurd (true≢false o)
 no-label second w r o = refl
 
-one-label : (l : Letter) (w : List Letter) (r : Ends) → opens l ≡ true → length (endsOne l w r .labels) ≡ suc (length (r .labels))
-unfolding endsOne
-one-label down w r o = refl
-one-label up w r o = absurd (false≢true o)
-one-label first w r o = refl
-one-label second w r o = absurd (false≢true o)
-
 -- ---- the places
 
 module _ (p : Plan) (t : Toured p) (fits : dartCountFits (darts p) ≡ true) where
@@ -60,15 +52,8 @@ module _ (p : Plan) (t : Toured p) (fits : dartCountFits (darts p) ≡ true) whe
   pub opened-half : opened ℓ (darts p) ≡ darts p / 2
   opened-half = let h = numbered-half ℓ (darts p) (mateOf p) _ (numbered p t fits) in omega arith
 
-  rises : (i j : ℕ) → i < j → opens (ℓ i) ≡ true → opened ℓ i < opened ℓ j
-  unfolding opened
-  rises i j = count-below (λ k. opens (ℓ k)) i j
-
   pub opened-bound : (i : ℕ) → i < darts p → opens (ℓ i) ≡ true → opened ℓ i < darts p / 2
-  opened-bound i h o = subst (λ (n : ℕ). opened ℓ i < n) opened-half (rises i (darts p) h o)
-
-  pub opened-inj : (i j : ℕ) → opens (ℓ i) ≡ true → opens (ℓ j) ≡ true → opened ℓ i ≡ opened ℓ j → i ≡ j
-  opened-inj i j u v e = tri i j (λ l. absurd (omega (arith, rises i j l u))) (λ q. q) (λ g. absurd (omega (arith, rises j i g v)))
+  opened-bound i h o = subst (λ (n : ℕ). opened ℓ i < n) opened-half (opened-rises ℓ i (darts p) h o)
 
   begins : (j : ℕ) → j < darts p → opens (ℓ j) ≡ false → opens (ℓ (mateOf p j)) ≡ true
   begins j h o = mate-opens p t j h ∙ ap not o
@@ -79,34 +64,8 @@ module _ (p : Plan) (t : Toured p) (fits : dartCountFits (darts p) ≡ true) whe
   pub place-inj : (i j : ℕ) → i < darts p → j < darts p → opens (ℓ i) ≡ false → opens (ℓ j) ≡ false
       → opened ℓ (mateOf p i) ≡ opened ℓ (mateOf p j) → i ≡ j
   place-inj i j hi hj u v e =
-      sym (mate-back p t fits i hi) ∙ ap (mateOf p) (opened-inj (mateOf p i) (mateOf p j) (begins i hi u) (begins j hj v) e)
+      sym (mate-back p t fits i hi) ∙ ap (mateOf p) (opened-inj ℓ (mateOf p i) (mateOf p j) (begins i hi u) (begins j hj v) e)
       ∙ mate-back p t fits j hj
-
-  -- ---- how many labels
-
-  Many : ℕ → Type 0
-  Many i = length (endsFrom p i .labels) + opened ℓ i ≡ darts p / 2
-
-  many-step : (i : ℕ) → i < darts p → Many (suc i) → Many i
-  unfolding Many
-  many-step i h ih = ap (λ (r : Ends). length (r .labels) + opened ℓ i) (ends-at p t i h) ∙ go (opens (ℓ i)) refl
-    where
-      go : (c : Bool) → opens (ℓ i) ≡ c → length (endsOne (ℓ i) (drop (suc i) (word p)) (endsFrom p (suc i)) .labels) + opened ℓ i ≡ darts p / 2
-      go true o =
-          let e = one-label (ℓ i) (drop (suc i) (word p)) (endsFrom p (suc i)) o in
-          let r = rank-opens p i o in
-          omega arith
-      go false o =
-          let e = ap length (no-label (ℓ i) (drop (suc i) (word p)) (endsFrom p (suc i)) o) in
-          let r = rank-stays p i o in
-          omega arith
-
-  pub labels-length : length (wordLabels (word p)) ≡ darts p / 2
-  unfolding Many wordLabels ends opened count
-  labels-length =
-      let end : Many (darts p) = omega (arith, ap (λ (w : List Letter). length (ends w .labels)) (word-end p t), opened-half) in
-      let e = from-end Many (darts p) end many-step 0 (omega arith) in
-      omega arith
 
 -- ---- the labels
 

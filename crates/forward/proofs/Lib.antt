@@ -5,4 +5,3 @@ pub mod Labels
 pub mod Tops
 pub mod Loops
 pub mod DeadEnds
-pub mod Fits

@@ -3,20 +3,16 @@
 --   NoLoopFirst p      no first leads back to its own vertex
 --   no-loop-first      then no edge is a loop
 --   loop-first         and where one does, there is a loop
---   no-loop-second, loop-second   what is seen at the seconds, by where their vertices are entered
 use Prim.Native.Nat.{ℕ, _<_}
 use native.Mathlib.Nat.{le-refl}
 use mathlib.Core.Path.{_≡_, refl, sym, ap, subst, _∙_}
 use mathlib.Core.Logic.{_≢_}
 use mathlib.Core.Bool.{Bool, true, false}
-use Rattle.model.specs.Numbers.{isPermutation}
 use Rattle.model.specs.Map.{Plan, darts, opposite, vertexOf, hasLoop, dartCountFits}
 use Rattle.model.specs.Traversal.{Letter, down, up, first, second}
 use Rattle.model.proofs.Fitness.{opposite-opposite, loopless-at, at-loopless}
 use Rattle.words.specs.Toured.{Toured, dartAt, letterOf, posOf, mateOf}
-use Rattle.words.specs.Entered.{enteredAt}
-use Rattle.words.proofs.Positions.{mate-bound, mate-dart, mate-back, mate-letter}
-use Rattle.planarity.proofs.SameVertex.{same-vertex, same-entry}
+use Rattle.words.proofs.Positions.{mate-bound, mate-dart, mate-letter}
 
 abbrev pub NoLoopFirst : Plan → Type 0
 NoLoopFirst p = (i : ℕ) → i < darts p → letterOf p i ≡ first → vertexOf (p .rotation) (dartAt p i) ≢ vertexOf (p .rotation) (opposite (dartAt p i))
@@ -56,17 +52,3 @@ module _ (p : Plan) (t : Toured p) (fits : dartCountFits (darts p) ≡ true) whe
   pub loop-first : (i : ℕ) → i < darts p → vertexOf (p .rotation) (dartAt p i) ≡ vertexOf (p .rotation) (opposite (dartAt p i))
       → hasLoop (p .rotation) ≡ true
   loop-first i h e = loop-at p (dartAt p i) (t .dart-bound i h) e
-
-  -- ---- at the seconds
-
-  module _ (perm : isPermutation (p .rotation) ≡ true) where
-    pub no-loop-second : ((j : ℕ) → j < darts p → letterOf p j ≡ second → enteredAt p (mateOf p j) ≢ enteredAt p j) → NoLoopFirst p
-    no-loop-second seconds i h e q =
-        let m = mate-bound p t fits i h in
-        seconds (mateOf p i) m (mate-letter p t i h first e)
-        (ap (enteredAt p) (mate-back p t fits i h)
-        ∙ same-vertex p t fits perm i (mateOf p i) h m (q ∙ ap vertex (sym (mate-dart p t fits i h))))
-
-    pub loop-second : (j : ℕ) → j < darts p → enteredAt p (mateOf p j) ≡ enteredAt p j → hasLoop (p .rotation) ≡ true
-    loop-second j h e =
-        loop-first j h (same-entry p t fits perm j (mateOf p j) h (mate-bound p t fits j h) (sym e) ∙ ap vertex (mate-dart p t fits j h))

@@ -2,7 +2,6 @@
 --
 --   TopAt p j          if a second stands at j, then the last open edge outside the tree is the one that ends there
 --   OnTopTo p n, OnTop p   so it is at each position before n; at all positions
---   on-top-none, on-top-more   at none; at one more
 --   on-top-served      then no second before n finds an empty stack
 --   stacked-mates      the stack machine joins each position of such an edge to its mate
 --   stacked-chords     the edges outside the tree match like brackets
@@ -63,12 +62,6 @@ OnTopTo p n = (j : ℕ) → j < n → TopAt p j
 
 abbrev pub OnTop : Plan → Type 0
 OnTop p = OnTopTo p (darts p)
-
-pub on-top-none : (p : Plan) → OnTopTo p 0
-on-top-none p j h = absurd (not-suc-le-zero h)
-
-pub on-top-more : (p : Plan) (n : ℕ) → OnTopTo p n → TopAt p n → OnTopTo p (suc n)
-on-top-more p n tops top j h = lt-suc-split h (λ e. subst (TopAt p) (sym e) top) (tops j)
 
 -- no closing bracket before n meets an empty stack
 pub on-top-served : (p : Plan) (n : ℕ) → OnTopTo p n → Served (chordWord (letterOf p)) n

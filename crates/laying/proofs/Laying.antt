@@ -10,29 +10,28 @@ use Prim.Native.Nat.{ℕ, _+_, _*_, _/_, _%_, _^_, _≤_, _<_}
 use native.Mathlib.Omega.{arith}
 use mathlib.Core.Path.{_≡_, refl, sym, ap, ap₂, subst, _∙_}
 use mathlib.Core.Logic.{_≢_}
-use mathlib.Core.Bool.{Bool, true, false, cond, false≢true}
+use mathlib.Core.Bool.{Bool, true, false, cond}
 use mathlib.Core.List.{List, [], _++_, map}
 use lib.ListN.{length, getD, take, drop, length-map, length-drop, take-append-drop}
 use lib.Seq.{length-take-le}
 use borrow.Author.Tests.{eq-eqb, ne-eqb}
 use Rattle.orbits.proofs.Order.{eq-split}
 use Rattle.model.specs.declared.Table.{Table}
-use Rattle.model.specs.Numbers.{elem, allBelow}
-use Rattle.model.specs.Map.{Plan, darts, edges, isFamily, isKind, storesOutside, family}
+use Rattle.model.specs.Numbers.{allBelow}
+use Rattle.model.specs.Map.{Plan, darts, edges, isKind, storesOutside, family}
 use Rattle.model.specs.Traversal.{Letter, code, word, standardFace}
 use Rattle.model.specs.Groups.{standardTable}
 use Rattle.model.specs.Record.{bytesFor, le16, headLength, lengthVaries, payloadLength, recordLength, labelBase, headed, payloadOf, outsideBytes, recordOf}
 use Rattle.model.specs.Calls.{front}
 use Rattle.model.proofs.Fitness.{fit-parts, count-parts}
 use Rattle.model.proofs.Heads.{family-two, family-four, kind-family, family-not-three, family-varies, headLength-range, recordLength-range}
-use Rattle.words.specs.Word.{valid}
-use Rattle.words.proofs.Validity.{valid-fits, valid-strict, valid-plain, valid-of}
+use Rattle.words.proofs.Validity.{valid-fits, valid-plain}
 use Rattle.machine.proofs.Sizes.{labels-bound}
 use Rattle.machine.proofs.Bounds.{bits-below}
 use Rattle.packing.specs.Payload.{hasLabels, valuePayload, Sized, extraBytes}
 use Rattle.packing.specs.Groups.{relabelled}
 use Rattle.packing.proofs.Groups.{groups-two, relabelled-other, relabelled-at}
-use Rattle.packing.proofs.Labelled.{labelled-strict, labelled-other}
+use Rattle.packing.proofs.Labelled.{labelled-other}
 use Rattle.packing.proofs.Payload.{payload-length}
 use Rattle.lists.proofs.Records.{record-sized, record-length}
 use Rattle.coding.specs.Payloads.{encodeLabelled, encodePayload}
@@ -50,10 +49,6 @@ use Rattle.packing.specs.Letters.{lettersPayload}
 use Rattle.laying.specs.Laid.{Spelt, areaPayload, Ready, Tabled, ToLay, Recorded}
 
 -- ---- the payload
-
-valid-two : (f : ℕ) (v : List Letter) → hasLabels f ≡ true → valid f v ≡ true → valid 2 v ≡ true
-unfolding isFamily elem
-valid-two f v has e = valid-of 2 v refl (valid-fits f v e) (valid-strict f v e (labelled-strict f has)) (λ one. absurd (false≢true one))
 
 -- the payload in the work area is that of the word
 area-word : (n f : ℕ) (w : List ℕ) (v : List Letter) → Spelt n f v w → length v ≡ n → areaPayload f n w ≡ encodePayload f v

@@ -4,7 +4,6 @@ ghost use Prim.Native.Nat.{_+_, _*_, _/_, _^_, _≤_, _<_};
 ghost use lib.ListN.{length};
 ghost use Rattle.model.specs.Record.{digits, pack, bytesFor};
 ghost use Rattle.packing.specs.Letters.{lettersPayload};
-ghost use Rattle.work.specs.Map.{LETTERS};
 ghost use Rattle.work.specs.Area.{placed};
 ghost use Rattle.work.specs.Letters.{lettersIn, Coded};
 ghost use Rattle.letter_packer.specs.Digits.{digitsAt};

@@ -16,7 +16,7 @@
 --   read-back             every fit plan with the record has the standard rotation that the word builds
 --   given                 the plan that the word builds, with the outside that the bytes name
 --   decodes-has           bytes that decode and name a sound outside are the record of that plan
---   decodes-edges, decodes-standard   it has as many edges as the head says, and is in standard numbers
+--   decodes-standard      it is in standard numbers
 use Prim.Native.Nat.{ℕ, _*_, _/_, _≤_, _<_}
 use native.Mathlib.Omega.{arith}
 use mathlib.Core.Path.{_≡_, refl, sym, ap, ap₂, subst, _∙_}
@@ -319,10 +319,6 @@ module _ (t : Table) (stands : tableRefused t ≡ false) (r : List ℕ) (c : Cod
 
     fits : fit k given ≡ true
     fits = built-fits t k c v (made .0) (outsideOf r) (λ s. sound .0)
-
-    pub decodes-edges : edges (given .rotation) ≡ edgesOf r
-    unfolding edges
-    decodes-edges = let n = many t k c v (made .0) (outsideOf r) in let l = made .2 in omega arith
 
     -- the outside's bytes
     extra : extraBytes k (outsideOf r) ≡ extraBytes k (word16 r 6)

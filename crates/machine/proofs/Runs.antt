@@ -8,7 +8,6 @@
 --   run-turn           the run is a turn and the run from there
 --   run-goes, run-done, run-stuck   the same by the kind of turn
 --   after-after        letters read before letters that were read before
---   run-on             the letters that are read and the run from there give the same before a turn and after it
 --   decodeWord-run     `decodeWord` by the run
 use Prim.Native.Nat.{ℕ, zero, suc, _+_, _<_}
 use native.Mathlib.Omega.{arith}
@@ -85,10 +84,6 @@ after-after (l ∷ ls) [] none = refl
 after-after (l ∷ ls) (m ∷ ms) none = refl
 after-after (l ∷ ls) [] (found w) = ap (λ (xs : List Letter). found (l ∷ xs ++ w)) (sym (append-nil ls))
 after-after (l ∷ ls) (m ∷ ms) (found w) = ap (λ (xs : List Letter). found (l ∷ xs)) (sym (append-assoc ls (m ∷ ms) w))
-
--- what a loop keeps: the letters that are read and the run from here give the answer
-pub run-on : (sofar : List Letter) (s t : Machine) (ls : List Letter) → turn s ≡ goes ls t → after (sofar ++ ls) (run t) ≡ after sofar (run s)
-run-on sofar s t ls e = sym (ap (after sofar) (run-goes s t ls e) ∙ after-after sofar ls (run t))
 
 pub decodeWord-run : (bits labels : List ℕ) → decodeWord bits labels ≡ run (start bits labels)
 unfolding decodeWord start

@@ -1,8 +1,6 @@
 -- The marks and the open edges outside the tree, step by step: while the walk is away from the root, the mark of the opposite tells the letter to come and the
 -- number of the edge that ends.
 --
---   down≢second, first≢second, up≢second   letters
---   opened-once           two positions with as many openings before them at which edges open are one
 --   trail-start           the round of the root's vertex
 --   Began                 the edge that ends at step k began at an earlier step
 -- then, of the dart to come, which is not the root again:
@@ -12,9 +10,9 @@
 --   trail-down, trail-first, trail-up, trail-second   one step
 use mathlib.Core.Path.{_≡_, refl, sym, ap, _∙_, subst}
 use mathlib.Core.Logic.{⊎-elim, _≢_}
-use mathlib.Core.Bool.{true, false, false≢true}
+use mathlib.Core.Bool.{true, false≢true}
 use mathlib.Core.List.{List, [], _∷_, map}
-use Prim.Native.Nat.{ℕ, zero, suc, _+_, _≤_, _<_}
+use Prim.Native.Nat.{ℕ, suc, _+_, _≤_, _<_}
 use native.Mathlib.Nat.{le-refl}
 use native.Mathlib.Omega.{arith}
 use lib.ListN.{length, getD, set, replicate}
@@ -23,15 +21,13 @@ use Rattle.model.specs.Map.{opposite, next, vertexOf}
 use Rattle.model.specs.Traversal.{Letter, down, up, first, second, code, opens}
 use Rattle.orbits.specs.Permutation.{Perm}
 use Rattle.orbits.specs.Chord.{Involution}
-use Rattle.orbits.specs.Stack.{Kind, flat, open′, close, pop, push, stack}
-use Rattle.orbits.proofs.Order.{tri, lt-suc-split}
-use Rattle.orbits.proofs.Tally.{count-below}
-use Rattle.orbits.proofs.Decode.{Each}
-use Rattle.words.specs.Brackets.{chordKind, chordWord, chordStack}
+use Rattle.orbits.specs.Stack.{pop, push, stack}
+use Rattle.orbits.proofs.Order.{lt-suc-split}
+use Rattle.words.specs.Brackets.{chordKind, chordStack}
 use Rattle.words.specs.Position.{opened}
 use Rattle.words.specs.Word.{head, tail}
-use Rattle.words.proofs.Bracketing.{is-first}
-use Rattle.traversal.specs.Steps.{at, dart, letterAfter, mark}
+use Rattle.words.proofs.Opened.{opened-inj, chord-opener}
+use Rattle.traversal.specs.Steps.{dart, letterAfter, mark}
 use Rattle.traversal.proofs.Marks.{zeros-at}
 use Rattle.traversal.proofs.Steps.{Case, new, old, back, noted, case, code-some, mark-met, dart-bound, across-bound}
 use Rattle.traversal.proofs.Follow.{Away, Followed, follows, away-less, apart}
@@ -54,15 +50,6 @@ second-case (old m s e) d = let z : _≡_ {A = ℕ} 0 1 = cc in absurd (omega ar
 second-case (back m e) d = let z : _≡_ {A = ℕ} 0 1 = cc in absurd (omega arith)
 second-case (noted m n e) d = (m, n)
 
-pub down≢second : down ≢ second
-down≢second e = let z : _≡_ {A = ℕ} 0 1 = cc in omega arith
-
-pub first≢second : first ≢ second
-first≢second e = let z : _≡_ {A = ℕ} 0 1 = cc in omega arith
-
-pub up≢second : up ≢ second
-up≢second e = let z : _≡_ {A = ℕ} 0 1 = cc in omega arith
-
 code-down : (a : Letter) → code a ≡ 1 → a ≡ down
 code-down down e = refl
 code-down up e = absurd (omega arith)
@@ -83,29 +70,6 @@ some-mark second q e z = absurd (false≢true q)
 
 -- ---- edges by their numbers
 
-pub opened-once : (ℓ : ℕ → Letter) (i j : ℕ) → opens (ℓ i) ≡ true → opens (ℓ j) ≡ true → opened ℓ i ≡ opened ℓ j → i ≡ j
-unfolding opened
-opened-once ℓ i j oi oj e = tri i j
-    (λ l. absurd (omega (arith, count-below (λ k. opens (ℓ k)) i j l oi)))
-    (λ q. q)
-    (λ g. absurd (omega (arith, count-below (λ k. opens (ℓ k)) j i g oj)))
-
--- ---- what waits on the stack has been opened
-
-abbrev Waits : (ℕ → Kind) → ℕ → Type 0
-Waits K a = K a ≡ open′
-
-popped : (K : ℕ → Kind) (s : List ℕ) → Each (Waits K) s → (k : Kind) (i : ℕ) → K i ≡ k → Each (Waits K) (push k i s)
-popped K s o flat i e = o
-popped K s o open′ i e = (e, o)
-popped K [] o close i e = o
-popped K (a ∷ s) o close i e = o .1
-
-stack-opened : (K : ℕ → Kind) (i : ℕ) → Each (Waits K) (stack K i)
-unfolding stack
-stack-opened K zero = tt
-stack-opened K (suc i) = popped K (stack K i) (stack-opened K i) (K i) i refl
-
 -- the numbers of a stack, one of them on top
 pub record Headed (ℓ : ℕ → Letter) (k f : ℕ) (fs : List ℕ) : Type 0 where
   pub position : ℕ
@@ -116,13 +80,13 @@ pub record Headed (ℓ : ℕ → Letter) (k f : ℕ) (fs : List ℕ) : Type 0 wh
   pub others : map (opened ℓ) below ≡ fs
 
 headed : (ℓ : ℕ → Letter) (k f : ℕ) (fs : List ℕ) → f ∷ fs ≡ map (opened ℓ) (chordStack ℓ k) → Headed ℓ k f fs
-headed ℓ k f fs e = go (chordStack ℓ k) refl (stack-opened (chordWord ℓ) k)
+headed ℓ k f fs e = go (chordStack ℓ k) refl
   where
-    go : (s : List ℕ) → chordStack ℓ k ≡ s → Each (Waits (chordWord ℓ)) s → Headed ℓ k f fs
-    go [] q o = let z = ap length (e ∙ ap (map (opened ℓ)) q) in absurd (omega arith)
-    go (a ∷ s) q o =
+    go : (s : List ℕ) → chordStack ℓ k ≡ s → Headed ℓ k f fs
+    go [] q = let z = ap length (e ∙ ap (map (opened ℓ)) q) in absurd (omega arith)
+    go (a ∷ s) q =
         let same = e ∙ ap (map (opened ℓ)) q in
-        record { position = a; below = s; on-top = q; is-first = is-first (ℓ a) (o .0); number = sym (ap head same); others = sym (ap tail same) }
+        record { position = a; below = s; on-top = q; is-first = chord-opener ℓ k a s q .1; number = sym (ap head same); others = sym (ap tail same) }
 
 stack-step : (ℓ : ℕ → Letter) (k : ℕ) (l : Letter) → ℓ k ≡ l → chordStack ℓ (suc k) ≡ push (chordKind l) k (chordStack ℓ k)
 unfolding stack
@@ -253,7 +217,7 @@ module _ (rot : List ℕ) (r : ℕ) (turn : Perm (length rot) (next rot)) (cross
               (λ z. some-mark (l j) q (opened l j) (sym (t .numbers j h q) ∙ unmarked-vertex rot r turn cross hr k out b (t .stands) e (D j) (dart-bound rot r turn cross hr j) z)))
               (λ q. marked-here b′ v size ∙ ap (λ (a : Letter). markOf a + opened l k) (sym e));
           stacked = stacked-on down e waiting (t .stacked);
-          tops = tops-on (λ q. absurd (down≢second (sym e ∙ q)));
+          tops = tops-on (λ q. absurd (omega (arith, ap code (sym e ∙ q))));
         }
 
     pub trail-first : 32768 ≤ getD b o 0 → opened l k < 8192 → Trailed rot r (suc k) (set b (D k) (8192 + opened l k)) (opened l k ∷ waiting)
@@ -267,7 +231,7 @@ module _ (rot : List ℕ) (r : ℕ) (turn : Perm (length rot) (next rot)) (cross
           numbers = numbers-on (set b (D k) v) (λ j h q. marked-before b v j h)
               (λ q. marked-here b v (t .stands .size) ∙ ap (λ (a : Letter). markOf a + opened l k) (sym e));
           stacked = stacked-on first e (opened l k ∷ waiting) (ap (λ (s : List ℕ). opened l k ∷ s) (t .stacked));
-          tops = tops-on (λ q. absurd (first≢second (sym e ∙ q)));
+          tops = tops-on (λ q. absurd (omega (arith, ap code (sym e ∙ q))));
         }
 
     pub trail-up : 16384 ≤ getD b o 0 → getD b o 0 < 32768 → Trailed rot r (suc k) b waiting
@@ -279,7 +243,7 @@ module _ (rot : List ℕ) (r : ℕ) (turn : Perm (length rot) (next rot)) (cross
           alike = t .alike;
           numbers = numbers-on b (λ j h q. refl) (λ q. absurd (false≢true (sym (ap opens e) ∙ q)));
           stacked = stacked-on up e waiting (t .stacked);
-          tops = tops-on (λ q. absurd (up≢second (sym e ∙ q)));
+          tops = tops-on (λ q. absurd (omega (arith, ap code (sym e ∙ q))));
         }
 
     pub trail-second : 0 < getD b o 0 → getD b o 0 < 16384 → (f : ℕ) (fs : List ℕ) → waiting ≡ f ∷ fs → getD b o 0 ≡ 8192 + f → Trailed rot r (suc k) b fs
@@ -288,7 +252,7 @@ module _ (rot : List ℕ) (r : ℕ) (turn : Perm (length rot) (next rot)) (cross
         let g = began-second e in
         let h = headed l k f fs (sym w ∙ t .stacked) in
         let same : h .position ≡ g .position =
-        opened-once l (h .position) (g .position) (ap opens (h .is-first)) (ap opens (g .letter))
+        opened-inj l (h .position) (g .position) (ap opens (h .is-first)) (ap opens (g .letter))
         (let q = began-mark first g refl in let i = h .number in omega arith) in
         record {
           away = out;

@@ -3,12 +3,10 @@
 --   over-in, placed, blank, up-range, end-range   what each step requires
 --   moved-down, moved-first, moved-up, moved-second   what it comes to
 use mathlib.Core.Path.{_≡_, refl, sym, ap, ap₂, _∙_, subst}
-use mathlib.Core.Bool.{Bool, true, false}
+use mathlib.Core.Bool.{true, false}
 use mathlib.Core.List.{List}
 use Prim.Native.Nat.{ℕ, suc, _+_, _-_, _*_, _≤_, _<_}
-use native.Mathlib.Nat.{zero-add}
 use native.Mathlib.Omega.{arith}
-use lib.Dec.{T}
 use lib.ListN.{length, getD, set, length-set}
 use lib.Seq.{getD-set-other}
 use Rattle.model.specs.Numbers.{isPermutation, count}
@@ -17,35 +15,20 @@ use Rattle.model.specs.Traversal.{Letter, down, up, first, second, opens, onwar
 use Rattle.model.proofs.Fitness.{count-even, count-parts}
 use Rattle.orbits.specs.Chord.{Involution}
 use Rattle.orbits.proofs.Maps.{next-perm, opposite-inv}
-use Rattle.orbits.proofs.Tally.{count-le, count-in, count-out}
 use Rattle.words.specs.Position.{opened}
+use Rattle.words.proofs.Opened.{opened-more, opened-stays, opened-few}
 use Rattle.traversal.specs.Steps.{dart, letterAfter}
 use Rattle.traversal.proofs.Steps.{dart-step, dart-bound}
 use Rattle.work.specs.Area.{region}
-use Rattle.work.proofs.Regions.{region-set, region-set-other}
+use Rattle.work.proofs.Regions.{region-set-other}
 use Rattle.marks.specs.Marks.{Rounded}
 use Rattle.tracing.specs.Tracing.{from}
-use Rattle.tracing.proofs.Places.{mark-at, above-at}
+use Rattle.tracing.proofs.Places.{mark-at, region-mark, above-at}
 use Rattle.numbering.specs.declared.Stand.{Stand}
 use Rattle.numbering.specs.Numbering.{source, linkOf, Marked, Placed, downOn, WentDown, firstOn, firstArea, upOn, secondOn, endArea, Numbering}
 use Rattle.numbering.proofs.Numbers.{begins-number, across-number, Ends, ends, end-number, open-number, link-bound}
 use Rattle.numbering.proofs.Entries.{stored}
 use Rattle.numbering.proofs.Marking.{tells-down, tells-first, tells-up, tells-second, unmarked, ends-mark, down-marks, first-marks, up-marks, second-marks}
-
-opened-more : (ℓ : ℕ → Letter) (k : ℕ) → opens (ℓ k) ≡ true → opened ℓ (suc k) ≡ opened ℓ k + 1
-unfolding opened
-opened-more ℓ k e = count-in (λ j. opens (ℓ j)) k (subst (λ (b : Bool). T b) (sym e) tt) ∙ omega arith
-
-opened-stays : (ℓ : ℕ → Letter) (k : ℕ) → opens (ℓ k) ≡ false → opened ℓ (suc k) ≡ opened ℓ k
-unfolding opened
-opened-stays ℓ k e = count-out (λ j. opens (ℓ j)) k (λ t. subst (λ (b : Bool). T b) e t)
-
-opened-few : (ℓ : ℕ → Letter) (k : ℕ) → opened ℓ k ≤ k
-unfolding opened
-opened-few ℓ k = count-le (λ j. opens (ℓ j)) k
-
-region-mark : (n : ℕ) (w : List ℕ) (d v : ℕ) → d < n → region 0 n (set w d v) ≡ set (region 0 n w) d v
-region-mark n w d v h = rw zero-add at (region-set 0 n w d v h)
 
 module _ (rot : List ℕ) (r k : ℕ) (w : List ℕ) (s : Stand) (g : Numbering rot r k w s) (here : k < length rot) (o : ℕ) (is : o ≡ opposite (s .dart)) where
   abbrev n : ℕ

@@ -17,7 +17,7 @@ use Rattle.model.proofs.Fitness.{count-even}
 use Rattle.renumbering.specs.Isomorphism.{Isomorphism, inverseOf, composed}
 use Rattle.renumbering.proofs.Permutations.{of-list}
 use Rattle.renumbering.proofs.Isomorphisms.{image-bound, back-left, then}
-use Rattle.renumbering.proofs.Isomorphisms.{iso-inverse, iso-composed, iso-permutation, iso-vertex}
+use Rattle.renumbering.proofs.Isomorphisms.{iso-inverse, iso-composed, iso-permutation}
 
 pub iso-of : {p q : Plan} {f : List ℕ} → Renumbering p q f → Isomorphism (p .rotation) (q .rotation) f
 iso-of r = record { size = r .size; same-darts = r .same-darts; partners = r .partners; opposites = r .opposites; rotations = r .rotations }

@@ -12,7 +12,7 @@ use Rattle.model.specs.declared.ReadBack.the-variants as readback
 use Rattle.model.specs.declared.Shelved.{Shelved}
 use Rattle.model.specs.declared.Shelved.the-variants as shelved
 use Rattle.model.specs.Shelf.{edgesOf}
-use Rattle.model.specs.Calls.{recordRefusal, Reads, refused, read, unreadable, numberOfRead, shelveAnswer, shelvedBytes, Shelves, unread, planless, readable}
+use Rattle.model.specs.Calls.{Reads, refused, read, unreadable, numberOfRead, shelveAnswer, shelvedBytes, Shelves, unread, planless, readable}
 use Rattle.model.proofs.Reading.{read-record, clear-read, read-clear}
 use Rattle.decoding.proofs.Answers.{not-both}
 

@@ -1,6 +1,5 @@
 -- What is put at each letter: its code for family 4, else tree bits and labels. n is the number of darts, i the position, t the number of tree bits before it.
 --
---   WAITING                  the stack of edges outside the tree that wait for their end, in units of n
 --   follows w x              1 where the mark of x's opposite says that x, if it comes next, is met as second; else 0
 --   downPut, firstPut n family i t w    an edge begins
 --   upPut n family i t f leaf second w  tree edge f ends, at a bare leaf or not; second is 1 where that letter comes next
@@ -13,9 +12,6 @@ use lib.ListN.{getD, set}
 use Rattle.model.specs.Map.{opposite}
 use Rattle.model.specs.LabelledTree.{star}
 use Rattle.work.specs.Map.{LETTERS, BITS, LABELS}
-
-abbrev pub WAITING : ℕ
-WAITING = 1
 
 unfoldable pub follows : List ℕ → ℕ → ℕ
 follows w x = cond (eqb (getD w (opposite x) 0 / 8192) 1) 1 0

@@ -17,10 +17,11 @@ use lib.Dec.{eqb}
 use lib.ListN.{length, set, drop}
 use Rattle.model.specs.Numbers.{isPermutation}
 use Rattle.model.specs.Map.{next, dartCountFits}
+use Rattle.work.specs.Map.{WAITING}
 use Rattle.work.specs.Area.{region}
 use Rattle.marks.specs.Marks.{Rounded}
 use Rattle.trace_steps.specs.declared.Trace.{Trace}
-use Rattle.trace_steps.specs.Putting.{WAITING, follows, downPut, firstPut, upPut, secondPut}
+use Rattle.trace_steps.specs.Putting.{follows, downPut, firstPut, upPut, secondPut}
 
 pub record Ground (rot w : List ℕ) : Type 0 where
   pub count : dartCountFits (length rot) ≡ true

@@ -4,8 +4,9 @@ ghost use mathlib.Core.Path.{_≡_};
 ghost use Prim.Native.Nat.{ℕ, _*_, _≤_, _<_};
 ghost use lib.ListN.{length, getD};
 ghost use Rattle.model.specs.Map.{opposite, vertexOf};
+ghost use Rattle.work.specs.Map.{WAITING};
 ghost use Rattle.work.specs.Area.{stack};
-ghost use Rattle.trace_steps.specs.Putting.{WAITING, follows, downPut, firstPut, upPut, secondPut};
+ghost use Rattle.trace_steps.specs.Putting.{follows, downPut, firstPut, upPut, secondPut};
 ghost use Rattle.trace_steps.specs.Steps.{Ground, Circled, Placed, WentDown, firstOn, firstArea, upOn, upArea, secondOn, secondArea, lastIs};
 
 // ---- marks
@@ -16,9 +17,6 @@ pub const SEEN: u16 = 32768;
 pub const DOWN: u16 = 16384;
 
 pub const FIRST: u16 = 8192;
-
-// The stack of edges outside the tree that wait for their end, in units of the number of darts.
-const WAITING: usize = 1;
 
 // Every dart of the vertex of o, none of which has a mark, gets this one.
 pub fn round(order: &[u16], w: &mut [u16], o: usize, mark: u16)
@@ -157,7 +155,7 @@ pub fn go_first(order: &[u16], family: u16, w: &mut [u16], i: usize, s: Trace) -
     let waiting = s.waiting;
     let next = order[d] as usize;
     w[d] = FIRST + e as u16;
-    w[WAITING * n + waiting] = e as u16;
+    w[work::WAITING * n + waiting] = e as u16;
     put_first(w, n, family, i, i + waiting);
     Trace {
         root,
@@ -226,5 +224,5 @@ pub fn is_last(w: &[u16], n: usize, waiting: usize, f: u16) -> bool
     if waiting == 0 {
         return false;
     }
-    w[WAITING * n + (waiting - 1)] == f
+    w[work::WAITING * n + (waiting - 1)] == f
 }

@@ -7,7 +7,7 @@
 --   endless-unsound      a walk that is not back then
 use mathlib.Core.Path.{_≡_, sym, ap, _∙_}
 use mathlib.Core.Logic.{_≢_}
-use mathlib.Core.Bool.{true, false, true≢false, false≢true}
+use mathlib.Core.Bool.{false, true≢false, false≢true}
 use mathlib.Core.List.{List, _∷_, map}
 use Prim.Native.Nat.{ℕ, suc, _-_, _*_, _≤_, _<_}
 use native.Mathlib.Nat.{le-of-lt}
@@ -25,9 +25,9 @@ use Rattle.traversal.proofs.Toured.{walk-toured}
 use Rattle.forward.proofs.Stacked.{planar-stacked}
 use Rattle.forward.proofs.Loops.{loop-first}
 use Rattle.forward.proofs.DeadEnds.{dead-end-up}
+use Rattle.work.specs.Map.{WAITING}
 use Rattle.work.specs.Area.{stack}
 use Rattle.trace_steps.specs.declared.Trace.{Trace}
-use Rattle.trace_steps.specs.Putting.{WAITING}
 use Rattle.trace_steps.specs.Steps.{lastIs}
 use Rattle.tracing.specs.Tracing.{from, Tracing, Sound}
 use Rattle.tracing.proofs.Places.{mark-at}

@@ -1,6 +1,6 @@
 -- The parts of the work area that a step writes and those that it leaves: the marks from 0 on, the edges that wait from n on, and what is put from 3n on.
 --
---   mark-at              a mark is the entry at its dart
+--   mark-at, region-mark   a mark is the entry at its dart, and set by a store there
 --   from-drop, above-region, above-stack, above-at   what is kept above the marks
 --   Below, below-set, below-then   a store from 2n on keeps the marks and the k edges that wait
 --   down-below, first-below, up-below, second-below   what is put at a letter
@@ -8,20 +8,24 @@ use mathlib.Core.Path.{_≡_, refl, sym, ap, _∙_}
 use mathlib.Core.Bool.{Bool}
 use mathlib.Core.List.{List}
 use Prim.Native.Nat.{ℕ, zero, suc, _+_, _-_, _*_, _≤_, _<_}
+use native.Mathlib.Nat.{zero-add}
 use native.Mathlib.Omega.{arith}
 use lib.ListN.{length, getD, set, take, drop, length-set}
 use lib.Seq.{getD-take, getD-drop, drop-drop}
 use borrow.Author.Tests.{eq-eqb, ne-eqb}
 use Rattle.orbits.proofs.Order.{eq-split}
-use Rattle.work.specs.Map.{LETTERS, BITS, LABELS}
+use Rattle.work.specs.Map.{LETTERS, WAITING, BITS, LABELS}
 use Rattle.work.specs.Area.{region, stack}
-use Rattle.work.proofs.Regions.{region-set-other}
+use Rattle.work.proofs.Regions.{region-set, region-set-other}
 use Rattle.work.proofs.Stacks.{stack-set}
-use Rattle.trace_steps.specs.Putting.{WAITING, downPut, firstPut, upPut, secondPut}
+use Rattle.trace_steps.specs.Putting.{downPut, firstPut, upPut, secondPut}
 
 pub mark-at : (n : ℕ) (w : List ℕ) (x : ℕ) → x < n → getD (region 0 n w) x 0 ≡ getD w x 0
 unfolding region
 mark-at n w x h = getD-take n w x 0 h
+
+pub region-mark : (n : ℕ) (w : List ℕ) (d v : ℕ) → d < n → region 0 n (set w d v) ≡ set (region 0 n w) d v
+region-mark n w d v h = rw zero-add at (region-set 0 n w d v h)
 
 -- ---- what stands above the marks
 

@@ -42,7 +42,7 @@ use Rattle.forward.proofs.Stacked.{OnTopTo}
 use Rattle.forward.proofs.Starts.{starts-second, starts-other, starts-none}
 use Rattle.forward.proofs.Tops.{chord-opener}
 use Rattle.marks.specs.Marks.{Trailed, Top}
-use Rattle.marks.proofs.Trail.{down≢second, first≢second, up≢second, tells-down, tells-first, tells-up, tells-second, began-second, began-mark}
+use Rattle.marks.proofs.Trail.{tells-down, tells-first, tells-up, tells-second, began-second, began-mark}
 use Rattle.tracing.specs.Tracing.{from}
 
 pub stack-ext : (K L : ℕ → Kind) (i : ℕ) → ((j : ℕ) → j < i → K j ≡ L j) → stack K i ≡ stack L i
@@ -127,7 +127,7 @@ module _ (rot : List ℕ) (r : ℕ) (count : dartCountFits (length rot) ≡ true
     inner h =
         let on : 0 < k → D k ≢ r = λ some. back-late k some h in
         lt-or-le m 1
-        (λ z. other h down (tells-down rot r turn cross hr k b waiting trail on (omega arith)) down≢second (λ q. omega arith))
+        (λ z. other h down (tells-down rot r turn cross hr k b waiting trail on (omega arith)) (λ q. omega (arith, ap code q)) (λ q. omega arith))
         (λ lo. lt-or-le m 16384
         (λ z.
         let e = tells-second rot r turn cross hr k b waiting trail on lo z in
@@ -136,8 +136,8 @@ module _ (rot : List ℕ) (r : ℕ) (count : dartCountFits (length rot) ≡ true
         let one : m / 8192 ≡ 1 = omega arith in
         ap (λ (x : Bool). cond x 1 0) (eq-eqb (m / 8192) 1 one) ∙ sym (starts-second p t k h (letter-at k h ∙ e)))
         (λ mid. lt-or-le m 32768
-        (λ z. other h up (tells-up rot r turn cross hr k b waiting trail on mid z) up≢second (λ q. omega arith))
-        (λ hi. other h first (tells-first rot r turn cross hr k b waiting trail on hi) first≢second (λ q. omega arith))))
+        (λ z. other h up (tells-up rot r turn cross hr k b waiting trail on mid z) (λ q. omega (arith, ap code q)) (λ q. omega arith))
+        (λ hi. other h first (tells-first rot r turn cross hr k b waiting trail on hi) (λ q. omega (arith, ap code q)) (λ q. omega arith))))
 
     -- a dart met as up or second keeps the mark of its vertex
     pub ended-mark : (j : ℕ) → j < k → opens (ℓ j) ≡ false → 32768 ≤ getD b (D j) 0

@@ -8,33 +8,34 @@
 --   traced-down, traced-first, traced-up, traced-second   one step
 use mathlib.Core.Path.{_≡_, refl, sym, ap, ap₂, _∙_, subst}
 use mathlib.Core.Logic.{_≢_}
-use mathlib.Core.Bool.{Bool, true, false, cond, false≢true}
+use mathlib.Core.Bool.{true, false, cond, false≢true}
 use mathlib.Core.List.{List, [], _∷_}
 use Prim.Native.Nat.{ℕ, suc, _+_, _-_, _*_, _/_, _≤_, _<_}
 use native.Mathlib.Nat.{le-of-lt}
 use native.Mathlib.Omega.{arith}
-use lib.Dec.{T, eqb}
+use lib.Dec.{eqb}
 use lib.ListN.{length, getD, set, drop, length-set, length-map}
 use lib.Seq.{drop-set-lt}
 use Rattle.model.specs.Numbers.{count}
 use borrow.Author.Tests.{eqb-true, ne-eqb}
 use Rattle.model.specs.Map.{Plan, opposite, next, vertexOf, degreeOne}
-use Rattle.model.specs.Traversal.{Letter, down, up, first, second, opens, onward, word}
+use Rattle.model.specs.Traversal.{Letter, down, up, first, second, code, opens, onward, word}
 use Rattle.model.proofs.Fitness.{count-even, count-parts}
 use Rattle.orbits.specs.Permutation.{Perm}
 use Rattle.orbits.specs.Chord.{Involution}
 use Rattle.orbits.proofs.Order.{lt-suc-split}
 use Rattle.orbits.proofs.Maps.{next-perm, opposite-inv}
-use Rattle.orbits.proofs.Tally.{count-le, count-in, count-out}
 use Rattle.words.specs.Word.{tail, startsSecond}
 use Rattle.words.specs.Brackets.{chordStack}
 use Rattle.words.specs.Position.{opened}
 use Rattle.words.specs.Toured.{Toured, dartAt, letterOf, mateOf}
+use Rattle.words.proofs.Opened.{opened-more, opened-stays, opened-few}
 use Rattle.traversal.specs.Steps.{dart, letterAfter}
 use Rattle.traversal.proofs.Steps.{dart-step, dart-bound}
 use Rattle.forward.proofs.Tops.{open-room, stacks-size}
+use Rattle.work.specs.Map.{WAITING}
 use Rattle.work.specs.Area.{region, stack}
-use Rattle.work.proofs.Regions.{length-region, region-set, region-set-other}
+use Rattle.work.proofs.Regions.{length-region, region-set-other}
 use Rattle.work.proofs.Stacks.{length-stack, stack-push, stack-pop}
 use Rattle.marks.specs.Marks.{Distinct, Rounded, markOf, Trailed}
 use Rattle.marks.proofs.Alike.{distinct-set, distinct-round}
@@ -42,49 +43,16 @@ use Rattle.marks.proofs.Trail.{Began, tells-down, tells-first, tells-up, tells-
 use Rattle.marks.proofs.Trail.{trail-up, trail-second}
 use Rattle.marks.proofs.Walk.{unmarked-vertex}
 use Rattle.trace_steps.specs.declared.Trace.{Trace}
-use Rattle.trace_steps.specs.Putting.{WAITING, follows, downPut, firstPut, upPut, secondPut}
+use Rattle.trace_steps.specs.Putting.{follows, downPut, firstPut, upPut, secondPut}
 use Rattle.trace_steps.specs.Steps.{Placed, downOn, WentDown, firstOn, firstArea, upOn, upArea, secondOn, secondArea, lastIs}
 use Rattle.tracing.specs.Tracing.{Put, from, Tracing}
-use Rattle.tracing.proofs.Places.{mark-at, from-drop, above-stack, down-below, first-below, up-below, second-below}
+use Rattle.tracing.proofs.Places.{mark-at, region-mark, from-drop, above-stack, down-below, first-below, up-below, second-below}
 use Rattle.tracing.proofs.Positions.{letter-at, dart-at, opened-at, stack-at, back-at, mate-is, tops-at, next-second}
 use Rattle.tracing.proofs.Puts.{puts-same, puts-down, puts-first, puts-up, puts-second}
-
-down≢first : down ≢ first
-down≢first e = let z : _≡_ {A = ℕ} 0 1 = cc in omega arith
-
-down≢up : down ≢ up
-down≢up e = let z : _≡_ {A = ℕ} 0 1 = cc in omega arith
-
-first≢up : first ≢ up
-first≢up e = let z : _≡_ {A = ℕ} 0 1 = cc in omega arith
-
-up≢first : up ≢ first
-up≢first e = let z : _≡_ {A = ℕ} 0 1 = cc in omega arith
-
-second≢first : second ≢ first
-second≢first e = let z : _≡_ {A = ℕ} 0 1 = cc in omega arith
-
-second≢up : second ≢ up
-second≢up e = let z : _≡_ {A = ℕ} 0 1 = cc in omega arith
-
-opened-more : (ℓ : ℕ → Letter) (k : ℕ) → opens (ℓ k) ≡ true → opened ℓ (suc k) ≡ opened ℓ k + 1
-unfolding opened
-opened-more ℓ k e = count-in (λ j. opens (ℓ j)) k (subst (λ (b : Bool). T b) (sym e) tt) ∙ omega arith
-
-opened-stays : (ℓ : ℕ → Letter) (k : ℕ) → opens (ℓ k) ≡ false → opened ℓ (suc k) ≡ opened ℓ k
-unfolding opened
-opened-stays ℓ k e = count-out (λ j. opens (ℓ j)) k (λ t. subst (λ (b : Bool). T b) e t)
-
-opened-few : (ℓ : ℕ → Letter) (k : ℕ) → opened ℓ k ≤ k
-unfolding opened
-opened-few ℓ k = count-le (λ j. opens (ℓ j)) k
 
 last-split : (q : List ℕ) (f : ℕ) → lastIs q f ≡ true → (fs : List ℕ) × (q ≡ f ∷ fs)
 last-split [] f e = absurd (false≢true e)
 last-split (a ∷ q) f e = (q, ap (λ (x : ℕ). x ∷ q) (eqb-true a f e))
-
-region-mark : (n : ℕ) (w : List ℕ) (d v : ℕ) → d < n → region 0 n (set w d v) ≡ set (region 0 n w) d v
-region-mark n w d v h = let e : 0 + d ≡ d = omega arith in ap (λ (x : ℕ). region 0 n (set w x v)) (sym e) ∙ region-set 0 n w d v h
 
 module _ (family : ℕ) (rot : List ℕ) (k : ℕ) (w : List ℕ) (s : Trace) (g : Tracing family rot k w s) (here : k < length rot)
     (on : 0 < k → s .dart ≢ s .root) where
@@ -255,7 +223,7 @@ module _ (family : ℕ) (rot : List ℕ) (k : ℕ) (w : List ℕ) (s : Trace) (g
       step-to down is w′ (next rot o) (s .edges + 1) (s .waiting) (ap length (wd .area) ∙ below .size ∙ size)
       (ap (next rot) (sym same-across))
       (ap (λ (x : ℕ). x + 1) (g .edges) ∙ sym (opened-more ℓ k (ap opens is)))
-      trail (λ f e. absurd (down≢first e)) (λ f e. absurd (down≢up e))
+      trail (λ f e. absurd (omega (arith, ap code e))) (λ f e. absurd (omega (arith, ap code e)))
       (rw marked (distinct-set rot (region 0 n c) (32769 + s .edges)
       (distinct-round rot marks (32768 + s .edges) (g .distinct) (opposite (D k)) (32769 + s .edges) (region 0 n c) round (omega arith))
       (D k) (16384 + opened ℓ k) (32768 + (s .edges + 1)) (omega (arith, region-size c (wd .round .kept), dart-bound rot r turn cross (g .root-in) k))
@@ -300,7 +268,7 @@ module _ (family : ℕ) (rot : List ℕ) (k : ℕ) (w : List ℕ) (s : Trace) (g
       trail
       (λ f e. apart-first rot r turn cross (g .root-in) k marks _ (g .trail) away (as-marked (λ m. 32768 ≤ m) big)
       (λ q. no-loop f (sym mark-is ∙ q ∙ ap (λ (x : ℕ). getD marks x 0) (sym (g .here)) ∙ mark-at n w (s .dart) dart-in)))
-      (λ f e. absurd (first≢up e))
+      (λ f e. absurd (omega (arith, ap code e)))
       (rw marked (distinct-set rot marks (32768 + s .edges) (g .distinct) (D k) (8192 + opened ℓ k) (32768 + (s .edges + 1))
       (omega (arith, region-size w refl, dart-bound rot r turn cross (g .root-in) k)) (let y = opened-few ℓ k in omega (arith, few)) (omega arith) (omega arith)))
       (as-put (suc (suc t₀)) (suc k + (s .waiting + 1)) (firstPut n family k t₀ w₁) w′ (omega arith) area put)
@@ -367,7 +335,7 @@ module _ (family : ℕ) (rot : List ℕ) (k : ℕ) (w : List ℕ) (s : Trace) (g
       (λ u. ap (λ (d : ℕ). eqb (next rot d) d) (known-dart u ∙ sym (g .here)))
       (follows-next _ here-trail x (to ∙ sym (dart-step rot r k ∙ ap (λ (a : Letter). onward rot a (D k)) is)) (turn .bound o across-in)) in
       step-to up is w′ x (s .edges) (s .waiting) (ap length area ∙ below .size) to
-      (g .edges ∙ sym (opened-stays ℓ k (ap opens is))) trail (λ f q. absurd (up≢first q))
+      (g .edges ∙ sym (opened-stays ℓ k (ap opens is))) trail (λ f q. absurd (omega (arith, ap code q)))
       (λ f q. ap (λ (d : ℕ). eqb (next rot d) d) (sym (g .here)) ∙ ne-eqb _ _ (no-leaf f))
       (rw marked (g .distinct))
       (as-put (suc t₀) (suc k + s .waiting) (upPut n family k t₀ upEdge leaf (follows w x) w) w′ (omega arith) area put)
@@ -416,6 +384,6 @@ module _ (family : ℕ) (rot : List ℕ) (k : ℕ) (w : List ℕ) (s : Trace) (g
       (edge-known first b endEdge e)
       (follows-next _ here-trail x (to ∙ sym (dart-step rot r k ∙ ap (λ (a : Letter). onward rot a (D k)) is)) (turn .bound (s .dart) dart-in)) in
       step-to second is w′ x (s .edges) (s .waiting - 1) (ap length area ∙ below .size) to
-      (g .edges ∙ sym (opened-stays ℓ k (ap opens is))) trail (λ f q. absurd (second≢first q)) (λ f q. absurd (second≢up q))
+      (g .edges ∙ sym (opened-stays ℓ k (ap opens is))) trail (λ f q. absurd (omega (arith, ap code q))) (λ f q. absurd (omega (arith, ap code q)))
       (rw marked (g .distinct))
       (as-put t₀ (suc k + (s .waiting - 1)) (secondPut n family k endEdge (follows w x) w) w′ (omega arith) area put)

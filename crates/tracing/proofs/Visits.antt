@@ -13,9 +13,9 @@ use lib.Dec.{eqb}
 use lib.ListN.{length, getD}
 use borrow.Author.Tests.{eqb-true, eqb-false, eq-eqb, ne-eqb}
 use Rattle.model.specs.Map.{opposite, next, vertexOf}
+use Rattle.work.specs.Map.{WAITING}
 use Rattle.work.specs.Area.{stack}
 use Rattle.trace_steps.specs.declared.Trace.{Trace}
-use Rattle.trace_steps.specs.Putting.{WAITING}
 use Rattle.trace_steps.specs.Steps.{Placed, downOn, WentDown, firstOn, firstArea, upOn, upArea, secondOn, secondArea, lastIs}
 use Rattle.tracing.specs.declared.Step.the-variants.{Goes, Unfit}
 use Rattle.tracing.specs.Tracing.{Tracing, Stepped}

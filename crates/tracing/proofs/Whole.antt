@@ -37,7 +37,7 @@ use Rattle.forward.proofs.Bits.{bits-to}
 use Rattle.forward.proofs.Labels.{written-placed, labels-by-place}
 use Rattle.forward.proofs.Loops.{no-loop-first}
 use Rattle.forward.proofs.DeadEnds.{no-dead-end-up}
-use Rattle.work.specs.Map.{LETTERS, BITS}
+use Rattle.work.specs.Map.{LETTERS, WAITING, BITS}
 use Rattle.work.specs.Area.{region, stack}
 use Rattle.work.specs.Letters.{workBits, workLabels}
 use Rattle.work.proofs.Regions.{length-region, getD-region}
@@ -46,7 +46,6 @@ use Rattle.marks.specs.Marks.{Rounded, markOf}
 use Rattle.marks.proofs.Alike.{distinct-start}
 use Rattle.marks.proofs.Trail.{trail-start}
 use Rattle.trace_steps.specs.declared.Trace.{Trace}
-use Rattle.trace_steps.specs.Putting.{WAITING}
 use Rattle.trace_steps.specs.Steps.{Ground, Circled}
 use Rattle.tracing.specs.declared.Step.{Step}
 use Rattle.tracing.specs.declared.Step.the-variants.{Goes, Unfit}

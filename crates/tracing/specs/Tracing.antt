@@ -22,12 +22,11 @@ use Rattle.words.specs.Toured.{Toured, dartAt, letterOf}
 use Rattle.traversal.specs.Steps.{dart, letterAfter}
 use Rattle.forward.specs.Bits.{bitsTo}
 use Rattle.forward.specs.Labels.{Written}
-use Rattle.work.specs.Map.{LETTERS, BITS}
+use Rattle.work.specs.Map.{LETTERS, WAITING, BITS}
 use Rattle.work.specs.Area.{region, stack}
 use Rattle.work.specs.Letters.{workBits, workLabels}
 use Rattle.marks.specs.Marks.{Distinct, markOf, Trailed}
 use Rattle.trace_steps.specs.declared.Trace.{Trace}
-use Rattle.trace_steps.specs.Putting.{WAITING}
 use Rattle.trace_steps.specs.Steps.{Ground}
 use Rattle.tracing.specs.declared.Step.{Step}
 use Rattle.tracing.specs.declared.Step.the-variants.{Goes, Unfit}

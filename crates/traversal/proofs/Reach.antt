@@ -1,13 +1,13 @@
--- What `connected` says, in three ways. The dart count is even and the entries are a permutation.
+-- What `connected` says, and what it follows from. The dart count is even and the entries are a permutation.
 --
 --   closed-turned, closed-crossed          a closed set has a dart if it has the entry at it, or its opposite
 --   connected-reach, reach-connected       connected: every closed set that has dart 0 has all darts
 --   connected-from                         and so has every closed set that has a dart
 --   connected-reached, reached-connected   connected: every dart is reached from dart 0 by opposites and entries
---   connected-kept, kept-connected         connected: what opposites and entries keep is the same at all darts
+--   kept-connected                         so it is if what opposites and entries keep is the same at all darts
 use Prim.Native.Nat.{ℕ, zero, suc, _%_, _<_}
 use native.Mathlib.Omega.{arith}
-use mathlib.Core.Path.{_≡_, refl, sym, subst, _∙_}
+use mathlib.Core.Path.{_≡_, subst}
 use mathlib.Core.Bool.{Bool, true}
 use mathlib.Core.List.{List}
 use lib.Dec.{T}
@@ -87,13 +87,6 @@ module _ (rot : List ℕ) (two : length rot % 2 ≡ 0) (good : isPermutation rot
       go b c t h0 start = (h0, t)
       go b c t h0 (across {d} s) = let (h, u) = go b c t h0 s in (cross .bound d h, c .across d h u)
       go b c t h0 (turn {d} s) = let (h, u) = go b c t h0 s in (perm .bound d h, c .turn d h u)
-
-  pub connected-kept : connected rot ≡ true → Connected (length rot) (next rot) opposite
-  connected-kept e g keeps-turn keeps-across d x hd hx = same d hd ∙ sym (same x hx)
-    where
-      same : (d : ℕ) → d < length rot → g d ≡ g 0
-      same = connected-reach e (λ d. g d ≡ g 0)
-          (record { across = λ d h s. keeps-across d h ∙ s; turn = λ d h s. keeps-turn d h ∙ s }) refl
 
   pub kept-connected : Connected (length rot) (next rot) opposite → connected rot ≡ true
   kept-connected same = reach-connected (λ b c t d h.

@@ -2,6 +2,7 @@ pub mod Letters
 pub mod Positions
 pub mod Plans
 pub mod Bracketing
+pub mod Opened
 pub mod OpenEdges
 pub mod Nesting
 mod WordDarts

@@ -2,11 +2,11 @@
 --
 --   MET, SEEN, LETTERS, FACES    writing: letters by dart, vertices seen, letters by position, names of faces; names of vertices stand from 0 on
 --   DEGREES, LENGTHS             writing and measuring: the sizes of vertices and of faces
---   UPS, SECONDS                 writing: stacks of the labels of tree edges and of other edges
+--   WAITING                      the walk by marks, which stand from 0 on: the stack of edges outside the tree that wait for their end
 --   BITS, LABELS                 writing: the tree bits, and the labels, in reading too
 --   BELOW, TREES, BEGUN, OPENS   reading: stacks of the vertices that the present one hangs from, of open tree edges, of the vertices where other open
 --                                edges began, and of those edges; the rotation stands from 0 on
---   NODES, TYPES                 meshes, writing: a stack of letters, and the node types, in reading too
+--   TYPES                        meshes: the node types
 --   BASES, PLACES                meshes, reading: stacks of the nodes that are not complete, the open edges when each was entered and what is to come at its
 --                                second place
 use Prim.Native.Nat.{ℕ}
@@ -23,11 +23,8 @@ LETTERS = 3
 abbrev pub FACES : ℕ
 FACES = 4
 
-abbrev pub UPS : ℕ
-UPS = 5
-
-abbrev pub SECONDS : ℕ
-SECONDS = 6
+abbrev pub WAITING : ℕ
+WAITING = 1
 
 abbrev pub BITS : ℕ
 BITS = 8
@@ -52,9 +49,6 @@ BEGUN = 7
 
 abbrev pub OPENS : ℕ
 OPENS = 8
-
-abbrev pub NODES : ℕ
-NODES = 5
 
 abbrev pub TYPES : ℕ
 TYPES = 7

@@ -16,11 +16,10 @@ pub const LETTERS: usize = 3;
 
 pub const FACES: usize = 4;
 
-// Writing: stacks of the labels of tree edges and of other edges; the tree bits; the labels, in reading too.
-pub const UPS: usize = 5;
+// The walk by marks, which stand from 0 on: the stack of edges outside the tree that wait for their end.
+pub const WAITING: usize = 1;
 
-pub const SECONDS: usize = 6;
-
+// Writing: the tree bits; the labels, in reading too.
 pub const BITS: usize = 8;
 
 pub const LABELS: usize = 9;
@@ -40,10 +39,8 @@ pub const BEGUN: usize = 7;
 
 pub const OPENS: usize = 8;
 
-// Meshes. Writing: a stack of letters, and the node types; the bits of code A stand at BITS, the digits at LABELS. Reading: the node types too, and stacks of
-// the nodes that are not complete, the open edges when each was entered and what is to come at its second place.
-pub const NODES: usize = 5;
-
+// Meshes. Writing: the node types; the bits of code A stand at BITS, the digits at LABELS. Reading: the node types too, and stacks of the nodes that are not
+// complete, the open edges when each was entered and what is to come at its second place.
 pub const TYPES: usize = 7;
 
 pub const BASES: usize = 5;

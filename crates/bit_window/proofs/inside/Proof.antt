@@ -1,7 +1,8 @@
 use Prim.Native.Nat.{_+_}
 use native.Mathlib.Omega.{arith}
-use mathlib.Core.Path.{refl}
+use mathlib.Core.Path.{refl, _∙_}
 use Rattle.bit_window.proofs.Window.{holds-bytes}
+use Rattle.bit_window.proofs.Numbers.{digits-bytes}
 use borrow.Author.Needs.{needs}
 use Rattle.bit_window.proofs.inside.Statement.{statement}
 use Rattle.bit_window.proofs.inside.Tie as tie
@@ -45,11 +46,14 @@ joined-requires c κs =
 
 returns : tie.Need-returns
 returns c =
-    let q = c .before .before .before .before .before .before .before .before .before .before .args .q in let small = c .before .shared-slice-known9 .given in
-    holds-bytes _ q _ _ _ _ _ _ _ _
-    (refl, omega (arith, small (q))) (refl, omega (arith, small (q + 1))) (refl, omega (arith, small (q + 2))) (refl, omega (arith, small (q + 3)))
-    (refl, omega (arith, small (q + 4))) (refl, omega (arith, small (q + 5))) (refl, omega (arith, small (q + 6))) (refl, omega (arith, small (q + 7)))
-    _ (c .joined .ensures)
+    let st = c .before .before .before .before .before .before .before .before .before .before in
+    let q = st .args .q in let small = c .before .shared-slice-known9 .given in (
+      holds-bytes _ q _ _ _ _ _ _ _ _
+          (refl, omega (arith, small (q))) (refl, omega (arith, small (q + 1))) (refl, omega (arith, small (q + 2))) (refl, omega (arith, small (q + 3)))
+          (refl, omega (arith, small (q + 4))) (refl, omega (arith, small (q + 5))) (refl, omega (arith, small (q + 6))) (refl, omega (arith, small (q + 7)))
+          _ (c .joined .ensures),
+      c .joined .ensures ∙ digits-bytes _ q (st .pre) (λ k h. omega (arith, small (q + k))),
+    )
 
 pub inside-spec : {M : Type 1} → statement M
 inside-spec =
