@@ -1,8 +1,8 @@
 use native.Mathlib.Omega.{arith}
-use Rattle.packer.proofs.Numerals.{full-few}
+use Rattle.grouping.proofs.Numerals.{full-few}
 use borrow.Author.Needs.{needs}
-use Rattle.packer.proofs.full_groups.Statement.{statement}
-use Rattle.packer.proofs.full_groups.Tie as tie
+use Rattle.grouping.proofs.full_groups.Statement.{statement}
+use Rattle.grouping.proofs.full_groups.Tie as tie
 
 returns : tie.Need-returns
 returns c = (omega arith, full-few _ _ _ (omega arith))

@@ -30,7 +30,7 @@ use Rattle.packing.proofs.Digits.{digits-below, digits-append}
 use Rattle.packing.proofs.Packed.{pack-length, pack-split, pack-more}
 use Rattle.work.specs.Area.{region, placed}
 use Rattle.work.proofs.Regions.{region-is, placed-none, placed-next, placed-snoc}
-use Rattle.packer.specs.Packed.{between, Full, Groups, Begun}
+use Rattle.grouping.specs.Grouped.{between, Full, Groups, Begun}
 
 -- ---- the digits from a to e
 

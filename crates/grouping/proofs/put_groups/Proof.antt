@@ -1,11 +1,11 @@
 use Prim.Native.Nat.{_+_, _-_, _*_}
 use mathlib.Core.Path.{_≡_}
 use native.Mathlib.Omega.{arith}
-use Rattle.packer.specs.Packed.{Groups}
-use Rattle.packer.proofs.Numerals.{rest-fits, groups-rest, packed-rest}
+use Rattle.grouping.specs.Grouped.{Groups}
+use Rattle.grouping.proofs.Numerals.{rest-fits, groups-rest, packed-rest}
 use borrow.Author.Needs.{needs}
-use Rattle.packer.proofs.put_groups.Statement.{statement}
-use Rattle.packer.proofs.put_groups.Tie as tie
+use Rattle.grouping.proofs.put_groups.Statement.{statement}
+use Rattle.grouping.proofs.put_groups.Tie as tie
 
 within : (c : tie.After-put-unrolled) → let a = c .before .before .before .before .args in
     c .put-unrolled .result * a .width + (a .count - c .put-unrolled .result) * a .width ≡ a .count * a .width

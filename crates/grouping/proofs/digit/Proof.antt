@@ -1,9 +1,9 @@
 use native.Mathlib.Omega.{arith}
 use mathlib.Core.Path.{sym}
-use Rattle.packer.proofs.Numerals.{entry, entry-past}
+use Rattle.grouping.proofs.Numerals.{entry, entry-past}
 use borrow.Author.Needs.{needs}
-use Rattle.packer.proofs.digit.Statement.{statement}
-use Rattle.packer.proofs.digit.Tie as tie
+use Rattle.grouping.proofs.digit.Statement.{statement}
+use Rattle.grouping.proofs.digit.Tie as tie
 
 returns : tie.Need-returns
 returns c = sym (entry _ _ _ _ (c .before .if1 .taken))

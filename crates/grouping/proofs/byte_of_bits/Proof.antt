@@ -1,10 +1,10 @@
 use Prim.Native.Nat.{_+_}
 use native.Mathlib.Omega.{arith}
-use Rattle.packer.proofs.Numerals.{eight-bits}
-use Rattle.packer.specs.Packed.{between}
+use Rattle.grouping.proofs.Numerals.{eight-bits}
+use Rattle.grouping.specs.Grouped.{between}
 use borrow.Author.Needs.{needs}
-use Rattle.packer.proofs.byte_of_bits.Statement.{statement}
-use Rattle.packer.proofs.byte_of_bits.Tie as tie
+use Rattle.grouping.proofs.byte_of_bits.Statement.{statement}
+use Rattle.grouping.proofs.byte_of_bits.Tie as tie
 
 returns : tie.Need-returns
 returns c =

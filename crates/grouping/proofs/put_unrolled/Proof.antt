@@ -1,9 +1,9 @@
 use native.Mathlib.Omega.{arith}
-use Rattle.packer.proofs.Numerals.{groups-as, begun-as, begun-none}
+use Rattle.grouping.proofs.Numerals.{groups-as, begun-as, begun-none}
 use borrow.Author.Tests.{eqb-true}
 use borrow.Author.Needs.{needs}
-use Rattle.packer.proofs.put_unrolled.Statement.{statement}
-use Rattle.packer.proofs.put_unrolled.Tie as tie
+use Rattle.grouping.proofs.put_unrolled.Statement.{statement}
+use Rattle.grouping.proofs.put_unrolled.Tie as tie
 
 returns : tie.Need-returns
 returns c = begun-none _ _ _ _ _ _ _ _

@@ -4,12 +4,12 @@ use mathlib.Core.Path.{_≡_, sym}
 use lib.ListN.{length, length-set}
 use Rattle.work.specs.Area.{placed}
 use Rattle.work.proofs.Regions.{placed-none}
-use Rattle.packer.specs.Packed.{between}
-use Rattle.packer.proofs.Numerals.{group-fits, all-group, packed-more}
+use Rattle.grouping.specs.Grouped.{between}
+use Rattle.grouping.proofs.Numerals.{group-fits, all-group, packed-more}
 use Rattle.model.specs.Record.{pack as packed}
 use borrow.Author.Needs.{needs}
-use Rattle.packer.proofs.put_each.Statement.{statement}
-use Rattle.packer.proofs.put_each.Tie as tie
+use Rattle.grouping.proofs.put_each.Statement.{statement}
+use Rattle.grouping.proofs.put_each.Tie as tie
 
 abbrev Inv-loop : tie.InvT-loop
 Inv-loop w a e base width out₀ at count i₀ out i =
