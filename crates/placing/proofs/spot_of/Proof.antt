@@ -2,10 +2,10 @@ use native.Mathlib.Omega.{arith}
 use mathlib.Core.Path.{sym, _∙_}
 use Prim.Native.Nat.{_≤_}
 use lib.ListN.{length}
-use Rattle.shelving.proofs.Storing.{spot-over, spot-broken, spot-there, spot-full, spot-new}
+use Rattle.placing.proofs.Storing.{spot-over, spot-broken, spot-there, spot-full, spot-new}
 use borrow.Author.Needs.{needs}
-use Rattle.shelving.proofs.spot_of.Statement.{statement}
-use Rattle.shelving.proofs.spot_of.Tie as tie
+use Rattle.placing.proofs.spot_of.Statement.{statement}
+use Rattle.placing.proofs.spot_of.Tie as tie
 
 -- past the search the used length is within the shelf
 within : (c : tie.After-search) → let a = c .before .before .before .before .before .args in a .used ≤ length (a .shelf .now)

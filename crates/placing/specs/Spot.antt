@@ -6,8 +6,8 @@ use mathlib.Core.Bool.{cond}
 use mathlib.Core.List.{List}
 use lib.Dec.{eqb}
 use lib.ListN.{length, take}
-use Rattle.shelving.specs.declared.Spot.{Spot}
-use Rattle.shelving.specs.declared.Spot.the-variants as spot
+use Rattle.placing.specs.declared.Spot.{Spot}
+use Rattle.placing.specs.declared.Spot.the-variants as spot
 use Rattle.model.specs.Shelf.{recordsIn, firstEqual}
 use Rattle.model.specs.Calls.{shelveRefusal}
 

@@ -20,15 +20,15 @@ use Rattle.searching.specs.Search.{searchOf}
 use Rattle.searching.proofs.Told.{told-broken, told-there, told-missing}
 use Rattle.model.specs.declared.Shelved.{Shelved}
 use Rattle.model.specs.declared.Shelved.the-variants as shelved
-use Rattle.shelving.specs.declared.Spot.{Spot}
-use Rattle.shelving.specs.declared.Spot.the-variants.{There, New, Refused}
+use Rattle.placing.specs.declared.Spot.{Spot}
+use Rattle.placing.specs.declared.Spot.the-variants.{There, New, Refused}
 use Rattle.model.specs.Numbers.{firstRefusal}
 use Rattle.model.specs.Shelf.{recordsIn, endToEnd, firstEqual, shelfRefused}
 use Rattle.model.specs.Calls.{front, shelveRefusal, shelveAnswer, shelvedBytes}
-use Rattle.shelving.specs.Spot.{spotOf}
+use Rattle.placing.specs.Spot.{spotOf}
 use Rattle.shelf.proofs.Refusals.{used-part}
 use Rattle.shelf.proofs.Walking.{used-fine}
-use Rattle.shelving.proofs.Refusals.{shelve-none}
+use Rattle.placing.proofs.Refusals.{shelve-none}
 
 module _ (r s : List ℕ) (u : ℕ) where
   pub spot-over : length s < u → Refused 14 ≡ spotOf r s u

@@ -1,9 +1,9 @@
 use native.Mathlib.Omega.{arith}
 use mathlib.Core.Path.{sym, _∙_}
-use Rattle.shelving.proofs.Storing.{placed-refused, placed-there, placed-new, new-fits}
+use Rattle.placing.proofs.Storing.{placed-refused, placed-there, placed-new, new-fits}
 use borrow.Author.Needs.{needs}
-use Rattle.shelving.proofs.place.Statement.{statement}
-use Rattle.shelving.proofs.place.Tie as tie
+use Rattle.placing.proofs.place.Statement.{statement}
+use Rattle.placing.proofs.place.Tie as tie
 
 put-requires : tie.Need-put-requires
 put-requires c κs = new-fits _ _ _ _ (sym (c .before .before .n2 .given .1) ∙ c .before .before .before .before .spot-of .ensures)

@@ -3,10 +3,10 @@ use mathlib.Core.Path.{_≡_, refl}
 use Prim.Native.Nat.{_-_, _≤_}
 use lib.ListN.{length}
 use lib.Seq.{paste, paste-zero}
-use Rattle.shelving.proofs.Storing.{put-turn, put-ends}
+use Rattle.placing.proofs.Storing.{put-turn, put-ends}
 use borrow.Author.Needs.{needs}
-use Rattle.shelving.proofs.put.Statement.{statement}
-use Rattle.shelving.proofs.put.Tie as tie
+use Rattle.placing.proofs.put.Statement.{statement}
+use Rattle.placing.proofs.put.Tie as tie
 
 abbrev Inv-loop : tie.InvT-loop
 Inv-loop shelf₀ at «record» i₀ shelf i = (i ≤ length «record») × (shelf ≡ paste shelf₀ at «record» i) × (length shelf ≡ length shelf₀)
