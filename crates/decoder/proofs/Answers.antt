@@ -33,17 +33,20 @@ use Rattle.unpacker.proofs.Payload.{one, of-kind, bits-room, bit-count, labels-
 use Rattle.builder.specs.Decoded.{Answered}
 use Rattle.builder.proofs.Linking.{linked-end, linked-whole}
 use Rattle.builder.proofs.Whole.{blank-area}
-use Rattle.decoder.specs.declared.State.{State}
-use Rattle.decoder.specs.declared.Window.{Window}
-use Rattle.decoder.specs.declared.Outcome.{Outcome}
-use Rattle.decoder.specs.declared.Outcome.the-variants.{Goes, Stuck}
-use Rattle.decoder.specs.States.{Area, areaOf, areaAt, treesOf, upsOf, edgesOf, labelsOf, machineOf, machineAt, outcomeOf, outcomeAt, firstState}
-use Rattle.decoder.specs.States.{Hangs, Fits, Labelled}
-use Rattle.decoder.specs.Turns.{Passed, Turned, Finished}
-use Rattle.decoder.proofs.Areas.{below-long, begun-long, below-none, begun-none, dart-entered}
-use Rattle.decoder.proofs.Letters.{something-left, finishing}
-use Rattle.decoder.proofs.Moves.{none-passed, fewer-passed, more-passed}
-use Rattle.decoder.proofs.Runs.{left-is, passed-less, passed-stuck, turned-goes, turned-stuck}
+use Rattle.decoder_ends.specs.declared.State.{State}
+use Rattle.decoder_turns.specs.declared.Window.{Window}
+use Rattle.decoder_turns.specs.declared.Outcome.{Outcome}
+use Rattle.decoder_turns.specs.declared.Outcome.the-variants.{Goes, Stuck}
+use Rattle.decoder_ends.specs.States.{Area, areaOf, areaAt, treesOf, upsOf, edgesOf, labelsOf, machineOf, machineAt, outcomeOf, outcomeAt, firstState}
+use Rattle.decoder_ends.specs.States.{Hangs, Fits}
+use Rattle.decoder_turns.specs.Turns.{Labelled}
+use Rattle.decoder_ends.specs.Ends.{Passed, Finished}
+use Rattle.decoder_turns.specs.Turns.{Turned}
+use Rattle.decoder_ends.proofs.Areas.{below-long, begun-long, below-none, begun-none, dart-entered}
+use Rattle.decoder_ends.proofs.Letters.{something-left, finishing}
+use Rattle.decoder_ends.proofs.Moves.{none-passed, fewer-passed, more-passed}
+use Rattle.decoder_ends.proofs.Runs.{left-is, passed-less, passed-stuck}
+use Rattle.decoder_turns.proofs.Steps.{turned-goes, turned-stuck}
 use Rattle.decoder.proofs.Stretches.{labelled-kept}
 use Rattle.decoder.proofs.Openings.{first-dart}
 

@@ -1,9 +1,3 @@
-mod Areas
-mod Letters
-mod Moves
-mod Runs
-mod Windows
-mod Descents
 mod Stretches
 mod Openings
 mod Answers

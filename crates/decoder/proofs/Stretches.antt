@@ -1,7 +1,5 @@
--- Turns one after the other: a turn with the edges that end after it, and the turns that read from one window. Assumes nothing.
+-- The turns that read from one window. Assumes nothing.
 --
---   step-fits             where a turn goes on, edges may end
---   step-stuck, step-ends, step-goes   a turn that does not go on; the ends after it, by their case
 --   labelled-kept         the labels stay where they belong
 --   Stretching            what the loop over a window keeps; the window is left at bit `end`
 --   stretching-start, stretching-asks, stretching-on, stretching-less, stretching-end, stretching-stuck   at its start, in a turn, at its end
@@ -17,52 +15,17 @@ use Rattle.unpacker.specs.Unpacked.{labelsAt, labelsIn}
 use Rattle.unpacker.proofs.Payload.{labels-in-same}
 use Rattle.bit_window.specs.Window.{Holds}
 use Rattle.bit_window.proofs.Window.{holds-less}
-use Rattle.decoder.specs.declared.State.{State}
-use Rattle.decoder.specs.declared.Window.{Window}
-use Rattle.decoder.specs.declared.Ending.{Ending}
-use Rattle.decoder.specs.declared.Ending.the-variants.{Ends, Stays}
-use Rattle.decoder.specs.declared.Outcome.{Outcome}
-use Rattle.decoder.specs.declared.Outcome.the-variants.{Goes, Stuck}
-use Rattle.decoder.specs.States.{Fits, Labelled, Slid}
-use Rattle.decoder.specs.Turns.{Passed, Ended, Turned, Stepped}
-use Rattle.decoder.proofs.Moves.{none-passed, fewer-passed, more-passed}
-use Rattle.decoder.proofs.Runs.{passed-less, passed-stuck, ended-goes, ended-stuck, turned-goes, turned-stuck}
-
--- ---- a turn, and ends after it
-
-module _ (f m : ℕ) (ps w : List ℕ) (s : State) (c : Window) (r : Outcome) (w′ : List ℕ) (x : Stepped 2 f m ps w s c r w′) where
-  abbrev bs : List ℕ
-  bs = payloadBits m ps
-
-  abbrev ls : List ℕ
-  ls = labelsIn f m ps w
-
-  pub step-stuck : r ≡ Stuck → (u : List ℕ) → Stepped 1 f m ps w s c Stuck u
-  unfolding Turned Slid
-  step-stuck e u = (turned-stuck 2 m bs ls w s (c .at) r w′ (x .0) e, tt)
-
-  module _ (t : State) (l : ℕ) (d : Window) (e : r ≡ Goes t l d) where
-    gone : (l < 2) × Passed 1 m bs ls w s 0 (c .at) t l (d .at) w′
-    gone = turned-goes 2 m bs ls w s (c .at) r w′ (x .0) t l d e
-
-    pub step-fits : Fits m w′ t × (l < 2)
-    step-fits = (gone .1 .fits, gone .0)
-
-    module _ (q : Ending) (w″ : List ℕ) (y : Ended 0 1 m w′ t l q w″) where
-      pub step-ends : q ≡ Stays → Stepped 1 f m ps w s c Stuck w″
-      unfolding Turned Slid
-      step-ends g =
-          (passed-stuck 1 m bs ls w s 0 (c .at) t l (d .at) w′ (gone .1) (ended-stuck 0 1 m bs ls w′ t l (d .at) q w″ (y bs ls (d .at)) g), tt)
-
-      pub step-goes : (u : State) (k : ℕ) → q ≡ Ends u k → Stepped 1 f m ps w s c (Goes u k d) w″
-      unfolding Turned Slid
-      step-goes u k g =
-          let z = ended-goes 0 1 m bs ls w′ t l (d .at) q w″ (y bs ls (d .at)) u k g in (
-            (z .0, more-passed m bs ls w s 0 (c .at) 1 t l (d .at) w′ (gone .1) 0 u k (d .at) w″ (z .1)),
-            subst (Slid (bits ps) c) e (x .1),
-          )
-
--- ---- one window
+use Rattle.decoder_ends.specs.declared.State.{State}
+use Rattle.decoder_turns.specs.declared.Window.{Window}
+use Rattle.decoder_turns.specs.declared.Outcome.{Outcome}
+use Rattle.decoder_turns.specs.declared.Outcome.the-variants.{Goes, Stuck}
+use Rattle.decoder_ends.specs.States.{Fits}
+use Rattle.decoder_turns.specs.Turns.{Labelled, Slid}
+use Rattle.decoder_ends.specs.Ends.{Passed}
+use Rattle.decoder_turns.specs.Turns.{Turned, Stepped}
+use Rattle.decoder_ends.proofs.Moves.{none-passed, fewer-passed, more-passed}
+use Rattle.decoder_ends.proofs.Runs.{passed-less, passed-stuck}
+use Rattle.decoder_turns.proofs.Steps.{turned-goes, turned-stuck}
 
 pub labelled-kept : (f m : ℕ) (ps w w′ : List ℕ) → labelsAt m w′ ≡ labelsAt m w → Labelled f m ps w → Labelled f m ps w′
 labelled-kept f m ps w w′ e g =

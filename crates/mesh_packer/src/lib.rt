@@ -21,6 +21,6 @@ pub fn put_payload(w: &[u16], n: usize, bits: usize, digits: usize, out: &mut [u
     let b = work::LABELS * n;
     let bytes = packer::groups(bits, 8);
     let count = packer::groups(digits, 5);
-    packer::put_groups(w, a, a + bits, 2, 8, out, at, bytes);
-    packer::put_groups(w, b, b + digits, 3, 5, out, at + bytes, count);
+    grouping::put_groups(w, a, a + bits, 2, 8, out, at, bytes);
+    grouping::put_groups(w, b, b + digits, 3, 5, out, at + bytes, count);
 }

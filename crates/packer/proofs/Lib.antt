@@ -1,3 +1,2 @@
-mod Numerals
 pub mod Heads
 mod Parts

@@ -29,7 +29,7 @@ use Rattle.model.proofs.Heads.{passes-long}
 use Rattle.model.proofs.Reading.{record-clear, clear-record}
 use Rattle.shelf.proofs.Refusals.{fetch-none}
 use Rattle.shelf.proofs.Walking.{used-fine}
-use Rattle.shelving.proofs.Refusals.{shelve-none}
+use Rattle.placing.proofs.Refusals.{shelve-none}
 use Rattle.shelf_laws.proofs.Laid.{one-more}
 use Rattle.shelf_laws.proofs.Number.{first-bound, first-there, first-behind}
 

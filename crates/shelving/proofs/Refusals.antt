@@ -1,36 +1,21 @@
 -- The refusals of shelving, at plain values: r is the record, s the shelf, u its used length, t the table and n the length of the work area.
 --
---   shelve-none           where 14 and 16 do not hold: the shelf is fine, and has room for a new record
 --   stored-refused, stored-read   the two ways out of shelving: a refusal met while reading, or the record is placed
 --   read-long             a record that is read has a head
 use mathlib.Core.Path.{_≡_, refl, sym, ap, _∙_}
-use mathlib.Core.Bool.{true, false}
 use mathlib.Core.List.{List}
-use Prim.Native.Nat.{ℕ, _-_, _≤_}
-use lib.Dec.{eqb}
-use lib.ListN.{length, take}
-use borrow.Author.Tests.{ltb-false}
+use Prim.Native.Nat.{ℕ, _≤_}
+use lib.ListN.{length}
 use Rattle.model.specs.declared.Table.{Table}
 use Rattle.model.specs.declared.ReadBack.{ReadBack}
 use Rattle.model.specs.declared.ReadBack.the-variants as readback
 use Rattle.model.specs.declared.Shelved.{Shelved}
 use Rattle.model.specs.declared.Shelved.the-variants as shelved
-use Rattle.model.specs.Shelf.{recordsIn, firstEqual, shelfRefused}
-use Rattle.model.specs.Calls.{shelveRefusal, shelveAnswer, shelvedBytes, Shelves, unread, planless, readable, numberOfRead}
-use Rattle.model.proofs.Refusals.{none-holds}
+use Rattle.model.specs.Calls.{shelveAnswer, shelvedBytes, Shelves, unread, planless, readable, numberOfRead}
 use Rattle.model.proofs.Reading.{record-clear}
 use Rattle.model.proofs.Heads.{passes-long}
 use Rattle.decoding.specs.Planned.{Verdict, early, decided, had, not-had}
 use Rattle.decoding.proofs.Answers.{not-both}
-
-pub shelve-none : (r s : List ℕ) (u : ℕ) → shelveRefusal r s u ≡ 0 → let rs = recordsIn (take u s) in
-    (shelfRefused s u ≡ false) × (eqb (firstEqual r rs) (length rs) ≡ true → length r ≤ length s - u)
-unfolding shelveRefusal
-shelve-none r s u e =
-    let no = none-holds _ refl e in
-    (no 14, λ new. ltb-false (length s - u) (length r) (rw new at (no 16)))
-
--- ---- by the verdict of reading
 
 module _ (t : Table) (r : List ℕ) (n : ℕ) (v : ReadBack) (told : Verdict t r n v) where
   pub stored-refused : (s : List ℕ) (u x : ℕ) → v ≡ readback.Refused x → Shelves t r n s u (shelved.Refused x) s

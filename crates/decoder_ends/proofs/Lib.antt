@@ -1,0 +1,4 @@
+pub mod Areas
+pub mod Letters
+pub mod Moves
+pub mod Runs

@@ -1,0 +1,140 @@
+-- The machine in the code: the state s, the label l of the edge that has just ended, how many bits are read, and the work area w. m is the number of edges.
+-- A tree edge e of label l is stacked as 2e + l + 2, and names the vertex below it; the root is 0. Another edge is stacked as 2e + l, with the name of the
+-- vertex where it began.
+--
+--   Area                     the rotation and the stacks: names of the vertices that the present one hangs from, those where other edges began, and those
+--   areaOf m w d o           those of the work area w, where d tree edges and o others are open
+--   areaAt m w s             those in the state s
+--   treesOf v vs, upsOf v vs   the open tree edges, and their labels, where v is the present vertex and vs are those that it hangs from
+--   edgesOf xs, labelsOf xs  the edges that are stacked as xs, and their labels
+--   machineOf bs ls a s l k  the machine with bits bs and labels ls, where the area is a and k bits are read
+--   machineAt m bs ls w s l k   the same, in the work area
+--   outcomeOf a s v          the rotation that comes out if the word v is still to be read
+--   outcomeAt m w s v        the same in the work area
+--   at e v d o q             the state where these are its parts
+--   firstState               the state at the start
+--   leafState, leafArea, backState, backArea, enterState, enterArea   the state and the work area after an edge of label l has begun: to a leaf, from
+--                            which it is gone up again; outside the tree; in the tree
+--   Hangs v vs               v, where it hangs from vs, is the name of no root
+--   Stacked a s              what is stacked in the area a is in range
+--   Fits m w s               the numbers and stacks are in range
+use Prim.Native.Nat.{ℕ, _+_, _-_, _*_, _/_, _%_, _≤_, _<_}
+use mathlib.Core.Path.{_≡_}
+use mathlib.Core.Bool.{true}
+use mathlib.Core.List.{List, [], _∷_}
+use lib.ListN.{length, set, drop}
+use Rattle.model.specs.Numbers.{allBelow}
+use Rattle.model.specs.Traversal.{Letter}
+use Rattle.words.specs.Word.{Machine, wordDarts}
+use Rattle.work.specs.Map.{BELOW, BEGUN, OPENS}
+use Rattle.work.specs.Area.{region, stack}
+use Rattle.builder.specs.Steps.{linked}
+use Rattle.decoder_ends.specs.declared.State.{State}
+
+pub record Area : Type 0 where
+  pub rotation : List ℕ
+  pub below : List ℕ
+  pub begun : List ℕ
+  pub opens : List ℕ
+
+unfoldable pub areaOf : ℕ → List ℕ → ℕ → ℕ → Area
+areaOf m w d o = record {
+  rotation = region 0 (2 * m) w;
+  below = stack (BELOW * (2 * m)) d w;
+  begun = stack (BEGUN * (2 * m)) o w;
+  opens = stack (OPENS * (2 * m)) o w;
+}
+
+abbrev pub areaAt : ℕ → List ℕ → State → Area
+areaAt m w s = areaOf m w (s .depth) (s .opens)
+
+-- ---- what is stacked
+
+unfoldable pub treesOf : ℕ → List ℕ → List ℕ
+treesOf v [] = []
+treesOf v (u ∷ us) = (v / 2 - 1) ∷ treesOf u us
+
+unfoldable pub upsOf : ℕ → List ℕ → List ℕ
+upsOf v [] = []
+upsOf v (u ∷ us) = v % 2 ∷ upsOf u us
+
+unfoldable pub edgesOf : List ℕ → List ℕ
+edgesOf [] = []
+edgesOf (x ∷ xs) = x / 2 ∷ edgesOf xs
+
+unfoldable pub labelsOf : List ℕ → List ℕ
+labelsOf [] = []
+labelsOf (x ∷ xs) = x % 2 ∷ labelsOf xs
+
+-- ---- the machine
+
+-- as many labels are read as edges have begun
+unfoldable pub machineOf : List ℕ → List ℕ → Area → State → ℕ → ℕ → Machine
+machineOf bs ls a s l k = record {
+  n = 2 * s .edges + 2;
+  here = s .here;
+  below = a .below;
+  ups = upsOf (s .here) (a .below);
+  opens = a .begun;
+  seconds = labelsOf (a .opens);
+  label = l;
+  bits = drop k bs;
+  labels = drop (s .edges) ls;
+}
+
+abbrev pub machineAt : ℕ → List ℕ → List ℕ → List ℕ → State → ℕ → ℕ → Machine
+machineAt m bs ls w s l k = machineOf bs ls (areaAt m w s) s l k
+
+unfoldable pub outcomeOf : Area → State → List Letter → List ℕ
+outcomeOf a s v = linked (s .place) v (wordDarts (s .edges) (treesOf (s .here) (a .below)) (edgesOf (a .opens)) v) (a .rotation)
+
+abbrev pub outcomeAt : ℕ → List ℕ → State → List Letter → List ℕ
+outcomeAt m w s v = outcomeOf (areaAt m w s) s v
+
+abbrev pub at : ℕ → ℕ → ℕ → ℕ → ℕ → State
+at e v d o q = record { edges = e; here = v; depth = d; opens = o; place = q }
+
+abbrev pub firstState : State
+firstState = at 0 0 0 0 0
+
+-- ---- an edge begins
+
+abbrev pub leafState : State → State
+leafState s = at (s .edges + 1) (s .here) (s .depth) (s .opens) (2 * s .edges)
+
+abbrev pub leafArea : List ℕ → State → List ℕ
+leafArea w s = set (set w (s .place) (2 * s .edges)) (2 * s .edges + 1) (2 * s .edges + 1)
+
+abbrev pub backState : State → State
+backState s = at (s .edges + 1) (s .here) (s .depth) (s .opens + 1) (2 * s .edges)
+
+abbrev pub backArea : ℕ → List ℕ → State → ℕ → List ℕ
+backArea m w s l =
+    set (set (set w (s .place) (2 * s .edges)) (BEGUN * (2 * m) + s .opens) (s .here)) (OPENS * (2 * m) + s .opens) (2 * s .edges + l)
+
+abbrev pub enterState : State → ℕ → State
+enterState s l = at (s .edges + 1) (2 * s .edges + l + 2) (s .depth + 1) (s .opens) (2 * s .edges + 1)
+
+abbrev pub enterArea : ℕ → List ℕ → State → List ℕ
+enterArea m w s = set (set w (s .place) (2 * s .edges)) (BELOW * (2 * m) + s .depth) (s .here)
+
+-- ---- ranges
+
+unfoldable pub Hangs : ℕ → List ℕ → Type 0
+Hangs v [] = Unit
+Hangs v (u ∷ us) = (2 ≤ v) × Hangs u us
+
+pub record Stacked (a : Area) (s : State) : Type 0 where
+  pub hangs : Hangs (s .here) (a .below)
+  pub here-in : s .here < 2 * s .edges + 2
+  pub below-in : allBelow (2 * s .edges + 2) (a .below) ≡ true
+  pub begun-in : allBelow (2 * s .edges + 2) (a .begun) ≡ true
+  pub opens-in : allBelow (2 * s .edges) (a .opens) ≡ true
+
+pub record Fits (m : ℕ) (w : List ℕ) (s : State) : Type 0 where
+  pub few-edges : m ≤ 4096
+  pub room : 32 * m ≤ length w
+  pub edges-in : s .edges ≤ m
+  pub few-open : s .depth + s .opens ≤ s .edges
+  pub place-in : s .place < 2 * m
+  pub stacked : Stacked (areaAt m w s) s

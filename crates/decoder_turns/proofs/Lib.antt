@@ -1,0 +1,3 @@
+mod Windows
+mod Descents
+pub mod Steps
