@@ -1,6 +1,5 @@
 -- The digits of a payload: where they stand, and which are unused. Assumes nothing.
 --
---   letter-down, letter-up, letter-first, letter-second   the letter by its digit
 --   letters-left, letters-none   the letters in the high bits of a byte, one after the other
 --   pair-read             the pair of letters number i by shifting
 --   letters-next          the letters from that pair on: the pair and the others
@@ -17,7 +16,6 @@ use lib.ListN.{length, getD, take, drop, drop-of-length-le, List·getD-map}
 use lib.Seq.{drop-cons, getD-take}
 use borrow.Author.Tests.{eq-eqb, eqb-true}
 use Rattle.model.specs.Numbers.{allBelow}
-use Rattle.model.specs.Traversal.{down, up, first, second}
 use Rattle.model.specs.Record.{bytesFor}
 use Rattle.model.proofs.Booleans.{bool-ext}
 use Rattle.model.proofs.Below.{below-cons, below-head, below-tail, below-end}
@@ -26,25 +24,9 @@ use Rattle.packing.specs.Letters.{digitLetter, payloadLetters, lettersClean}
 use Rattle.packing.proofs.Packed.{length-unpack}
 use Rattle.packing.proofs.Place.{unpack-read}
 use Rattle.packing.proofs.Letters.{letters-count}
-use Rattle.letter_decoder.specs.Reading.{lettersOf, pairAt}
+use Rattle.letter_decoder.specs.Pairs.{lettersOf, pairAt}
 
 -- ---- one digit
-
-pub letter-down : (x : ℕ) → x ≡ 0 → digitLetter x ≡ down
-unfolding digitLetter
-letter-down x e = rw e
-
-pub letter-up : (x : ℕ) → x ≡ 1 → digitLetter x ≡ up
-unfolding digitLetter
-letter-up x e = rw e
-
-pub letter-first : (x : ℕ) → x ≡ 2 → digitLetter x ≡ first
-unfolding digitLetter
-letter-first x e = rw e
-
-pub letter-second : (x : ℕ) → x ≡ 3 → digitLetter x ≡ second
-unfolding digitLetter
-letter-second x e = rw e
 
 -- the two low digits of x are 0
 low-zero : (x : ℕ) → eqb (x % 16) 0 ≡ allBelow 1 (x / 4 % 4 ∷ x % 4 ∷ [])

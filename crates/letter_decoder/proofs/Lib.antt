@@ -1,3 +1,2 @@
 mod Digits
-mod Moves
 mod Runs

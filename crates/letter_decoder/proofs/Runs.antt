@@ -19,9 +19,9 @@ use Rattle.builder.specs.Decoded.{Answered}
 use Rattle.builder.specs.Steps.{partsOf, firstState}
 use Rattle.builder.specs.Moves.{goesOn, Left, Moved}
 use Rattle.builder.proofs.Moves.{now-first, moved-on, moved-end, left-start, whole-moved}
-use Rattle.letter_decoder.specs.declared.Outcome.{Outcome}
-use Rattle.letter_decoder.specs.declared.Outcome.the-variants.{Goes, Stuck}
-use Rattle.letter_decoder.specs.Reading.{Read}
+use Rattle.letter_steps.specs.declared.Outcome.{Outcome}
+use Rattle.letter_steps.specs.declared.Outcome.the-variants.{Goes, Stuck}
+use Rattle.letter_steps.specs.Reading.{Read}
 
 -- ---- letters one after the other
 

@@ -1,25 +1,19 @@
-// A payload of kind 4 decoded into the standard plan, in the lent work area: each letter of its word, two bits, is a step of the builder. It knows where
-// letters stand and which words are nested; no heads of records, no tree bits and no labels.
+// A payload of kind 4 decoded into the standard plan, in the lent work area: each letter of its word, two bits, is a step of `letter_steps`. It knows where
+// letters stand; no heads of records, no tree bits and no labels.
 ghost use mathlib.Core.Path.{_≡_};
-ghost use mathlib.Core.List.{_∷_, []};
 ghost use Prim.Native.Nat.{_*_, _≤_, _<_};
 ghost use lib.ListN.{length, replicate};
-ghost use Rattle.model.specs.Traversal.{up, second};
 ghost use Rattle.model.specs.Record.{bytesFor};
 ghost use Rattle.words.specs.Word.{nestedWord};
-ghost use Rattle.packing.specs.Letters.{digitLetter, payloadLetters, lettersClean};
+ghost use Rattle.packing.specs.Letters.{payloadLetters, lettersClean};
 ghost use Rattle.coding.specs.Payloads.{decodeLetters};
 ghost use Rattle.work.specs.Area.{region};
 ghost use Rattle.builder.specs.Moves.{Fits};
 ghost use Rattle.builder.specs.Decoded.{Answered};
-ghost use Rattle.letter_decoder.specs.Reading.{lettersOf, pairAt, Read};
+ghost use Rattle.letter_steps.specs.Reading.{Read};
+ghost use Rattle.letter_decoder.specs.Pairs.{lettersOf, pairAt};
 use builder::State;
-
-// What reading letters comes to: the state after them and how many edges have begun, or that no nested word goes on with them.
-enum Outcome {
-    Goes(State, usize),
-    Stuck,
-}
+use letter_steps::Outcome;
 
 // ---- where letters stand
 
@@ -44,72 +38,7 @@ fn half(payload: &[u8], i: usize) -> u8
     b << (4 * (i % 2))
 }
 
-// ---- letters, where e edges have begun
-
-// An edge begins, if one is left: down, or first where `other` is 1.
-fn begin(w: &mut [u16], m: usize, s: State, e: usize, other: u8) -> Outcome
-    requires { ⌜ Fits m (now w) s e × (other < 2) ⌝ }
-    ensures { λ r. ⌜ Read (digitLetter (2 * other) ∷ []) m (now (w .entry)) s e r (now (w .exit)) ⌝ }
-{
-    if e >= m {
-        return Outcome::Stuck;
-    }
-    if other == 0 {
-        let t = builder::enter(w, m, s, e);
-        return Outcome::Goes(t, e + 1);
-    }
-    let t = builder::back(w, m, s, e);
-    Outcome::Goes(t, e + 1)
-}
-
-// The tree edge opened last ends, if one is open.
-fn up(w: &mut [u16], m: usize, s: State, e: usize) -> Outcome
-    requires { ⌜ Fits m (now w) s e ⌝ }
-    ensures { λ r. ⌜ Read (up ∷ []) m (now (w .entry)) s e r (now (w .exit)) ⌝ }
-{
-    let depth = s.depth;
-    if depth == 0 {
-        return Outcome::Stuck;
-    }
-    let edge = builder::last_tree(w, m, s);
-    let t = builder::rise(w, m, s, edge);
-    Outcome::Goes(t, e)
-}
-
-// The edge outside the tree opened last ends, if one is open and began here or at a later vertex.
-fn second(w: &mut [u16], m: usize, s: State, e: usize) -> Outcome
-    requires { ⌜ Fits m (now w) s e ⌝ }
-    ensures { λ r. ⌜ Read (second ∷ []) m (now (w .entry)) s e r (now (w .exit)) ⌝ }
-{
-    let here = s.here;
-    let opens = s.opens;
-    if opens == 0 {
-        return Outcome::Stuck;
-    }
-    let begun = builder::last_begun(w, m, s);
-    if begun < here {
-        return Outcome::Stuck;
-    }
-    let edge = builder::last_open(w, m, s);
-    let t = builder::close(w, m, s, edge);
-    Outcome::Goes(t, e)
-}
-
-// The letter of the two bits x: the high one says whether its edge is outside the tree, the low one whether the edge ends.
-fn step(w: &mut [u16], m: usize, s: State, e: usize, x: u8) -> Outcome
-    requires { ⌜ Fits m (now w) s e × (x < 4) ⌝ }
-    ensures { λ r. ⌜ Read (digitLetter x ∷ []) m (now (w .entry)) s e r (now (w .exit)) ⌝ }
-{
-    let other = x / 2;
-    let ends = x % 2;
-    if ends == 0 {
-        return begin(w, m, s, e, other);
-    }
-    if other == 0 {
-        return up(w, m, s, e);
-    }
-    second(w, m, s, e)
-}
+// ---- all letters
 
 // The two letters in the high bits of x. The loop is unrolled; a second call of `step` would not be inlined.
 fn pair(w: &mut [u16], m: usize, s: State, e: usize, x: u8) -> Outcome
@@ -121,7 +50,7 @@ fn pair(w: &mut [u16], m: usize, s: State, e: usize, x: u8) -> Outcome
     let mut rest = x;
     let mut n: usize = 2;
     while n > 0 {
-        match step(w, m, t, k, rest / 64) {
+        match letter_steps::step(w, m, t, k, rest / 64) {
             Outcome::Goes(u, j) => {
                 t = u;
                 k = j;

@@ -1,13 +1,11 @@
 -- The answer and the list of measuring, by the way on which the call ends.
 --
---   copied-part          the part of the work area that is copied
 --   turned-away          an early refusal
 --   Told                 a call that passes them, with the plan's verdict
 --   judged-refused, judged-curved   9 and 10
 --   to-copy              the lengths of a plan that fits are ready to be copied
 --   made                 and what is then answered
-use Prim.Native.Nat.{ℕ, _-_, _*_, _≤_}
-use native.Mathlib.Nat.{add-zero}
+use Prim.Native.Nat.{ℕ, _*_, _≤_}
 use native.Mathlib.Omega.{arith}
 use mathlib.Core.Path.{_≡_, refl, sym, ap, _∙_}
 use mathlib.Core.Logic.{_≢_}
@@ -27,23 +25,14 @@ use Rattle.orbits.proofs.Tally.{count-le}
 use Rattle.orbits.proofs.Faces.{lengths-many}
 use Rattle.work.specs.Map.{LENGTHS}
 use Rattle.work.specs.Area.{region}
-use Rattle.work.proofs.Regions.{region-region}
 use Rattle.fitting.specs.declared.Verdict.{Verdict}
 use Rattle.fitting.specs.declared.Verdict.the-variants as verdict
 use Rattle.fitting.specs.Judged.{lateRefusal, verdictOf, Judged}
 use Rattle.fitting.proofs.Verdicts.{verdict-refused, verdict-curved, verdict-fits}
-use Rattle.measuring.specs.Early.{earlyRefusal, Lengths, Copied, Made}
-use Rattle.measuring.proofs.Refusing.{rooted, eightIf, refusal-split, early-not-ten, early-parts}
-
--- ---- the lengths are copied from their part of the work area
-
-module _ (n count : ℕ) (w : List ℕ) (l : Lengths n count w) where
-  pub copied-part : region 0 count (region (LENGTHS * n) (length w - LENGTHS * n) w) ≡ region (LENGTHS * n) count w
-  copied-part =
-      region-region (LENGTHS * n) (length w - LENGTHS * n) 0 count w (omega (arith, l .few, l .room))
-      ∙ ap (λ (a : ℕ). region a count w) (add-zero (LENGTHS * n))
-
--- ---- the ways on which the call ends
+use Rattle.measure_checks.specs.Early.{earlyRefusal, Lengths, Copied}
+use Rattle.measure_checks.proofs.Refusing.{early-not-ten, early-parts}
+use Rattle.measuring.specs.Made.{Made}
+use Rattle.measuring.proofs.Refusing.{rooted, eightIf, refusal-split}
 
 pub turned-away : {rot w list : List ℕ} {r : ℕ} → r ≡ earlyRefusal rot (length w) → r ≢ 0 → Made rot w list (measured.Refused r) w list
 unfolding measureAnswer measuredList

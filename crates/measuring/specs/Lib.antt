@@ -1,1 +1,1 @@
-pub mod Early
+pub mod Made

@@ -2,9 +2,9 @@ use Prim.Native.Nat.{_<_}
 use native.Mathlib.Omega.{arith}
 use Rattle.builder.specs.Moves.{Moved}
 use Rattle.builder.proofs.Moves.{moved-none, moved-end}
-use Rattle.letter_decoder.specs.Reading.{lettersOf}
+use Rattle.letter_decoder.specs.Pairs.{lettersOf}
 use Rattle.letter_decoder.proofs.Digits.{letters-left, letters-none}
-use Rattle.letter_decoder.proofs.Moves.{goes}
+use Rattle.letter_steps.proofs.Moves.{goes}
 use Rattle.letter_decoder.proofs.Runs.{goes-on, stuck-on}
 use borrow.Author.Needs.{needs}
 use Rattle.letter_decoder.proofs.pair.Statement.{statement}

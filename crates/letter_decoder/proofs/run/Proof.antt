@@ -8,7 +8,7 @@ use Rattle.packing.proofs.Letters.{letters-count}
 use Rattle.builder.specs.Steps.{firstState}
 use Rattle.builder.specs.Moves.{Moved}
 use Rattle.builder.proofs.Moves.{fits-start, moved-none}
-use Rattle.letter_decoder.specs.Reading.{lettersOf}
+use Rattle.letter_decoder.specs.Pairs.{lettersOf}
 use Rattle.letter_decoder.proofs.Digits.{letters-next}
 use Rattle.letter_decoder.proofs.Runs.{goes-on, stuck-on, answer-stuck, answer-end}
 use borrow.Author.Needs.{needs}

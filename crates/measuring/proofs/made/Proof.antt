@@ -3,7 +3,7 @@ use mir.Facts.{toZ-ofZ}
 use mir.Syntax.{w32}
 use mir.Val.{SFits}
 use Rattle.model.proofs.Fitness.{count-parts}
-use Rattle.measuring.proofs.Refusing.{early-parts}
+use Rattle.measure_checks.proofs.Refusing.{early-parts}
 use Rattle.measuring.proofs.Making.{turned-away, Told, judged-refused, judged-curved, to-copy, made}
 use borrow.Author.Needs.{needs}
 use Rattle.measuring.proofs.made.Statement.{statement}

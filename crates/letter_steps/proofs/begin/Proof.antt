@@ -4,11 +4,11 @@ use native.Mathlib.Omega.{arith}
 use mathlib.Core.Path.{refl}
 use Rattle.model.specs.Traversal.{down, first}
 use Rattle.builder.proofs.Moves.{moved}
-use Rattle.letter_decoder.proofs.Digits.{letter-down, letter-first}
-use Rattle.letter_decoder.proofs.Moves.{goes, full-begin}
+use Rattle.letter_steps.proofs.Digits.{letter-down, letter-first}
+use Rattle.letter_steps.proofs.Moves.{goes, full-begin}
 use borrow.Author.Needs.{needs}
-use Rattle.letter_decoder.proofs.begin.Statement.{statement}
-use Rattle.letter_decoder.proofs.begin.Tie as tie
+use Rattle.letter_steps.proofs.begin.Statement.{statement}
+use Rattle.letter_steps.proofs.begin.Tie as tie
 
 returns : tie.Need-returns
 returns c = let p = c .before .before .pre in full-begin _ _ _ _ _ (omega arith) _ (p .1)

@@ -5,10 +5,10 @@ use borrow.Author.Tests.{not-true, not-false}
 use Rattle.model.specs.Numbers.{isPermutation}
 use Rattle.model.specs.Map.{dartCountFits}
 use Rattle.model.proofs.Fitness.{count-parts}
-use Rattle.measuring.proofs.Refusing.{three, six, seven, passed}
+use Rattle.measure_checks.proofs.Refusing.{three, six, seven, passed}
 use borrow.Author.Needs.{needs}
-use Rattle.measuring.proofs.early.Statement.{statement}
-use Rattle.measuring.proofs.early.Tie as tie
+use Rattle.measure_checks.proofs.early.Statement.{statement}
+use Rattle.measure_checks.proofs.early.Tie as tie
 
 -- ---- what is known once 3, then 6 is passed
 

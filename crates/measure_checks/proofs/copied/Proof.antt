@@ -4,10 +4,10 @@ use mathlib.Core.List.{List}
 use borrow.Author.Tests.{lt-ltb, le-ltb}
 use Rattle.model.specs.Calls.{front}
 use Rattle.work.specs.Area.{region}
-use Rattle.measuring.proofs.Making.{copied-part}
+use Rattle.measure_checks.proofs.Copying.{copied-part}
 use borrow.Author.Needs.{needs}
-use Rattle.measuring.proofs.copied.Statement.{statement}
-use Rattle.measuring.proofs.copied.Tie as tie
+use Rattle.measure_checks.proofs.copied.Statement.{statement}
+use Rattle.measure_checks.proofs.copied.Tie as tie
 
 returns : tie.Need-returns
 returns c = let short = lt-ltb _ _ (c .if1 .taken) in record { answered = rw short; filled = rw short }

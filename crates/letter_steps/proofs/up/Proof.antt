@@ -2,10 +2,10 @@ use native.Mathlib.Omega.{arith}
 use mathlib.Core.Path.{refl}
 use Rattle.model.specs.Traversal.{up}
 use Rattle.builder.proofs.Moves.{moved}
-use Rattle.letter_decoder.proofs.Moves.{goes, root-up}
+use Rattle.letter_steps.proofs.Moves.{goes, root-up}
 use borrow.Author.Needs.{needs}
-use Rattle.letter_decoder.proofs.up.Statement.{statement}
-use Rattle.letter_decoder.proofs.up.Tie as tie
+use Rattle.letter_steps.proofs.up.Statement.{statement}
+use Rattle.letter_steps.proofs.up.Tie as tie
 
 returns : tie.Need-returns
 returns c = root-up _ _ _ _ _ (c .if1 .taken)

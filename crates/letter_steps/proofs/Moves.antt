@@ -16,8 +16,8 @@ use Rattle.builder.specs.declared.State.{State}
 use Rattle.builder.specs.Steps.{partsAt}
 use Rattle.builder.specs.Moves.{goesOn, Able, Moved}
 use Rattle.builder.proofs.Moves.{able}
-use Rattle.letter_decoder.specs.declared.Outcome.the-variants.{Goes, Stuck}
-use Rattle.letter_decoder.specs.Reading.{Read}
+use Rattle.letter_steps.specs.declared.Outcome.the-variants.{Goes, Stuck}
+use Rattle.letter_steps.specs.Reading.{Read}
 
 pub goes : (ls : List Letter) (m : ℕ) (w : List ℕ) (s : State) (e : ℕ) (t : State) (k : ℕ) (w′ : List ℕ) → Moved ls [] m w s e t k w′
     → Read ls m w s e (Goes t k) w′

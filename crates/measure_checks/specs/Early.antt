@@ -1,9 +1,8 @@
--- Measuring's refusals that need no work area, and what the call leaves before the work area is cleared.
+-- Measuring's refusals that need no work area, and the list that is filled.
 --
 --   earlyRefusal         the first of 3, 6, 7 that concerns the call; 0 if none does
 --   Lengths              a work area of n darts that has room for so many faces' lengths
 --   Copied               8 if the list is too short; else it begins with these lengths
---   Made                 the answer and the list of measuring, and the work area's length
 use Prim.Native.Nat.{ℕ, _*_, _≤_}
 use mathlib.Core.Path.{_≡_}
 use mathlib.Core.Bool.{not, cond}
@@ -14,7 +13,7 @@ use Rattle.model.specs.declared.Measured.{Measured}
 use Rattle.model.specs.declared.Measured.the-variants.{Count, Refused}
 use Rattle.model.specs.Numbers.{firstRefusal, refuse, isPermutation}
 use Rattle.model.specs.Map.{edges, dartCountFits}
-use Rattle.model.specs.Calls.{front, measureAnswer, measuredList}
+use Rattle.model.specs.Calls.{front}
 use Rattle.work.specs.Map.{LENGTHS}
 use Rattle.work.specs.Area.{region}
 
@@ -33,8 +32,3 @@ pub record Lengths (n count : ℕ) (w : List ℕ) : Type 0 where
 pub record Copied (n count : ℕ) (w list : List ℕ) (answer : Measured) (list′ : List ℕ) : Type 0 where
   pub answered : answer ≡ cond (ltb (length list) count) (Refused 8) (Count count)
   pub filled : list′ ≡ cond (ltb (length list) count) list (front (region (LENGTHS * n) count w) list)
-
-pub record Made (rot work list : List ℕ) (answer : Measured) (work′ list′ : List ℕ) : Type 0 where
-  pub answered : answer ≡ measureAnswer rot (length work) (length list)
-  pub filled : list′ ≡ measuredList rot (length work) list
-  pub kept : length work′ ≡ length work

@@ -1,10 +1,10 @@
 use Prim.Native.Nat.{_*_, _/_}
 use native.Mathlib.Omega.{arith}
 use mathlib.Core.Path.{_≡_}
-use Rattle.letter_decoder.proofs.Digits.{letter-up, letter-second}
+use Rattle.letter_steps.proofs.Digits.{letter-up, letter-second}
 use borrow.Author.Needs.{needs}
-use Rattle.letter_decoder.proofs.step.Statement.{statement}
-use Rattle.letter_decoder.proofs.step.Tie as tie
+use Rattle.letter_steps.proofs.step.Statement.{statement}
+use Rattle.letter_steps.proofs.step.Tie as tie
 
 returns : tie.Need-returns
 returns c =

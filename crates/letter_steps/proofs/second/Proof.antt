@@ -2,10 +2,10 @@ use native.Mathlib.Omega.{arith}
 use mathlib.Core.Path.{refl}
 use Rattle.model.specs.Traversal.{second}
 use Rattle.builder.proofs.Moves.{moved}
-use Rattle.letter_decoder.proofs.Moves.{goes, none-second, low-second}
+use Rattle.letter_steps.proofs.Moves.{goes, none-second, low-second}
 use borrow.Author.Needs.{needs}
-use Rattle.letter_decoder.proofs.second.Statement.{statement}
-use Rattle.letter_decoder.proofs.second.Tie as tie
+use Rattle.letter_steps.proofs.second.Statement.{statement}
+use Rattle.letter_steps.proofs.second.Tie as tie
 
 returns : tie.Need-returns
 returns c = none-second _ _ _ _ _ (c .if1 .taken)

@@ -1,0 +1,2 @@
+pub mod Refusing
+mod Copying
