@@ -10,7 +10,7 @@ ghost use Rattle.model.specs.Numbers.{isPermutation};
 ghost use Rattle.model.specs.Map.{dartCountFits, fit};
 ghost use Rattle.model.specs.Calls.{Wrote};
 ghost use Rattle.work.specs.Area.{region};
-ghost use Rattle.writing.specs.Made.{Made, LaidUnder, JudgedUnder, Walked, ToJudge};
+ghost use Rattle.writing.specs.Made.{MadeUnder, LaidUnder, JudgedUnder, Walked, ToJudge};
 
 // The answer for a mesh: its record, but 8 where the record is known to be too long only now.
 fn mesh(
@@ -68,9 +68,9 @@ fn walked(order: &[u16], root: u16, kind: u16, w: &mut [u16]) -> bool
 }
 
 // The answer and the output, before the work area is cleared.
-fn made<'a>(
-    bytes: &'a [u8],
-    inverse: &'a [u8],
+fn made(
+    loaded: bool,
+    bytes: &[u8],
     order: &[u16],
     root: u16,
     outside: u16,
@@ -78,11 +78,11 @@ fn made<'a>(
     w: &mut [u16],
     out: &mut [u8],
 ) -> Written
-    requires { ⌜ (length (now bytes) ≡ 243) × (length (now inverse) ≡ 256) ⌝ }
-    ensures { λ r. ⌜ Made (record { bytes = now (bytes .entry); inverse = now (inverse .entry) }) kind (record { rotation = now (order .entry); root = root; outside = outside })
+    requires { ⌜ length (now bytes) ≡ 243 ⌝ }
+    ensures { λ r. ⌜ MadeUnder loaded (now (bytes .entry)) kind (record { rotation = now (order .entry); root = root; outside = outside })
         (now (w .entry)) (now (out .entry)) r (now (w .exit)) (now (out .exit)) ⌝ }
 {
-    if !tables::is_loaded(bytes, inverse) {
+    if !loaded {
         return Written::Refused(19);
     }
     let good = write_checks::entries_good(order, w);
@@ -110,16 +110,9 @@ pub fn write(
     ensures { λ r. ⌜ Wrote table kind (record { rotation = now (order .entry); root = root; outside = outside })
         (now (work .entry)) (now (out .entry)) r (now (work .exit)) (now (out .exit)) ⌝ }
 {
-    let r = made(
-        &table.bytes,
-        &table.inverse,
-        order,
-        root,
-        outside,
-        kind,
-        work,
-        out,
-    );
+    let mut loaded = false;
+    let bytes = tables::bytes_of(table, &mut loaded);
+    let r = made(loaded, &bytes, order, root, outside, kind, work, out);
     work::clear(work);
     r
 }
