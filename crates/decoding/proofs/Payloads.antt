@@ -3,12 +3,13 @@
 --   letters-asked, letters-answered   family 4: what reading its letters asks, and that it gives the answer
 --   labels-asked, labels-answered   another: the same of reading its tree bits and labels
 --   mesh-asked, mesh-decoded   kind 3: what reading the payload asks, and that its word is the record's
---   outer-head, plain-head   a kind that stores the outside has eight bytes before it, another six, and is its own family
+--   outer-head           a kind that stores the outside has eight bytes before it
+--   head-in, family-other   the head is within the record; of a kind other than 3 the family is not 3 either
 --   payload-sized        it is as long as the payload of its family and size
 --   record-decoded       the answer for the payload is the answer for the record
 use Prim.Native.Nat.{ℕ, _-_, _*_, _≤_, _<_}
 use native.Mathlib.Omega.{arith}
-use mathlib.Core.Path.{_≡_, ap, _∙_}
+use mathlib.Core.Path.{_≡_, refl, ap, _∙_}
 use mathlib.Core.Logic.{_≢_}
 use mathlib.Core.Bool.{Bool, true, false}
 use mathlib.Core.List.{List}
@@ -20,8 +21,8 @@ use Rattle.model.specs.Map.{storesOutside, family}
 use Rattle.model.specs.Record.{bytesFor, headLength, recordLength}
 use Rattle.model.specs.Shelf.{word16, kindOf, edgesOf, passes}
 use Rattle.model.proofs.Permutations.{below-all}
-use Rattle.model.proofs.Heads.{family-four, stores-fixed, passes-facts}
-use Rattle.heads.proofs.Head.{head-stores, head-plain, family-plain}
+use Rattle.model.proofs.Heads.{family-four, family-not-three, stores-fixed, passes-facts}
+use Rattle.heads.proofs.Head.{head-stores, head-plain}
 use Rattle.packing.specs.Payload.{hasLabels, Sized}
 use Rattle.packing.specs.Groups.{undone}
 use Rattle.packing.proofs.Groups.{undone-other}
@@ -80,8 +81,15 @@ module _ (r : List ℕ) (passed : passes r ≡ true) where
   unfolding recordLength
   outer-head s = let h = head-stores (kindOf r) s in let l = passes-facts r passed .right-length (stores-fixed (kindOf r) s) in (h, omega arith)
 
-  pub plain-head : storesOutside (kindOf r) ≡ false → (6 ≡ headLength (kindOf r)) × (6 ≤ length r) × (kindOf r ≡ family (kindOf r))
-  plain-head s = let h = head-plain (kindOf r) s in (h, passes-facts r passed .whole-head, family-plain (kindOf r) s)
+  pub head-in : headLength (kindOf r) ≤ length r
+  head-in = go (storesOutside (kindOf r)) refl
+    where
+      go : (b : Bool) → storesOutside (kindOf r) ≡ b → headLength (kindOf r) ≤ length r
+      go true s = let h = outer-head s in omega arith
+      go false s = let h = head-plain (kindOf r) s in let l = passes-facts r passed .whole-head in omega arith
+
+  pub family-other : kindOf r ≢ 3 → family (kindOf r) ≢ 3
+  family-other = family-not-three (kindOf r) (passes-facts r passed .kind)
 
   module _ (f m at : ℕ) (f-is : f ≡ family (kindOf r)) (m-is : m ≡ edgesOf r) (at-is : at ≡ headLength (kindOf r)) where
     abbrev part : List ℕ

@@ -7,23 +7,22 @@ ghost use Prim.Native.Nat.{_*_, _≤_};
 ghost use lib.Dec.{eqb, ltb};
 ghost use lib.ListN.{length};
 ghost use Rattle.model.specs.Numbers.{isPermutation};
-ghost use Rattle.model.specs.Map.{faceOf, storesOutside, dartCountFits};
+ghost use Rattle.model.specs.Map.{faceOf, dartCountFits};
 ghost use Rattle.model.specs.Shelf.{kindOf, edgesOf, passes};
-ghost use Rattle.model.specs.Calls.{recordRefusal};
+ghost use Rattle.lists.specs.Coder.{outsideOf};
 ghost use Rattle.packing.specs.Payload.{Sized};
 ghost use Rattle.packing.specs.Groups.{undone};
 ghost use Rattle.coding.specs.Payloads.{decodePayload};
 ghost use Rattle.work.specs.Area.{region};
 ghost use Rattle.builder.specs.Decoded.{Answered};
-ghost use Rattle.decoding.specs.Planned.{Inverse, PlannedUnder, JudgedUnder, Verdict};
+ghost use Rattle.decoding.specs.Planned.{RefusedUnder, Inverse, PlannedUnder, JudgedUnder, Verdict};
 use model::ReadBack;
 
-// The first of 19, 1, 2, 3, 5, 7 that concerns the record, with a work area of this length; 0 if none does.
-pub fn refusal<'a>(bytes: &'a [u8], inverse: &'a [u8], record: &[u8], work: usize) -> u16
-    requires { ⌜ (length (now bytes) ≡ 243) × (length (now inverse) ≡ 256) ⌝ }
-    ensures { λ r. ⌜ r ≡ recordRefusal (record { bytes = now (bytes .entry); inverse = now (inverse .entry) }) (now («record» .entry)) work ⌝ }
+// The first of 19, 1, 2, 3, 5, 7 that concerns the record, with a work area of this length, under a table that loading gives or not; 0 if none does.
+pub fn refusal(loaded: bool, record: &[u8], work: usize) -> u16
+    ensures { λ r. ⌜ RefusedUnder loaded (now («record» .entry)) work r ⌝ }
 {
-    if !tables::is_loaded(bytes, inverse) {
+    if !loaded {
         return 19;
     }
     let h = heads::head_refusal(record);
@@ -63,34 +62,32 @@ fn is_face(w: &[u16], n: usize, x: usize) -> bool
     outer_face::is_lowest(&w[..n], x)
 }
 
-// The standard plan and the outside of a record of a kind that stores it, whose head passes; or 13.
-fn read_outer(inverse: &[u8], record: &[u8], kind: u16, m: u16, w: &mut [u16]) -> ReadBack
-    requires { ⌜ Inverse (now inverse) × (passes (now «record») ≡ true) × (kind ≡ kindOf (now «record»)) × (m ≡ edgesOf (now «record»)) × (storesOutside kind ≡ true)
-        × (32 * edgesOf (now «record») ≤ length (now w)) ⌝ }
-    ensures { λ r. ⌜ PlannedUnder (now (inverse .entry)) (now («record» .entry)) r (now (w .exit)) ⌝ }
+// The number of the outside that a record of this kind names; 0 in a kind without it.
+fn outside_of(record: &[u8], kind: u16) -> u16
+    requires { ⌜ (passes (now «record») ≡ true) × (kind ≡ kindOf (now «record»)) ⌝ }
+    ensures { λ r. ⌜ r ≡ outsideOf (now («record» .entry)) ⌝ }
 {
-    let x = heads::field(record, 6);
-    if decode(&record[8..], heads::family(kind), inverse, m as usize, w) {
-        if is_face(w, 2 * (m as usize), x as usize) {
-            return ReadBack::Edges(m, x);
-        }
+    if heads::stores_outside(kind) {
+        return heads::field(record, 6);
     }
-    ReadBack::Refused(13)
+    0
 }
 
-// The standard plan of a record of a kind other than 3 whose head passes, in the first 2m entries of a work area with room, or 13. The work area is not cleared.
+// The standard plan of a record of a kind other than 3 whose head passes, in the first 2m entries of a work area with room, and its outside; or 13. The work
+// area is not cleared.
 pub fn read_core(inverse: &[u8], record: &[u8], w: &mut [u16]) -> ReadBack
     requires { ⌜ Inverse (now inverse) × (passes (now «record») ≡ true) × (32 * edgesOf (now «record») ≤ length (now w)) × (kindOf (now «record») ≢ 3) ⌝ }
     ensures { λ r. ⌜ PlannedUnder (now (inverse .entry)) (now («record» .entry)) r (now (w .exit)) ⌝ }
 {
     let kind = heads::field(record, 2);
     let m = heads::field(record, 4);
-    if heads::stores_outside(kind) {
-        return read_outer(inverse, record, kind, m, w);
+    let at = heads::head_length(kind);
+    if !decode(&record[at..], heads::family(kind), inverse, m as usize, w) {
+        return ReadBack::Refused(13);
     }
-    let found = decode(&record[6..], kind, inverse, m as usize, w);
-    if found {
-        return ReadBack::Edges(m, 0);
+    let x = outside_of(record, kind);
+    if is_face(w, 2 * (m as usize), x as usize) {
+        return ReadBack::Edges(m, x);
     }
     ReadBack::Refused(13)
 }
@@ -113,7 +110,8 @@ pub fn verdict<'a>(bytes: &'a [u8], inverse: &'a [u8], record: &[u8], work: &mut
     requires { ⌜ (length (now bytes) ≡ 243) × (length (now inverse) ≡ 256) ⌝ }
     ensures { λ r. ⌜ Verdict (record { bytes = now (bytes .entry); inverse = now (inverse .entry) }) (now («record» .entry)) (length (now (work .entry))) r ⌝ }
 {
-    let e = refusal(bytes, inverse, record, work.len());
+    let loaded = tables::is_loaded(bytes, inverse);
+    let e = refusal(loaded, record, work.len());
     if e != 0 {
         return ReadBack::Refused(e);
     }

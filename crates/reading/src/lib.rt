@@ -5,9 +5,9 @@ ghost use mathlib.Core.Bool.{true};
 ghost use Prim.Native.Nat.{_*_, _≤_};
 ghost use lib.ListN.{length};
 ghost use Rattle.model.specs.Shelf.{kindOf, edgesOf, passes};
-ghost use Rattle.model.specs.Calls.{Reads, ReadCall};
+ghost use Rattle.model.specs.Calls.{ReadCall};
 ghost use Rattle.decoding.specs.Planned.{Inverse};
-ghost use Rattle.reading.specs.Planned.{MeshUnder};
+ghost use Rattle.reading.specs.Planned.{MeshUnder, Handed, ReadsUnder};
 use model::ReadBack;
 use model::Table;
 
@@ -26,17 +26,17 @@ fn read_mesh(inverse: &[u8], record: &[u8], w: &mut [u16], out: &mut [u16]) -> R
 }
 
 // The refusals of the record, 8, then 13, then the plan to the output.
-fn read_out<'a>(
-    bytes: &'a [u8],
-    inverse: &'a [u8],
+fn read_out(
+    loaded: bool,
+    inverse: &[u8],
     record: &[u8],
     work: &mut [u16],
     out: &mut [u16],
 ) -> ReadBack
-    requires { ⌜ (length (now bytes) ≡ 243) × (length (now inverse) ≡ 256) ⌝ }
-    ensures { λ r. ⌜ Reads (record { bytes = now (bytes .entry); inverse = now (inverse .entry) }) (now («record» .entry)) (length (now (work .entry))) (now (out .entry)) r (now (out .exit)) ⌝ }
+    requires { ⌜ Handed loaded (now inverse) ⌝ }
+    ensures { λ r. ⌜ ReadsUnder loaded (now (inverse .entry)) (now («record» .entry)) (length (now (work .entry))) (now (out .entry)) r (now (out .exit)) ⌝ }
 {
-    let e = decoding::refusal(bytes, inverse, record, work.len());
+    let e = decoding::refusal(loaded, record, work.len());
     if e != 0 {
         return ReadBack::Refused(e);
     }
@@ -62,7 +62,9 @@ fn read_out<'a>(
 pub fn read(table: Table, record: &[u8], work: &mut [u16], out: &mut [u16]) -> ReadBack
     ensures { λ r. ⌜ ReadCall table (now («record» .entry)) (now (work .entry)) (now (out .entry)) r (now (work .exit)) (now (out .exit)) ⌝ }
 {
-    let r = read_out(&table.bytes, &table.inverse, record, work, out);
+    let mut loaded = false;
+    let inverse = tables::inverse_of(table, &mut loaded);
+    let r = read_out(loaded, &inverse, record, work, out);
     work::clear(work);
     r
 }

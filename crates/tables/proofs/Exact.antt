@@ -2,11 +2,12 @@
 --
 --   tick-more, tick-same, tick-bound, marks-on   one more mark, or none
 --   leads-stop, leads-on, leads-end   whether each value's byte leads back to it, value by value
---   Alike, alike-none, alike-on   entries that differ in no bit from those of a function, one by one
---   standard-is          the entries of the standard table and its inverse
+--   alike-none, alike-to, alike-on   entries that differ in no bit from those of a function, one by one
+--   entry-low, entry-high   the entries of the standard table's inverse
+--   inverse-is, standard-is   the lists that have these entries
 --   test-exact           what is tested says that loading gives the table
 --   loaded-leads, loaded-marks   a table that loading gives passes both parts
---   told-marks, told-all, told-standard   what the test tells of a table
+--   told-marks, told-all, told-standard, stands-standard   what the test tells of a table
 use Prim.Native.Nat.{ℕ, zero, suc, _+_, _≤_, _<_}
 use native.Mathlib.Numerals.{add-one}
 use native.Mathlib.Omega.{arith}
@@ -18,7 +19,7 @@ use lib.Bits.{bitXor}
 use lib.Dec.{T, eqb}
 use lib.ListN.{length, getD}
 use lib.Seq.{ext-getD}
-use borrow.Author.Tests.{eqb-true, eqb-false, eq-eqb, ne-eqb, not-true}
+use borrow.Author.Tests.{eqb-true, eqb-false, eq-eqb, ne-eqb, lt-ltb, le-ltb, not-true}
 use Rattle.model.specs.declared.Table.{Table}
 use Rattle.model.specs.Numbers.{tick, count, elem, distinct, allBelow, position, tabulate}
 use Rattle.model.specs.Groups.{byteFor, isTable, inverseOf, loaded, standardTable}
@@ -31,7 +32,7 @@ use Rattle.model.proofs.Tables.{TableParts, parts-table, table-parts, inverse-a
 use Rattle.model.proofs.Tabulated.{length-tabulate, tabulate-at}
 use Rattle.orbits.proofs.Order.{lt-or-le}
 use Rattle.orbits.proofs.Tally.{count-ext, count-all, count-none, count-either, count-tight}
-use Rattle.tables.specs.Tested.{isMark, OwnPlaces, MarkedPast, LeadsBack, Decides}
+use Rattle.tables.specs.Tested.{isMark, standardEntry, Alike, LeadsBack, Decides}
 use Rattle.tables.proofs.Bits.{xor-none}
 
 -- ---- marks, one by one
@@ -71,28 +72,30 @@ module _ (bs inv : List ℕ) (v : ℕ) where
 
 -- ---- the standard table
 
--- no entry below v differs from g in any bit
-pub record Alike (g : ℕ → ℕ) (from v : ℕ) (xs : List ℕ) : Type 0 where
-  pub alike : (i : ℕ) → from ≤ i → i < v → getD xs i 0 ≡ g i
-
 pub alike-none : (g : ℕ → ℕ) (from : ℕ) (xs : List ℕ) → Alike g from from xs
 alike-none g from xs = record { alike = λ i l h. absurd (let z : ⊥ = omega arith in z) }
 
-pub alike-on : (g : ℕ → ℕ) (from v : ℕ) (xs : List ℕ) → bitXor (getD xs v 0) (g v) ≡ 0 → Alike g from v xs → Alike g from (v + 1) xs
-alike-on g from v xs e so-far = record { alike = λ i l h. go i l h (eqb i v) refl }
+pub alike-to : (g : ℕ → ℕ) (from to v : ℕ) (xs : List ℕ) → to ≤ v → Alike g from v xs → Alike g from to xs
+alike-to g from to v xs h so-far = record { alike = λ i l k. so-far .alike i l (omega arith) }
+
+pub alike-on : (g : ℕ → ℕ) (from v x : ℕ) (xs : List ℕ) → bitXor (getD xs v 0) x ≡ 0 → x ≡ g v → Alike g from v xs → Alike g from (v + 1) xs
+alike-on g from v x xs e is so-far = record { alike = λ i l h. go i l h (eqb i v) refl }
   where
     go : (i : ℕ) → from ≤ i → i < v + 1 → (b : Bool) → eqb i v ≡ b → getD xs i 0 ≡ g i
-    go i l h true s = let same = eqb-true i v s in ap (λ (j : ℕ). getD xs j 0) same ∙ xor-none (getD xs v 0) (g v) e ∙ ap g (sym same)
+    go i l h true s = let same = eqb-true i v s in ap (λ (j : ℕ). getD xs j 0) same ∙ xor-none (getD xs v 0) x e ∙ is ∙ ap g (sym same)
     go i l h false s = let other = eqb-false i v s in so-far .alike i l (omega arith)
 
--- the standard table's entries
-pub standard-is : (bs inv : List ℕ) → length bs ≡ 243 → length inv ≡ 256 → OwnPlaces bs → OwnPlaces inv → MarkedPast inv
-    → (bs ≡ standardTable .bytes) × (inv ≡ standardTable .inverse)
+pub entry-low : (b : ℕ) → b < 243 → b ≡ standardEntry b
+unfolding standardEntry
+entry-low b h = rw (lt-ltb b 243 h)
+
+pub entry-high : (b : ℕ) → 243 ≤ b → 243 ≡ standardEntry b
+unfolding standardEntry
+entry-high b h = rw (le-ltb b 243 h)
+
+pub inverse-is : (inv : List ℕ) → length inv ≡ 256 → ((b : ℕ) → b < 256 → getD inv b 0 ≡ standardEntry b) → inv ≡ standardTable .inverse
 unfolding standardTable loaded
-standard-is bs inv long wide own own-inverse marked = (
-  ext-getD 0 bs _ (long ∙ sym (length-tabulate (λ v. v) 0 243)) (λ i h. own i (omega arith) ∙ sym (tabulate-at (λ v. v) 243 i (omega arith))),
-  ext-getD 0 inv _ (wide ∙ sym (inverse-long _)) (λ b h. entry b (omega arith) ∙ sym (inverse-at _ b (omega arith))),
-)
+inverse-is inv wide entries = ext-getD 0 inv _ (wide ∙ sym (inverse-long _)) (λ b h. entry b (omega arith) ∙ sym (inverse-at _ b (omega arith)))
   where
     numbers : List ℕ
     numbers = tabulate (λ v. v) 0 243
@@ -116,7 +119,22 @@ standard-is bs inv long wide own own-inverse marked = (
         omega arith)) ∙ size
 
     entry : (b : ℕ) → b < 256 → getD inv b 0 ≡ position b numbers
-    entry b h = lt-or-le b 243 (λ l. own-inverse b l ∙ sym (at b l)) (λ l. marked b l h ∙ sym (past b l))
+    entry b h = entries b h ∙ lt-or-le b 243 (λ l. sym (entry-low b l) ∙ sym (at b l)) (λ l. sym (entry-high b l) ∙ sym (past b l))
+
+-- the standard table's entries, as they are compared
+module _ (bs inv : List ℕ) (long : length bs ≡ 243) (wide : length inv ≡ 256)
+    (first : Alike (λ v. v) 0 224 bs) (first-inverse : Alike (λ v. v) 0 224 inv)
+    (last : Alike (λ v. v) 192 240 bs) (last-inverse : Alike standardEntry 208 256 inv) (three : Alike (λ v. v) 240 243 bs) where
+  own : (v : ℕ) → v < 243 → getD bs v 0 ≡ v
+  own v h = lt-or-le v 224 (λ l. first .alike v (omega arith) l)
+      (λ g. lt-or-le v 240 (λ l. last .alike v (omega arith) l) (λ m. three .alike v m h))
+
+  pub standard-is : (bs ≡ standardTable .bytes) × (inv ≡ standardTable .inverse)
+  unfolding standardTable loaded
+  standard-is = (
+    ext-getD 0 bs _ (long ∙ sym (length-tabulate (λ v. v) 0 243)) (λ i h. own i (omega arith) ∙ sym (tabulate-at (λ v. v) 243 i (omega arith))),
+    inverse-is inv wide (λ b h. lt-or-le b 224 (λ l. first-inverse .alike b (omega arith) l ∙ entry-low b (omega arith)) (λ g. last-inverse .alike b (omega arith) h)),
+  )
 
 -- ---- how many bytes a list has
 
@@ -248,3 +266,6 @@ module _ (t : Table) where
 
 pub told-standard : (bs inv : List ℕ) → (bs ≡ standardTable .bytes) × (inv ≡ standardTable .inverse) → true ≡ not (tableRefused (record { bytes = bs; inverse = inv }))
 told-standard bs inv (b, i) = ap not (sym (ap₂ (λ (xs ys : List ℕ). tableRefused (record { bytes = xs; inverse = ys })) b i ∙ standard-stands))
+
+pub stands-standard : (t : Table) → t ≡ standardTable → true ≡ not (tableRefused t)
+stands-standard t e = ap not (sym (ap tableRefused e ∙ standard-stands))

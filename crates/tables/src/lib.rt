@@ -11,7 +11,7 @@ ghost use Rattle.model.specs.Numbers.{tick, count, allBelow, tabulate};
 ghost use Rattle.model.specs.Groups.{inverseOf, standardTable, noTable};
 ghost use Rattle.model.specs.Calls.{tableRefused, Loads};
 ghost use Rattle.work.specs.Area.{region, placed};
-ghost use Rattle.tables.specs.Tested.{isMark, OwnPlaces, MarkedPast, LeadsBack, Decides};
+ghost use Rattle.tables.specs.Tested.{isMark, standardEntry, Alike, LeadsBack, Decides};
 
 // ---- the test of a table
 
@@ -40,14 +40,25 @@ fn marks(inverse: &[u8]) -> u16
     marks
 }
 
-// Each of the first 243 entries is its own place in both lists, as in the standard table. The loop has no branch, so that many entries are compared at once.
-fn own_places<'a>(bytes: &'a [u8], inverse: &'a [u8]) -> bool
+// The entry of the standard table's inverse at this place.
+fn standard_entry(b: u8) -> u8
+    ensures { λ r. ⌜ r ≡ standardEntry b ⌝ }
+{
+    if b < 243 {
+        return b;
+    }
+    243
+}
+
+// Each of the first 224 entries is its own place in both lists, as in the standard table. The loop has no branch, so that many entries are compared at once,
+// and it leaves none over: 224 is 7 times 32.
+fn first_places<'a>(bytes: &'a [u8], inverse: &'a [u8]) -> bool
     requires { ⌜ (length (now bytes) ≡ 243) × (length (now inverse) ≡ 256) ⌝ }
-    ensures { λ r. ⌜ (r ≡ true → OwnPlaces (now (bytes .entry)) × OwnPlaces (now (inverse .entry))) ⌝ }
+    ensures { λ r. ⌜ (r ≡ true → Alike (λ v. v) 0 224 (now (bytes .entry)) × Alike (λ v. v) 0 224 (now (inverse .entry))) ⌝ }
 {
     let mut differ = 0u8;
     let mut v = 0;
-    while v < 243 {
+    while v < 224 {
         let here = v as u8;
         differ = differ | ((bytes[v] ^ here) | (inverse[v] ^ here));
         v += 1;
@@ -55,17 +66,28 @@ fn own_places<'a>(bytes: &'a [u8], inverse: &'a [u8]) -> bool
     differ == 0
 }
 
-// The entries from place 243 on are marks.
-fn rest_marked(inverse: &[u8]) -> bool
-    requires { ⌜ length (now inverse) ≡ 256 ⌝ }
-    ensures { λ r. ⌜ (r ≡ true → MarkedPast (now (inverse .entry))) ⌝ }
+// The last entries are the standard table's, but for three of the bytes. Some are compared again, so that none is left over: 48 is 3 times 16.
+fn last_places<'a>(bytes: &'a [u8], inverse: &'a [u8]) -> bool
+    requires { ⌜ (length (now bytes) ≡ 243) × (length (now inverse) ≡ 256) ⌝ }
+    ensures { λ r. ⌜ (r ≡ true → Alike (λ v. v) 192 240 (now (bytes .entry)) × Alike standardEntry 208 256 (now (inverse .entry))) ⌝ }
 {
     let mut differ = 0u8;
-    let mut b = 243;
-    while b < 256 {
-        differ = differ | (inverse[b] ^ 243);
-        b += 1;
+    let mut v = 192;
+    while v < 240 {
+        let here = v as u8;
+        let entry = standard_entry(here + 16);
+        differ = differ | ((bytes[v] ^ here) | (inverse[v + 16] ^ entry));
+        v += 1;
     }
+    differ == 0
+}
+
+// These three.
+fn last_bytes(bytes: &[u8]) -> bool
+    requires { ⌜ length (now bytes) ≡ 243 ⌝ }
+    ensures { λ r. ⌜ (r ≡ true → Alike (λ v. v) 240 243 (now (bytes .entry))) ⌝ }
+{
+    let differ = (bytes[240] ^ 240) | ((bytes[241] ^ 241) | (bytes[242] ^ 242));
     differ == 0
 }
 
@@ -74,10 +96,13 @@ fn is_standard<'a>(bytes: &'a [u8], inverse: &'a [u8]) -> bool
     requires { ⌜ (length (now bytes) ≡ 243) × (length (now inverse) ≡ 256) ⌝ }
     ensures { λ r. ⌜ (r ≡ true → (now (bytes .entry) ≡ standardTable .bytes) × (now (inverse .entry) ≡ standardTable .inverse)) ⌝ }
 {
-    if own_places(bytes, inverse) {
-        return rest_marked(inverse);
+    if !first_places(bytes, inverse) {
+        return false;
     }
-    false
+    if !last_places(bytes, inverse) {
+        return false;
+    }
+    last_bytes(bytes)
 }
 
 // The entry of the inverse at each value's byte is that value.
@@ -96,8 +121,18 @@ fn leads_back<'a>(bytes: &'a [u8], inverse: &'a [u8]) -> bool
     true
 }
 
-// Loading gives the table with these arrays: each value's byte leads back to it, and the bytes left, 256 - 243, are marked. The standard table is told
-// in fewer steps.
+// Loading gives the table with these arrays: each value's byte leads back to it, and the bytes left, 256 - 243, are marked.
+fn leads_all_back<'a>(bytes: &'a [u8], inverse: &'a [u8]) -> bool
+    requires { ⌜ (length (now bytes) ≡ 243) × (length (now inverse) ≡ 256) ⌝ }
+    ensures { λ r. ⌜ r ≡ not (tableRefused (record { bytes = now (bytes .entry); inverse = now (inverse .entry) })) ⌝ }
+{
+    if marks(inverse) != 13 {
+        return false;
+    }
+    leads_back(bytes, inverse)
+}
+
+// The same; the standard table is told in fewer steps.
 pub fn is_loaded<'a>(bytes: &'a [u8], inverse: &'a [u8]) -> bool
     requires { ⌜ (length (now bytes) ≡ 243) × (length (now inverse) ≡ 256) ⌝ }
     ensures { λ r. ⌜ r ≡ not (tableRefused (record { bytes = now (bytes .entry); inverse = now (inverse .entry) })) ⌝ }
@@ -105,10 +140,7 @@ pub fn is_loaded<'a>(bytes: &'a [u8], inverse: &'a [u8]) -> bool
     if is_standard(bytes, inverse) {
         return true;
     }
-    if marks(inverse) != 13 {
-        return false;
-    }
-    leads_back(bytes, inverse)
+    leads_all_back(bytes, inverse)
 }
 
 // ---- loading
@@ -190,6 +222,60 @@ pub fn standard() -> Table
     let bytes = numbers();
     let inverse = inverted(&bytes);
     Table { bytes, inverse }
+}
+
+// The entries of its inverse.
+fn standard_inverse() -> [u8; 256]
+    ensures { λ r. ⌜ r ≡ standardTable .inverse ⌝ }
+{
+    let mut entries = [0u8; 256];
+    let mut b = 0;
+    while b < 256 {
+        entries[b] = standard_entry(b as u8);
+        b += 1;
+    }
+    entries
+}
+
+// ---- a table that a call is handed
+
+// The two tests on a table that is handed over by value: the entries that the first compares stand at known places, so that it makes no copy.
+fn is_standard_table(table: Table) -> bool
+    ensures { λ r. ⌜ (r ≡ true → table ≡ standardTable) ⌝ }
+{
+    is_standard(&table.bytes, &table.inverse)
+}
+
+fn is_own_table(table: Table) -> bool
+    ensures { λ r. ⌜ r ≡ not (tableRefused table) ⌝ }
+{
+    leads_all_back(&table.bytes, &table.inverse)
+}
+
+// The inverse of a table, and whether loading gives the table. The standard table's inverse is made anew.
+pub fn inverse_of(table: Table, loaded: &mut bool) -> [u8; 256]
+    ensures { λ r. ⌜ (r ≡ table .inverse) × (now (loaded .exit) ≡ not (tableRefused table)) ⌝ }
+{
+    let mut inverse = standard_inverse();
+    *loaded = true;
+    if !is_standard_table(table) {
+        *loaded = is_own_table(table);
+        inverse = table.inverse;
+    }
+    inverse
+}
+
+// Its bytes in the same way.
+pub fn bytes_of(table: Table, loaded: &mut bool) -> [u8; 243]
+    ensures { λ r. ⌜ (r ≡ table .bytes) × (now (loaded .exit) ≡ not (tableRefused table)) ⌝ }
+{
+    let mut bytes = numbers();
+    *loaded = true;
+    if !is_standard_table(table) {
+        *loaded = is_own_table(table);
+        bytes = table.bytes;
+    }
+    bytes
 }
 
 // ---- groups under a table

@@ -136,22 +136,22 @@ marked f p w fits room g = marked-by p w fits room
 -- ---- what is left after the early refusals
 
 -- w₁ is the work area when the entries are tested, w₂ when the plan is walked
-pub record Begun (table : Table) (k : ℕ) (p : Plan) (w out w₁ w₂ : List ℕ) (b : Bool) : Type 0 where
-  pub stands : tableRefused table ≡ false
+pub record Begun (k : ℕ) (p : Plan) (w out w₁ w₂ : List ℕ) (b : Bool) : Type 0 where
   pub kept : length w₁ ≡ length w
   pub passes : earlyRefusal k p (length w₁) (length out) ≡ 0
   pub walk : Walked k (withOutside p 0) w₁ b w₂
 
-module _ {table : Table} {k : ℕ} {p : Plan} {w out w₁ w₂ : List ℕ} {b : Bool} (begun : Begun table k p w out w₁ w₂ b) where
+module _ {k : ℕ} {p : Plan} {w out w₁ w₂ : List ℕ} {b : Bool} (begun : Begun k p w out w₁ w₂ b) where
   handed : Passed k p (length w₁) (length out)
   handed = early-parts k p (length w₁) (length out) (begun .passes)
 
   abbrev late : ℕ
   late = lateRefusal (family k) p
 
-  left : writeRefusal table k p (length w) (length out) ≡ cond (eqb late 0) (lastRefusal table k p (length out)) late
+  left : (table : Table) → tableRefused table ≡ false
+      → writeRefusal table k p (length w) (length out) ≡ cond (eqb late 0) (lastRefusal table k p (length out)) late
   unfolding lastRefusal
-  left = refusal-split table k p (length w) (length out) (begun .stands)
+  left table stands = refusal-split table k p (length w) (length out) stands
       ∙ rw (ap (λ (l : ℕ). earlyRefusal k p l (length out)) (sym (begun .kept)) ∙ begun .passes)
 
   kept : length w₂ ≡ length w
@@ -193,9 +193,10 @@ module _ {table : Table} {k : ℕ} {p : Plan} {w out w₁ w₂ : List ℕ} {b : 
     pub walk-fits : Fits k p w₂ out
     walk-fits = record { other = to-lay; mesh = begun .walk .mesh yes }
 
-    pub made-laid : (a : Written) (w₃ out′ : List ℕ) → Answered (lastRefusal table k p (length out)) table k p w₂ out a w₃ out′ → Made table k p w out a w₃ out′
-    made-laid a w₃ out′ r =
-        let last : writeRefusal table k p (length w) (length out) ≡ lastRefusal table k p (length out) = left ∙ rw none-late in
+    pub made-laid : (table : Table) → tableRefused table ≡ false → (a : Written) (w₃ out′ : List ℕ)
+        → Answered (lastRefusal table k p (length out)) table k p w₂ out a w₃ out′ → Made table k p w out a w₃ out′
+    made-laid table stands a w₃ out′ r =
+        let last : writeRefusal table k p (length w) (length out) ≡ lastRefusal table k p (length out) = left table stands ∙ rw none-late in
         record { answered = r .answered ∙ rw last; filled = r .filled ∙ rw last; kept = r .kept ∙ kept }
 
   module _ (no : b ≡ false) where
@@ -213,11 +214,12 @@ module _ {table : Table} {k : ℕ} {p : Plan} {w out w₁ w₂ : List ℕ} {b : 
       late = λ e. some-late (sym (same-late (family k) p) ∙ e);
     }
 
-    pub made-refused : (a : Written) (w₃ : List ℕ) → Refused k (withOutside p 0) w₂ a w₃ → Made table k p w out a w₃ out
+    pub made-refused : (table : Table) → tableRefused table ≡ false → (a : Written) (w₃ : List ℕ) → Refused k (withOutside p 0) w₂ a w₃
+        → Made table k p w out a w₃ out
     unfolding answerOf
-    made-refused a w₃ r =
+    made-refused table stands a w₃ r =
         let some = ne-eqb late 0 some-late in
-        let first : writeRefusal table k p (length w) (length out) ≡ late = left ∙ rw some in
+        let first : writeRefusal table k p (length w) (length out) ≡ late = left table stands ∙ rw some in
         record {
           answered = r .answered table ∙ rw (first, same-late (family k) p, some);
           filled = rw (first, some);

@@ -1,7 +1,7 @@
 -- What writing leaves before the work area is cleared.
 --
 --   Answered x           the answer and the output where x is the first refusal, and the work area's length
---   Made                 those of writing
+--   Made, MadeUnder      those of writing; under every table with these bytes, if loading gives it and if not
 --   lastRefusal          8, known only with a mesh's record
 --   Walked               whether the plan fits, and what the walk of its kind leaves then
 --   Unfit, Refused       a plan that does not fit, and the answer for it
@@ -9,7 +9,7 @@
 use Prim.Native.Nat.{ℕ, _*_, _≤_, _<_}
 use mathlib.Core.Path.{_≡_}
 use mathlib.Core.Logic.{_≢_}
-use mathlib.Core.Bool.{Bool, true, false, cond}
+use mathlib.Core.Bool.{Bool, true, false, not, cond}
 use mathlib.Core.List.{List}
 use lib.Dec.{eqb}
 use lib.ListN.{length}
@@ -18,7 +18,7 @@ use Rattle.model.specs.declared.Written.{Written}
 use Rattle.model.specs.Numbers.{firstRefusal, isPermutation}
 use Rattle.model.specs.Map.{Plan, darts, family, dartCountFits, fit}
 use Rattle.model.specs.Record.{recordOf}
-use Rattle.model.specs.Calls.{front, lastRefusals, writeRefusal, answerOf}
+use Rattle.model.specs.Calls.{front, tableRefused, lastRefusals, writeRefusal, answerOf}
 use Rattle.fitting.specs.Judged.{lateRefusal}
 use Rattle.tracing.specs.Tracing.{Sound, Fitting}
 use Rattle.laying.specs.Laid.{ToLay}
@@ -31,6 +31,9 @@ pub record Answered (x : ℕ) (t : Table) (k : ℕ) (p : Plan) (work out : List 
 
 abbrev pub Made : Table → ℕ → Plan → List ℕ → List ℕ → Written → List ℕ → List ℕ → Type 0
 Made t k p work out answer work′ out′ = Answered (writeRefusal t k p (length work) (length out)) t k p work out answer work′ out′
+
+abbrev pub MadeUnder : Bool → List ℕ → ℕ → Plan → List ℕ → List ℕ → Written → List ℕ → List ℕ → Type 0
+MadeUnder loaded bs k p work out answer work′ out′ = (t : Table) → loaded ≡ not (tableRefused t) → t .bytes ≡ bs → Made t k p work out answer work′ out′
 
 unfoldable pub lastRefusal : Table → ℕ → Plan → ℕ → ℕ
 lastRefusal t k p outLength = firstRefusal (lastRefusals t k p outLength)

@@ -11,7 +11,7 @@ ghost use Rattle.model.specs.Map.{dartCountFits};
 ghost use Rattle.model.specs.Calls.{Wrote};
 ghost use Rattle.work.specs.Area.{region};
 ghost use Rattle.mesh_writing.specs.Recorded.{Typed};
-ghost use Rattle.writing.specs.Made.{Made, LaidUnder, Walked, Unfit, Refused, Fits};
+ghost use Rattle.writing.specs.Made.{MadeUnder, LaidUnder, Walked, Unfit, Refused, Fits};
 
 // Whether the plan fits the kind; then what its record is made of is in the work area.
 fn walked(order: &[u16], root: u16, kind: u16, w: &mut [u16]) -> bool
@@ -80,9 +80,9 @@ fn laid(
 }
 
 // The answer and the output, before the work area is cleared.
-fn made<'a>(
-    bytes: &'a [u8],
-    inverse: &'a [u8],
+fn made(
+    loaded: bool,
+    bytes: &[u8],
     order: &[u16],
     root: u16,
     outside: u16,
@@ -90,11 +90,11 @@ fn made<'a>(
     w: &mut [u16],
     out: &mut [u8],
 ) -> Written
-    requires { ⌜ (length (now bytes) ≡ 243) × (length (now inverse) ≡ 256) ⌝ }
-    ensures { λ r. ⌜ Made (record { bytes = now (bytes .entry); inverse = now (inverse .entry) }) kind (record { rotation = now (order .entry); root = root; outside = outside })
+    requires { ⌜ length (now bytes) ≡ 243 ⌝ }
+    ensures { λ r. ⌜ MadeUnder loaded (now (bytes .entry)) kind (record { rotation = now (order .entry); root = root; outside = outside })
         (now (w .entry)) (now (out .entry)) r (now (w .exit)) (now (out .exit)) ⌝ }
 {
-    if !tables::is_loaded(bytes, inverse) {
+    if !loaded {
         return Written::Refused(19);
     }
     let good = write_checks::entries_good(order, w);
@@ -121,16 +121,9 @@ pub fn write(
     ensures { λ r. ⌜ Wrote table kind (record { rotation = now (order .entry); root = root; outside = outside })
         (now (work .entry)) (now (out .entry)) r (now (work .exit)) (now (out .exit)) ⌝ }
 {
-    let r = made(
-        &table.bytes,
-        &table.inverse,
-        order,
-        root,
-        outside,
-        kind,
-        work,
-        out,
-    );
+    let mut loaded = false;
+    let bytes = tables::bytes_of(table, &mut loaded);
+    let r = made(loaded, &bytes, order, root, outside, kind, work, out);
     work::clear(work);
     r
 }

@@ -17,10 +17,13 @@ abbrev table : tie.Start → Table
 table c = record { bytes = c .args .bytes .now; inverse = c .args .inverse .now }
 
 abbrev start : tie.After-refusal → tie.Start
-start c = c .before .before .before .before .before
+start c = c .before .before .before .before .before .before
+
+told : (c : tie.After-refusal) → let st = start c in c .refusal .result ≡ recordRefusal (table st) (st .args .«record» .now) (length (st .args .work .now))
+told c = c .refusal .ensures (table (start c)) (c .before .is-loaded .ensures)
 
 none : (c : tie.Else1) → let st = start (c .before) in recordRefusal (table st) (st .args .«record» .now) (length (st .args .work .now)) ≡ 0
-none c = sym (c .before .refusal .ensures) ∙ omega arith
+none c = sym (told (c .before)) ∙ omega arith
 
 clear : (c : tie.Else1) → let st = start (c .before) in Clear (table st) (st .args .«record» .now) (length (st .args .work .now))
 clear c = record-clear (table (start (c .before))) _ _ (none c)
@@ -29,7 +32,7 @@ kind : (c : tie.After-field) → c .field .result ≡ kindOf (start (c .before .
 kind c = c .field .ensures
 
 returns : tie.Need-returns
-returns c = verdict-early (table (start (c .before))) _ _ _ (c .before .refusal .ensures) (c .if1 .taken)
+returns c = verdict-early (table (start (c .before))) _ _ _ (told (c .before)) (c .if1 .taken)
 
 field-requires : tie.Need-field-requires
 field-requires c κs = let h = passes-long _ (clear c .passed) in omega arith
@@ -63,6 +66,7 @@ pub verdict-spec : {M : Type 1} → statement M
 verdict-spec =
     tie.close
     (tie.spec
+    (λ c κs. search needs)
     (λ c κs. search needs)
     returns
     field-requires

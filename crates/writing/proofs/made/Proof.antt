@@ -1,6 +1,6 @@
 use native.Mathlib.Omega.{arith}
-use mathlib.Core.Path.{_≡_, refl, sym, _∙_}
-use mathlib.Core.Bool.{false}
+use mathlib.Core.Path.{_≡_, sym, _∙_}
+use mathlib.Core.Bool.{false, not}
 use lib.ListN.{length}
 use borrow.Author.Tests.{not-true, not-false}
 use Rattle.model.specs.declared.Table.{Table}
@@ -13,16 +13,13 @@ use borrow.Author.Needs.{needs}
 use Rattle.writing.proofs.made.Statement.{statement}
 use Rattle.writing.proofs.made.Tie as tie
 
--- the table of the two arrays
-abbrev table : tie.Start → Table
-table c = record { bytes = c .args .bytes .now; inverse = c .args .inverse .now }
-
-stands : (c : tie.Else1) → tableRefused (table (c .before .before .before .before .before .before .before)) ≡ false
-stands c = not-true _ (sym (c .before .is-loaded .ensures) ∙ not-false _ (c .if1 .left))
+-- a table of which this is said
+stands : (c : tie.Else1) (t : Table) → c .before .before .before .before .before .args .loaded ≡ not (tableRefused t) → tableRefused t ≡ false
+stands c t told = not-true _ (sym told ∙ not-false _ (c .if1 .left))
 
 -- the early refusals are passed
 abbrev start : tie.Else2 → tie.Start
-start c = c .before .before .before .before .before .before .before .before .before .before .before .before .before
+start c = c .before .before .before .before .before .before .before .before .before .before .before
 
 passes : (c : tie.Else2) → let a = start c .args in
     earlyRefusal (a .kind) (record { rotation = a .order .now; root = a .root; outside = a .outside })
@@ -31,22 +28,20 @@ passes c = sym (c .before .early .ensures) ∙ c .if2 .left
 
 -- and the plan is walked
 begun : (c : tie.After-walked) →
-    let st = start (c .before .before) in
-    let a = st .args in
-    Begun (table st) (a .kind) (record { rotation = a .order .now; root = a .root; outside = a .outside }) (a .w .now) (a .out .now)
+    let a = start (c .before .before) .args in
+    Begun (a .kind) (record { rotation = a .order .now; root = a .root; outside = a .outside }) (a .w .now) (a .out .now)
     (c .before .before .before .before .before .before .entries-good .last .1 .0) (c .walked .last .1 .1 .1 .0) (c .walked .result)
 begun c = record {
-  stands = stands (c .before .before .before .before .before .before .before .before);
   kept = c .before .before .before .before .before .before .entries-good .kept .1 .0;
   passes = passes (c .before .before);
   walk = c .walked .ensures;
 }
 
-is-loaded-requires : tie.Need-is-loaded-requires
-is-loaded-requires c κs = search needs
+stood : (c : tie.After-walked) (t : Table) → start (c .before .before) .args .loaded ≡ not (tableRefused t) → tableRefused t ≡ false
+stood c = stands (c .before .before .before .before .before .before .before .before)
 
 returns : tie.Need-returns
-returns c = no-table (not-false _ (sym (c .before .is-loaded .ensures) ∙ not-true _ (c .if1 .taken)))
+returns c = λ t told same. no-table (not-false _ (sym told ∙ not-true _ (c .if1 .taken)))
 
 entries-good-requires : tie.Need-entries-good-requires
 entries-good-requires c κs = search needs
@@ -59,7 +54,8 @@ same-length c = search needs
 
 returns-2 : tie.Need-returns-2
 returns-2 c =
-    turned-away (stands (c .before .before .before .before .before .before)) (c .before .before .before .before .entries-good .kept .1 .0)
+    λ t told same.
+    turned-away (stands (c .before .before .before .before .before .before) t told) (c .before .before .before .before .entries-good .kept .1 .0)
     (c .before .early .ensures) (c .if2 .taken)
 
 walked-requires : tie.Need-walked-requires
@@ -80,12 +76,12 @@ same-length-2 c = search needs
 returns-3 : tie.Need-returns-3
 returns-3 c =
     let a = c .before .before .before .before .before .before .before in
-    made-refused (begun a) (not-true _ (c .before .before .before .before .if3 .taken)) _ _ (c .before .before .refused .ensures)
+    λ t told same. made-refused (begun a) (not-true _ (c .before .before .before .before .if3 .taken)) t (stood a t told) _ _ (c .before .before .refused .ensures)
 
 laid-requires : tie.Need-laid-requires
 laid-requires c κs =
     let a = c .before .before .before .before .before in
-    (start (a .before .before) .pre .0, walk-fits (begun a) (not-false _ (c .before .before .if3 .left)))
+    (start (a .before .before) .pre, walk-fits (begun a) (not-false _ (c .before .before .if3 .left)))
 
 same-length-3 : tie.Need-same-length-3
 same-length-3 c = search needs
@@ -96,14 +92,14 @@ same-length-4 c = search needs
 returns-4 : tie.Need-returns-4
 returns-4 c =
     let a = c .before .before .before .before .before .before .before .before .before .before in
-    made-laid (begun a) (not-false _ (c .before .before .before .before .before .before .before .if3 .left)) _ _ _
-    (c .before .before .before .before .laid .ensures (table (start (a .before .before))) refl)
+    λ t told same.
+    made-laid (begun a) (not-false _ (c .before .before .before .before .before .before .before .if3 .left)) t (stood a t told) _ _ _
+    (c .before .before .before .before .laid .ensures t same)
 
 pub made-spec : {M : Type 1} → statement M
 made-spec =
     tie.close
     (tie.spec
-    is-loaded-requires
     returns
     entries-good-requires
     early-requires

@@ -1,5 +1,5 @@
 use Prim.Native.Nat.{ℕ}
-use mathlib.Core.Path.{ap, _∙_}
+use mathlib.Core.Path.{_≡_, sym, ap, _∙_}
 use lib.ListN.{replicate}
 use Rattle.model.specs.Calls.{zeros, writeAnswer, writtenOutput}
 use borrow.Author.Needs.{needs}
@@ -9,17 +9,21 @@ use Rattle.writing.proofs.write.Tie as tie
 returns : tie.Need-returns
 unfolding zeros writeAnswer writtenOutput
 returns c =
-    let m = c .before .before .before .before .before .before .before .before .made in
+    let m = c .before .before .before .before .before .before .before .before in
+    let b = m .before .before .before .before in
+    let made = m .made .ensures (b .before .before .before .before .before .args .table) (b .bytes-of .ensures .1) (sym (b .bytes-of .ensures .0)) in
     record {
-      answered = m .ensures .answered;
-      filled = m .ensures .filled;
-      cleared = c .before .before .clear .ensures ∙ ap (λ (n : ℕ). replicate n 0) (m .ensures .kept);
+      answered = made .answered;
+      filled = made .filled;
+      cleared = c .before .before .clear .ensures ∙ ap (λ (n : ℕ). replicate n 0) (made .kept);
     }
 
 pub write-spec : {M : Type 1} → statement M
 write-spec =
     tie.close
     (tie.spec
+    (λ c κs. search needs)
+    (λ c. search needs)
     (λ c κs. search needs)
     (λ c κs. search needs)
     (λ c. search needs)

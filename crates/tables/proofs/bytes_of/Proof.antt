@@ -1,0 +1,17 @@
+use mathlib.Core.Path.{sym, ap, _∙_}
+use borrow.Author.Tests.{not-false}
+use Rattle.model.specs.declared.Table.{Table}
+use Rattle.model.specs.Groups.{loaded, standardTable}
+use Rattle.tables.proofs.Exact.{stands-standard}
+use borrow.Author.Needs.{needs}
+use Rattle.tables.proofs.bytes_of.Statement.{statement}
+use Rattle.tables.proofs.bytes_of.Tie as tie
+
+returns-2 : tie.Need-returns-2
+unfolding standardTable loaded
+returns-2 c =
+    let is = c .before .is-standard-table .ensures (not-false _ (c .if1 .left)) in
+    (c .before .before .numbers .ensures ∙ sym (ap (λ (t : Table). t .bytes) is), stands-standard _ is)
+
+pub bytes-of-spec : {M : Type 1} → statement M
+bytes-of-spec = tie.close (tie.spec (λ c κs. search needs) (λ c κs. search needs) (λ c κs. search needs) (λ c. search needs) returns-2)
