@@ -255,16 +255,24 @@ fn counts() {
     );
 }
 
-fn large() {
+fn large_ring() {
     let mut order = [0u16; 8192];
     turning(&mut order, 8191, 1);
     one(b"ring of 4096 trails", &order, 0, 1, 131072, 2056);
     one(b"ring of 4096 trails", &order, 0, 2, 131072, 2056);
     one(b"ring of 4096 trails", &order, 0, 4, 131072, 2056);
+}
+
+fn large_star() {
+    let mut order = [0u16; 8192];
     turning(&mut order, 2, 0);
     one(b"star of 4096 trails", &order, 0, 1, 131072, 2056);
     one(b"star of 4096 trails", &order, 0, 2, 131072, 2056);
     one(b"star of 4096 trails", &order, 0, 4, 131072, 2056);
+}
+
+fn large_loops() {
+    let mut order = [0u16; 8192];
     turning(&mut order, 1, 1);
     one(b"loops of 4096 trails", &order, 0, 2, 131072, 2056);
     one(b"loops of 4096 trails", &order, 0, 4, 131072, 2056);
@@ -292,7 +300,7 @@ fn any_plan() {
     one(b"order 3 2 4 5 1 0", &[3, 2, 4, 5, 1, 0], 0, 4, 96, 2056);
 }
 
-// Meshes: the triangle, the four of six trails, and plans that are none; 8 comes after all other refusals.
+// Meshes: the triangle, and the four of six trails.
 fn meshes() {
     let triangle = [5u16, 2, 1, 4, 3, 0];
     one(b"order 5 2 1 4 3 0", &triangle, 0, 3, 96, 2056);
@@ -329,6 +337,10 @@ fn meshes() {
         192,
         2056,
     );
+}
+
+// Plans that are no meshes; 8 comes after all other refusals.
+fn no_meshes() {
     one(b"order 0 1, output 0", &[0, 1], 0, 3, 32, 0);
     one(b"order 1 0, output 0", &[1, 0], 0, 3, 32, 0);
     one(
@@ -348,6 +360,10 @@ fn meshes() {
         96,
         0,
     );
+}
+
+fn short_mesh() {
+    let triangle = [5u16, 2, 1, 4, 3, 0];
     one(b"order 5 2 1 4 3 0, work area 95", &triangle, 0, 3, 95, 0);
     one(b"order 5 2 1 4 3 0, output 7", &triangle, 0, 3, 96, 7);
     one(b"order 5 2 1 4 3 0, output 8", &triangle, 0, 3, 96, 8);
@@ -362,7 +378,6 @@ fn outer(name: &[u8], order: &[u16], start: u16, outside: u16, kind: u16) {
 fn outsides() {
     let triangle = [5u16, 2, 1, 4, 3, 0];
     let spur = [0u16, 2, 5, 4, 3, 1];
-    let pair = [4u16, 2, 1, 0, 3, 5];
     outer(b"order 5 2 1 4 3 0, outside 0", &triangle, 0, 0, 0x101);
     outer(b"order 5 2 1 4 3 0, outside 1", &triangle, 0, 1, 0x101);
     outer(
@@ -374,6 +389,13 @@ fn outsides() {
     );
     outer(b"order 0 2 5 4 3 1, outside 2", &spur, 0, 2, 0x101);
     outer(b"order 0 2 5 4 3 1, outside 3", &spur, 0, 3, 0x101);
+}
+
+// The same in other kinds, and in one that ignores it.
+fn outsides_of_kinds() {
+    let triangle = [5u16, 2, 1, 4, 3, 0];
+    let pair = [4u16, 2, 1, 0, 3, 5];
+    let loop_alone = [1u16, 0];
     outer(b"order 4 2 1 0 3 5, outside 1", &pair, 0, 1, 0x102);
     outer(b"order 0 1, outside 1", &[0, 1], 0, 1, 0x102);
     outer(
@@ -383,8 +405,8 @@ fn outsides() {
         0,
         0x102,
     );
-    outer(b"order 1 0, outside 0", &[1, 0], 0, 0, 0x104);
-    outer(b"order 1 0, outside 1", &[1, 0], 0, 1, 0x104);
+    outer(b"order 1 0, outside 0", &loop_alone, 0, 0, 0x104);
+    outer(b"order 1 0, outside 1", &loop_alone, 0, 1, 0x104);
     outer(b"order 5 2 1 4 3 0, outside 6", &triangle, 0, 6, 1);
 }
 
@@ -404,9 +426,13 @@ fn no_outside() {
     outer(b"order 1 0, outside 0", &[1, 0], 0, 0, 0x101);
     outer(b"order 0 1, outside 0", &[0, 1], 0, 0, 0x101);
     outer(b"order 0 1, outside 0", &[0, 1], 0, 0, 0x103);
+}
+
+fn short_with_outside() {
+    let order = [1u16, 0];
     sheet(
         b"order 1 0, outside 2, work area 0, output 0",
-        &[1, 0],
+        &order,
         0,
         2,
         0x102,
@@ -415,7 +441,7 @@ fn no_outside() {
     );
     sheet(
         b"order 1 0, outside 1, output 8",
-        &[1, 0],
+        &order,
         0,
         1,
         0x104,
@@ -424,7 +450,7 @@ fn no_outside() {
     );
     sheet(
         b"order 1 0, outside 1, output 9",
-        &[1, 0],
+        &order,
         0,
         1,
         0x104,
@@ -451,12 +477,16 @@ fn large_outsides() {
 
 // How long each area is.
 fn areas() {
-    let triangle = [5u16, 2, 1, 4, 3, 0];
-    measured(b"order 5 2 1 4 3 0", &triangle, 96, 4097);
+    measured(b"order 5 2 1 4 3 0", &[5, 2, 1, 4, 3, 0], 96, 4097);
     measured(b"order 0 1", &[0, 1], 32, 4097);
     measured(b"order 1 0", &[1, 0], 32, 4097);
     measured(b"order 0 2 5 4 3 1", &[0, 2, 5, 4, 3, 1], 96, 4097);
     measured(b"order 4 2 1 0 3 5", &[4, 2, 1, 0, 3, 5], 96, 4097);
+}
+
+// Refusals 3, 6, 7, 9, 10, then 8.
+fn no_areas() {
+    let triangle = [5u16, 2, 1, 4, 3, 0];
     measured(b"order 0, work area 0, list 0", &[0], 0, 0);
     measured(b"order 1 1, work area 0, list 0", &[1, 1], 0, 0);
     measured(b"order 5 2 1 4 3 0, work area 95, list 0", &triangle, 95, 0);
@@ -482,13 +512,20 @@ fn main() {
     spur();
     any_plan();
     meshes();
+    no_meshes();
+    short_mesh();
     refused();
     short();
     counts();
-    large();
+    large_ring();
+    large_star();
+    large_loops();
     outsides();
+    outsides_of_kinds();
     no_outside();
+    short_with_outside();
     large_outsides();
     areas();
+    no_areas();
     large_areas();
 }
