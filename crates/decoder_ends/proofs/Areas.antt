@@ -1,6 +1,6 @@
 -- The parts of the work area, where d tree edges and o others are open: what stores and pops make of them. Assumes nothing.
 --
---   below-long, begun-long, opens-long   as many entries on the stacks as edges are open
+--   below-long, begun-long   as many entries on the stacks as edges are open
 --   below-none, begun-none   none where no edge is open
 --   dart-entered          a store into the rotation
 --   tree-pushed, open-pushed   the stores that push
@@ -43,10 +43,6 @@ module _ (m : ℕ) (w : List ℕ) where
     pub begun-long : length (areaOf m w d o .begun) ≡ o
     unfolding areaOf
     begun-long = length-stack (BEGUN * n) o w
-
-    pub opens-long : length (areaOf m w d o .opens) ≡ o
-    unfolding areaOf
-    opens-long = length-stack (OPENS * n) o w
 
     pub below-none : d ≡ 0 → areaOf m w d o .below ≡ []
     unfolding areaOf stack

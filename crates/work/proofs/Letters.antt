@@ -6,22 +6,20 @@
 --   is-down, is-up, is-first, is-second   which letter a code stands for
 --   length-letters     as many letters as darts
 --   letters-from       the word from position i on begins with the letter at i
---   letters-set-behind, stored   a store behind the letters leaves the word
---   stays-start, stays-then   nothing is stored; one change after the other
 use mathlib.Core.Path.{_≡_, refl, ap, _∙_}
 use mathlib.Core.List.{List, [], _∷_, map}
 use mathlib.Core.Logic.{_≢_}
 use Prim.Native.Nat.{ℕ, _+_, _*_, _≤_, _<_}
 use native.Mathlib.Numerals.{add-one}
 use native.Mathlib.Omega.{arith}
-use lib.ListN.{length, getD, set, drop, List·getD-map, length-map, length-set}
+use lib.ListN.{length, getD, drop, List·getD-map, length-map}
 use lib.Seq.{drop-cons}
 use borrow.Author.Tests.{ne-eqb}
 use Rattle.model.specs.Traversal.{Letter, down, up, first, second, code}
 use Rattle.work.specs.Map.{LETTERS, FACES}
 use Rattle.work.specs.Area.{region}
-use Rattle.work.proofs.Regions.{length-region, getD-region, region-set-other}
-use Rattle.work.specs.Letters.{toLetter, lettersIn, Stays}
+use Rattle.work.proofs.Regions.{length-region, getD-region}
+use Rattle.work.specs.Letters.{toLetter, lettersIn}
 
 -- ---- one code
 
@@ -67,18 +65,3 @@ module _ (n : ℕ) (w : List ℕ) where
   pub letters-from : (i : ℕ) → FACES * n ≤ length w → i < n
       → drop i (lettersIn n w) ≡ toLetter (getD w (LETTERS * n + i) 0) ∷ drop (i + 1) (lettersIn n w)
   letters-from i h l = let e = length-letters h in rw (add-one, ← letter-at i l) (drop-cons (lettersIn n w) i (toLetter 0) (omega arith))
-
-  pub letters-set-behind : (i x : ℕ) → FACES * n ≤ i → lettersIn n (set w i x) ≡ lettersIn n w
-  unfolding lettersIn
-  letters-set-behind i x h = ap (map toLetter) (region-set-other (LETTERS * n) n w i x (λ g. omega arith))
-
--- ---- what stays
-
-pub stays-start : (n : ℕ) (w : List ℕ) → Stays n w w
-stays-start n w = record { letters = refl; kept = refl }
-
-pub stays-then : (n : ℕ) (w w₁ w₂ : List ℕ) → Stays n w w₁ → Stays n w₁ w₂ → Stays n w w₂
-stays-then n w w₁ w₂ a b = record { letters = b .letters ∙ a .letters; kept = b .kept ∙ a .kept }
-
-pub stored : (n p x : ℕ) (w : List ℕ) → FACES * n ≤ p → Stays n w (set w p x)
-stored n p x w h = record { letters = letters-set-behind n w p x h; kept = length-set w p x }

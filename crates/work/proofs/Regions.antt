@@ -4,7 +4,6 @@
 --   region-region                       a region of a region
 --   region-is, region-split             a region by its end; a region in two adjacent ones
 --   region-set, region-set-other        a store inside the region, and outside it
---   region-front                        a store right before the entries from place t on of a part that has c of them and begins at a
 --   length-placed                       placing what fits keeps the length
 --   region-placed, region-placed-other  the region where it was placed, and one beside it
 --   placed-placed, placed-region        placing twice; placing what is there
@@ -24,8 +23,8 @@ use native.Mathlib.Decide.{decLe}
 use native.Mathlib.Omega.{arith}
 use lib.ListN.{length, getD, set, take, drop, length-append, length-drop, length-set, take-append-drop}
 use lib.Seq.{length-take-le, take-at, drop-at, take-take, take-add, drop-drop, drop-append-seam, getD-take, getD-drop}
-use lib.Seq.{set-append-left, drop-cons, append-snoc, take-set-lt, take-set-le, drop-set-add, drop-set-lt, take-nil}
-use lib.Seq.{sets, sets-eq, take-suc-set, getD-set-same, lt-length-set}
+use lib.Seq.{set-append-left, append-snoc, take-set-lt, take-set-le, drop-set-add, drop-set-lt, take-nil}
+use lib.Seq.{sets, sets-eq, take-suc-set}
 use Rattle.model.specs.Calls.{front}
 use Rattle.model.proofs.Stores.{set-append-right}
 use Rattle.work.specs.Area.{region, placed}
@@ -75,16 +74,6 @@ pub region-set-other : (a n : ℕ) (w : List ℕ) (i v : ℕ) → (a ≤ i → a
 unfolding region
 region-set-other a n w i v out =
     le-or a i (λ h. rw (region-is a n (set w i v), region-is a n w, take-set-le (a + n) w i v (out h))) (λ h. rw (drop-set-lt a w i v h))
-
-pub region-front : (a c t x : ℕ) (w : List ℕ) → 0 < t → t ≤ c → a + c ≤ length w
-    → region (a + (t - 1)) (c - (t - 1)) (set w (a + (t - 1)) x) ≡ x ∷ region (a + t) (c - t) w
-unfolding region
-region-front a c t x w o l h =
-    let p = a + (t - 1) in
-    let more : c - (t - 1) ≡ suc (c - t) = omega arith in
-    let next : a + t ≡ suc p = omega arith in
-    let fits : p < length w = omega arith in
-    rw (more, next, drop-cons (set w p x) p 0 (lt-length-set w p x fits), getD-set-same w p x 0 fits, drop-set-lt (suc p) w p x (omega arith))
 
 -- ---- what is placed
 

@@ -3,14 +3,12 @@
 --   toLetter x           the letter with the code x
 --   lettersIn n w        the word in the work area
 --   Coded n w            the entries that hold it are codes of letters
---   Stays n w w′         the word stays, and the area's length
 --   workBits, workLabels   the tree bits and the labels in the work area
 use Prim.Native.Nat.{ℕ, _*_, _/_}
 use mathlib.Core.Path.{_≡_}
 use mathlib.Core.Bool.{cond}
 use mathlib.Core.List.{List, map}
 use lib.Dec.{eqb}
-use lib.ListN.{length}
 use Rattle.model.specs.Traversal.{Letter, down, up, first, second, code}
 use Rattle.work.specs.Map.{LETTERS, BITS, LABELS}
 use Rattle.work.specs.Area.{region}
@@ -23,10 +21,6 @@ lettersIn n w = map toLetter (region (LETTERS * n) n w)
 
 abbrev pub Coded : ℕ → List ℕ → Type 0
 Coded n w = region (LETTERS * n) n w ≡ map code (lettersIn n w)
-
-pub record Stays (n : ℕ) (w w′ : List ℕ) : Type 0 where
-  pub letters : lettersIn n w′ ≡ lettersIn n w
-  pub kept : length w′ ≡ length w
 
 unfoldable pub workBits : ℕ → List ℕ → List ℕ
 workBits n w = region (BITS * n) n w
