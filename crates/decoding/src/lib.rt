@@ -15,7 +15,7 @@ ghost use Rattle.packing.specs.Groups.{undone};
 ghost use Rattle.coding.specs.Payloads.{decodePayload};
 ghost use Rattle.work.specs.Area.{region};
 ghost use Rattle.builder.specs.Decoded.{Answered};
-ghost use Rattle.decoding.specs.Planned.{RefusedUnder, Inverse, PlannedUnder, JudgedUnder, Verdict};
+ghost use Rattle.decoding.specs.Planned.{RefusedUnder, Handed, Inverse, PlannedUnder, JudgedUnder, VerdictUnder};
 use model::ReadBack;
 
 // The first of 19, 1, 2, 3, 5, 7 that concerns the record, with a work area of this length, under a table that loading gives or not; 0 if none does.
@@ -106,11 +106,10 @@ fn judge_mesh(inverse: &[u8], record: &[u8], w: &mut [u16]) -> ReadBack
 }
 
 // What reading answers where the output has room, for any record. The work area is not cleared.
-pub fn verdict<'a>(bytes: &'a [u8], inverse: &'a [u8], record: &[u8], work: &mut [u16]) -> ReadBack
-    requires { ⌜ (length (now bytes) ≡ 243) × (length (now inverse) ≡ 256) ⌝ }
-    ensures { λ r. ⌜ Verdict (record { bytes = now (bytes .entry); inverse = now (inverse .entry) }) (now («record» .entry)) (length (now (work .entry))) r ⌝ }
+pub fn verdict(loaded: bool, inverse: &[u8], record: &[u8], work: &mut [u16]) -> ReadBack
+    requires { ⌜ Handed loaded (now inverse) ⌝ }
+    ensures { λ r. ⌜ VerdictUnder loaded (now (inverse .entry)) (now («record» .entry)) (length (now (work .entry))) r ⌝ }
 {
-    let loaded = tables::is_loaded(bytes, inverse);
     let e = refusal(loaded, record, work.len());
     if e != 0 {
         return ReadBack::Refused(e);

@@ -2,7 +2,6 @@
 --
 --   MeshPlanned t r out answer out′   the standard plan of the record r stands at the front of the output out′, or no fit plan has this record
 --   MeshUnder inv r out answer out′   reading goes so under every table with this inverse
---   Handed loaded inv    inv is a table's inverse, and loading gives that table or not
 --   ReadsUnder loaded inv r workLength out answer out′   what reading promises under every such table
 use Prim.Native.Nat.{ℕ}
 use mathlib.Core.Path.{_≡_}
@@ -23,9 +22,6 @@ pub data MeshPlanned (t : Table) (r out : List ℕ) (answer : ReadBack) (out′ 
 
 abbrev pub MeshUnder : List ℕ → List ℕ → List ℕ → ReadBack → List ℕ → Type 0
 MeshUnder inv r out answer out′ = (t : Table) → tableRefused t ≡ false → t .inverse ≡ inv → MeshPlanned t r out answer out′
-
-abbrev pub Handed : Bool → List ℕ → Type 0
-Handed loaded inv = (t : Table) × (loaded ≡ not (tableRefused t)) × (t .inverse ≡ inv)
 
 abbrev pub ReadsUnder : Bool → List ℕ → List ℕ → ℕ → List ℕ → ReadBack → List ℕ → Type 0
 ReadsUnder loaded inv r workLength out answer out′ = (t : Table) → loaded ≡ not (tableRefused t) → t .inverse ≡ inv → Reads t r workLength out answer out′

@@ -6,8 +6,8 @@ ghost use Prim.Native.Nat.{_*_, _≤_};
 ghost use lib.ListN.{length};
 ghost use Rattle.model.specs.Shelf.{kindOf, edgesOf, passes};
 ghost use Rattle.model.specs.Calls.{ReadCall};
-ghost use Rattle.decoding.specs.Planned.{Inverse};
-ghost use Rattle.reading.specs.Planned.{MeshUnder, Handed, ReadsUnder};
+ghost use Rattle.decoding.specs.Planned.{Handed, Inverse};
+ghost use Rattle.reading.specs.Planned.{MeshUnder, ReadsUnder};
 use model::ReadBack;
 use model::Table;
 
@@ -62,8 +62,8 @@ fn read_out(
 pub fn read(table: Table, record: &[u8], work: &mut [u16], out: &mut [u16]) -> ReadBack
     ensures { λ r. ⌜ ReadCall table (now («record» .entry)) (now (work .entry)) (now (out .entry)) r (now (work .exit)) (now (out .exit)) ⌝ }
 {
-    let mut loaded = false;
-    let inverse = tables::inverse_of(table, &mut loaded);
+    let loaded = tables::is_loaded(table);
+    let inverse = table.inverse;
     let r = read_out(loaded, &inverse, record, work, out);
     work::clear(work);
     r

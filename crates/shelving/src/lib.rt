@@ -14,7 +14,9 @@ pub fn shelve(
 ) -> Shelved
     ensures { λ r. ⌜ Stored table (now («record» .entry)) (now (work .entry)) (now (shelf .entry)) used r (now (work .exit)) (now (shelf .exit)) ⌝ }
 {
-    let verdict = decoding::verdict(&table.bytes, &table.inverse, record, work);
+    let loaded = tables::is_loaded(table);
+    let inverse = table.inverse;
+    let verdict = decoding::verdict(loaded, &inverse, record, work);
     work::clear(work);
     let ReadBack::Refused(number) = verdict else {
         return placing::place(record, shelf, used);

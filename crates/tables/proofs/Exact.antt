@@ -7,7 +7,7 @@
 --   inverse-is, standard-is   the lists that have these entries
 --   test-exact           what is tested says that loading gives the table
 --   loaded-leads, loaded-marks   a table that loading gives passes both parts
---   told-marks, told-all, told-standard, stands-standard   what the test tells of a table
+--   told-marks, told-all, told-standard   what the test tells of a table
 use Prim.Native.Nat.{ℕ, zero, suc, _+_, _≤_, _<_}
 use native.Mathlib.Numerals.{add-one}
 use native.Mathlib.Omega.{arith}
@@ -122,19 +122,16 @@ inverse-is inv wide entries = ext-getD 0 inv _ (wide ∙ sym (inverse-long _)) (
     entry b h = entries b h ∙ lt-or-le b 243 (λ l. sym (entry-low b l) ∙ sym (at b l)) (λ l. sym (entry-high b l) ∙ sym (past b l))
 
 -- the standard table's entries, as they are compared
-module _ (bs inv : List ℕ) (long : length bs ≡ 243) (wide : length inv ≡ 256)
-    (first : Alike (λ v. v) 0 224 bs) (first-inverse : Alike (λ v. v) 0 224 inv)
-    (last : Alike (λ v. v) 192 240 bs) (last-inverse : Alike standardEntry 208 256 inv) (three : Alike (λ v. v) 240 243 bs) where
-  own : (v : ℕ) → v < 243 → getD bs v 0 ≡ v
-  own v h = lt-or-le v 224 (λ l. first .alike v (omega arith) l)
-      (λ g. lt-or-le v 240 (λ l. last .alike v (omega arith) l) (λ m. three .alike v m h))
-
-  pub standard-is : (bs ≡ standardTable .bytes) × (inv ≡ standardTable .inverse)
-  unfolding standardTable loaded
-  standard-is = (
-    ext-getD 0 bs _ (long ∙ sym (length-tabulate (λ v. v) 0 243)) (λ i h. own i (omega arith) ∙ sym (tabulate-at (λ v. v) 243 i (omega arith))),
-    inverse-is inv wide (λ b h. lt-or-le b 224 (λ l. first-inverse .alike b (omega arith) l ∙ entry-low b (omega arith)) (λ g. last-inverse .alike b (omega arith) h)),
-  )
+pub standard-is : (bs inv : List ℕ) → length bs ≡ 243 → length inv ≡ 256 → Alike (λ v. v) 0 224 bs → Alike (λ v. v) 0 224 inv → Alike (λ v. v) 224 243 bs
+    → Alike standardEntry 224 256 inv → (bs ≡ standardTable .bytes) × (inv ≡ standardTable .inverse)
+unfolding standardTable loaded
+standard-is bs inv long wide first first-inverse last last-inverse = (
+  ext-getD 0 bs _ (long ∙ sym (length-tabulate (λ v. v) 0 243)) (λ i h. own i (omega arith) ∙ sym (tabulate-at (λ v. v) 243 i (omega arith))),
+  inverse-is inv wide (λ b h. lt-or-le b 224 (λ l. first-inverse .alike b (omega arith) l ∙ entry-low b (omega arith)) (λ g. last-inverse .alike b g h)),
+)
+  where
+    own : (v : ℕ) → v < 243 → getD bs v 0 ≡ v
+    own v h = lt-or-le v 224 (λ l. first .alike v (omega arith) l) (λ g. last .alike v g h)
 
 -- ---- how many bytes a list has
 
@@ -264,8 +261,5 @@ module _ (t : Table) where
       rw (table, inverse, same-refl (inverseOf (t .bytes)))
   told-all long bytes wide thirteen false d = unlike (λ stands. d .no refl (loaded-leads t stands))
 
-pub told-standard : (bs inv : List ℕ) → (bs ≡ standardTable .bytes) × (inv ≡ standardTable .inverse) → true ≡ not (tableRefused (record { bytes = bs; inverse = inv }))
-told-standard bs inv (b, i) = ap not (sym (ap₂ (λ (xs ys : List ℕ). tableRefused (record { bytes = xs; inverse = ys })) b i ∙ standard-stands))
-
-pub stands-standard : (t : Table) → t ≡ standardTable → true ≡ not (tableRefused t)
-stands-standard t e = ap not (sym (ap tableRefused e ∙ standard-stands))
+pub told-standard : (t : Table) → t ≡ standardTable → true ≡ not (tableRefused t)
+told-standard t e = ap not (sym (ap tableRefused e ∙ standard-stands))

@@ -66,28 +66,31 @@ fn first_places<'a>(bytes: &'a [u8], inverse: &'a [u8]) -> bool
     differ == 0
 }
 
-// The last entries are the standard table's, but for three of the bytes. Some are compared again, so that none is left over: 48 is 3 times 16.
-fn last_places<'a>(bytes: &'a [u8], inverse: &'a [u8]) -> bool
-    requires { ⌜ (length (now bytes) ≡ 243) × (length (now inverse) ≡ 256) ⌝ }
-    ensures { λ r. ⌜ (r ≡ true → Alike (λ v. v) 192 240 (now (bytes .entry)) × Alike standardEntry 208 256 (now (inverse .entry))) ⌝ }
+// So is each byte after them.
+fn last_bytes(bytes: &[u8]) -> bool
+    requires { ⌜ length (now bytes) ≡ 243 ⌝ }
+    ensures { λ r. ⌜ (r ≡ true → Alike (λ v. v) 224 243 (now (bytes .entry))) ⌝ }
 {
     let mut differ = 0u8;
-    let mut v = 192;
-    while v < 240 {
-        let here = v as u8;
-        let entry = standard_entry(here + 16);
-        differ = differ | ((bytes[v] ^ here) | (inverse[v + 16] ^ entry));
+    let mut v = 224;
+    while v < 243 {
+        differ = differ | (bytes[v] ^ (v as u8));
         v += 1;
     }
     differ == 0
 }
 
-// These three.
-fn last_bytes(bytes: &[u8]) -> bool
-    requires { ⌜ length (now bytes) ≡ 243 ⌝ }
-    ensures { λ r. ⌜ (r ≡ true → Alike (λ v. v) 240 243 (now (bytes .entry))) ⌝ }
+// The entries of the inverse after them are the standard table's.
+fn last_entries(inverse: &[u8]) -> bool
+    requires { ⌜ length (now inverse) ≡ 256 ⌝ }
+    ensures { λ r. ⌜ (r ≡ true → Alike standardEntry 224 256 (now (inverse .entry))) ⌝ }
 {
-    let differ = (bytes[240] ^ 240) | ((bytes[241] ^ 241) | (bytes[242] ^ 242));
+    let mut differ = 0u8;
+    let mut b = 224;
+    while b < 256 {
+        differ = differ | (inverse[b] ^ standard_entry(b as u8));
+        b += 1;
+    }
     differ == 0
 }
 
@@ -99,10 +102,10 @@ fn is_standard<'a>(bytes: &'a [u8], inverse: &'a [u8]) -> bool
     if !first_places(bytes, inverse) {
         return false;
     }
-    if !last_places(bytes, inverse) {
+    if !last_bytes(bytes) {
         return false;
     }
-    last_bytes(bytes)
+    last_entries(inverse)
 }
 
 // The entry of the inverse at each value's byte is that value.
@@ -132,15 +135,27 @@ fn leads_all_back<'a>(bytes: &'a [u8], inverse: &'a [u8]) -> bool
     leads_back(bytes, inverse)
 }
 
-// The same; the standard table is told in fewer steps.
-pub fn is_loaded<'a>(bytes: &'a [u8], inverse: &'a [u8]) -> bool
-    requires { ⌜ (length (now bytes) ≡ 243) × (length (now inverse) ≡ 256) ⌝ }
-    ensures { λ r. ⌜ r ≡ not (tableRefused (record { bytes = now (bytes .entry); inverse = now (inverse .entry) })) ⌝ }
+// The two tests of a table that is handed over by value. The standard table is told by entries at known places, so that no copy of it is made.
+fn is_standard_table(table: Table) -> bool
+    ensures { λ r. ⌜ (r ≡ true → table ≡ standardTable) ⌝ }
 {
-    if is_standard(bytes, inverse) {
+    is_standard(&table.bytes, &table.inverse)
+}
+
+fn is_own_table(table: Table) -> bool
+    ensures { λ r. ⌜ r ≡ not (tableRefused table) ⌝ }
+{
+    leads_all_back(&table.bytes, &table.inverse)
+}
+
+// Loading gives the table. The standard one is told in fewer steps.
+pub fn is_loaded(table: Table) -> bool
+    ensures { λ r. ⌜ r ≡ not (tableRefused table) ⌝ }
+{
+    if is_standard_table(table) {
         return true;
     }
-    leads_all_back(bytes, inverse)
+    is_own_table(table)
 }
 
 // ---- loading
@@ -192,14 +207,15 @@ pub fn load(bytes: &[u8], refusal: &mut u16) -> Table
     }
     let own = copied(bytes);
     let inverse = inverted(&own);
-    if !is_loaded(&own, &inverse) {
+    let table = Table {
+        bytes: own,
+        inverse,
+    };
+    if !is_loaded(table) {
         return no_table(refusal);
     }
     *refusal = 0;
-    Table {
-        bytes: own,
-        inverse,
-    }
+    table
 }
 
 // 0, 1, .., 242.
@@ -222,60 +238,6 @@ pub fn standard() -> Table
     let bytes = numbers();
     let inverse = inverted(&bytes);
     Table { bytes, inverse }
-}
-
-// The entries of its inverse.
-fn standard_inverse() -> [u8; 256]
-    ensures { λ r. ⌜ r ≡ standardTable .inverse ⌝ }
-{
-    let mut entries = [0u8; 256];
-    let mut b = 0;
-    while b < 256 {
-        entries[b] = standard_entry(b as u8);
-        b += 1;
-    }
-    entries
-}
-
-// ---- a table that a call is handed
-
-// The two tests on a table that is handed over by value: the entries that the first compares stand at known places, so that it makes no copy.
-fn is_standard_table(table: Table) -> bool
-    ensures { λ r. ⌜ (r ≡ true → table ≡ standardTable) ⌝ }
-{
-    is_standard(&table.bytes, &table.inverse)
-}
-
-fn is_own_table(table: Table) -> bool
-    ensures { λ r. ⌜ r ≡ not (tableRefused table) ⌝ }
-{
-    leads_all_back(&table.bytes, &table.inverse)
-}
-
-// The inverse of a table, and whether loading gives the table. The standard table's inverse is made anew.
-pub fn inverse_of(table: Table, loaded: &mut bool) -> [u8; 256]
-    ensures { λ r. ⌜ (r ≡ table .inverse) × (now (loaded .exit) ≡ not (tableRefused table)) ⌝ }
-{
-    let mut inverse = standard_inverse();
-    *loaded = true;
-    if !is_standard_table(table) {
-        *loaded = is_own_table(table);
-        inverse = table.inverse;
-    }
-    inverse
-}
-
-// Its bytes in the same way.
-pub fn bytes_of(table: Table, loaded: &mut bool) -> [u8; 243]
-    ensures { λ r. ⌜ (r ≡ table .bytes) × (now (loaded .exit) ≡ not (tableRefused table)) ⌝ }
-{
-    let mut bytes = numbers();
-    *loaded = true;
-    if !is_standard_table(table) {
-        *loaded = is_own_table(table);
-        bytes = table.bytes;
-    }
-    bytes
 }
 
 // ---- groups under a table

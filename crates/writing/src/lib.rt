@@ -121,8 +121,8 @@ pub fn write(
     ensures { λ r. ⌜ Wrote table kind (record { rotation = now (order .entry); root = root; outside = outside })
         (now (work .entry)) (now (out .entry)) r (now (work .exit)) (now (out .exit)) ⌝ }
 {
-    let mut loaded = false;
-    let bytes = tables::bytes_of(table, &mut loaded);
+    let loaded = tables::is_loaded(table);
+    let bytes = table.bytes;
     let r = made(loaded, &bytes, order, root, outside, kind, work, out);
     work::clear(work);
     r

@@ -1,4 +1,4 @@
-use mathlib.Core.Path.{_≡_, ap, _∙_}
+use mathlib.Core.Path.{_≡_, refl, ap, _∙_}
 use Prim.Native.Nat.{ℕ}
 use lib.ListN.{length, replicate}
 use Rattle.model.specs.Calls.{zeros}
@@ -13,10 +13,10 @@ abbrev judged : tie.After-slice-known4 → tie.After-verdict
 judged c = c .before .before .before .before .before .before
 
 abbrev start : tie.After-verdict → tie.Start
-start c = c .before .before .before .before .before .before .before .before .before .before
+start c = c .before .before .before .before .before .before .before .before
 
-told : (c : tie.After-verdict) → let a = start c .args in Verdict (a .t1) (a .«record» .now) (length (a .work .now)) (c .verdict .result)
-told c = c .verdict .ensures
+told : (c : tie.After-verdict) → let a = start c .args in Verdict (a .table) (a .«record» .now) (length (a .work .now)) (c .verdict .result)
+told c = c .verdict .ensures _ (c .before .before .before .before .is-loaded .ensures) refl
 
 zeroed : (c : tie.After-slice-known4) → c .before .before .clear .last .0 ≡ zeros (start (judged c) .args .work .now)
 unfolding zeros
@@ -44,6 +44,8 @@ pub shelve-spec : {M : Type 1} → statement M
 shelve-spec =
     tie.close
     (tie.spec
+    (λ c κs. search needs)
+    (λ c. search needs)
     (λ c κs. search needs)
     (λ c κs. search needs)
     (λ c. search needs)

@@ -18,8 +18,8 @@ returns-3 c =
     let st = f .before .before .before in
     λ e.
     let first = f .first-places .ensures (not-false _ (l .before .if1 .left)) in
-    let last = l .last-places .ensures (not-false _ (c .before .if2 .left)) in
-    standard-is (st .args .bytes .now) (st .args .inverse .now) (st .pre .0) (st .pre .1) (first .0) (first .1) (last .0) (last .1) (c .last-bytes .ensures e)
+    let last = l .last-bytes .ensures (not-false _ (c .before .if2 .left)) in
+    standard-is (st .args .bytes .now) (st .args .inverse .now) (st .pre .0) (st .pre .1) (first .0) (first .1) last (c .last-entries .ensures e)
 
 pub is-standard-spec : {M : Type 1} → statement M
 is-standard-spec = tie.close (tie.spec (λ c κs. search needs) returns (λ c κs. search needs) returns-2 (λ c κs. search needs) returns-3)

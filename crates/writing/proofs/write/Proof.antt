@@ -1,5 +1,5 @@
 use Prim.Native.Nat.{ℕ}
-use mathlib.Core.Path.{_≡_, sym, ap, _∙_}
+use mathlib.Core.Path.{refl, ap, _∙_}
 use lib.ListN.{replicate}
 use Rattle.model.specs.Calls.{zeros, writeAnswer, writtenOutput}
 use borrow.Author.Needs.{needs}
@@ -10,8 +10,8 @@ returns : tie.Need-returns
 unfolding zeros writeAnswer writtenOutput
 returns c =
     let m = c .before .before .before .before .before .before .before .before in
-    let b = m .before .before .before .before in
-    let made = m .made .ensures (b .before .before .before .before .before .args .table) (b .bytes-of .ensures .1) (sym (b .bytes-of .ensures .0)) in
+    let l = m .before .before .before .before .before in
+    let made = m .made .ensures (l .before .before .before .before .args .table) (l .is-loaded .ensures) refl in
     record {
       answered = made .answered;
       filled = made .filled;
