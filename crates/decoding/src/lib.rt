@@ -36,16 +36,25 @@ pub fn refusal(loaded: bool, record: &[u8], work: usize) -> u16
     0
 }
 
-// The standard plan of a payload of this family, which is not 3, under the table with this inverse: whether there is one, and its rotation in the first 2m entries.
-fn decode(payload: &[u8], family: u16, inverse: &[u8], m: usize, w: &mut [u16]) -> bool
-    requires { ⌜ Sized family m (now payload) × (length (now inverse) ≡ 256) × (family ≢ 3) ⌝ }
+// The standard plan of a payload with labels, as `decode` has it. The inverse is handed down by value: it is copied only here.
+fn decode_labelled(payload: &[u8], family: u16, inverse: [u8; 256], m: usize, w: &mut [u16]) -> bool
+    requires { ⌜ Sized family m (now payload) × (family ≢ 3) × (family ≢ 4) ⌝ }
     requires { ⌜ 32 * m ≤ length (now w) ⌝ }
-    ensures { λ r. ⌜ Answered (decodePayload family m (undone (now (inverse .entry)) family m (now (payload .entry)))) (2 * m) r (now (w .exit)) ⌝ }
+    ensures { λ r. ⌜ Answered (decodePayload family m (undone inverse family m (now (payload .entry)))) (2 * m) r (now (w .exit)) ⌝ }
+{
+    decoder::decode(payload, family, &inverse, m, w)
+}
+
+// The standard plan of a payload of this family, which is not 3, under the table with this inverse: whether there is one, and its rotation in the first 2m entries.
+fn decode(payload: &[u8], family: u16, inverse: [u8; 256], m: usize, w: &mut [u16]) -> bool
+    requires { ⌜ Sized family m (now payload) × (family ≢ 3) ⌝ }
+    requires { ⌜ 32 * m ≤ length (now w) ⌝ }
+    ensures { λ r. ⌜ Answered (decodePayload family m (undone inverse family m (now (payload .entry)))) (2 * m) r (now (w .exit)) ⌝ }
 {
     if family == 4 {
         return letter_decoder::decode(payload, m, w);
     }
-    decoder::decode(payload, family, inverse, m, w)
+    decode_labelled(payload, family, inverse, m, w)
 }
 
 // x is the lowest dart of a face of the rotation in the first n entries.
@@ -75,9 +84,9 @@ fn outside_of(record: &[u8], kind: u16) -> u16
 
 // The standard plan of a record of a kind other than 3 whose head passes, in the first 2m entries of a work area with room, and its outside; or 13. The work
 // area is not cleared.
-pub fn read_core(inverse: &[u8], record: &[u8], w: &mut [u16]) -> ReadBack
-    requires { ⌜ Inverse (now inverse) × (passes (now «record») ≡ true) × (32 * edgesOf (now «record») ≤ length (now w)) × (kindOf (now «record») ≢ 3) ⌝ }
-    ensures { λ r. ⌜ PlannedUnder (now (inverse .entry)) (now («record» .entry)) r (now (w .exit)) ⌝ }
+pub fn read_core(inverse: [u8; 256], record: &[u8], w: &mut [u16]) -> ReadBack
+    requires { ⌜ Inverse inverse × (passes (now «record») ≡ true) × (32 * edgesOf (now «record») ≤ length (now w)) × (kindOf (now «record») ≢ 3) ⌝ }
+    ensures { λ r. ⌜ PlannedUnder inverse (now («record» .entry)) r (now (w .exit)) ⌝ }
 {
     let kind = heads::field(record, 2);
     let m = heads::field(record, 4);
@@ -93,12 +102,12 @@ pub fn read_core(inverse: &[u8], record: &[u8], w: &mut [u16]) -> ReadBack
 }
 
 // Whether a record of kind 3 whose head passes is a fit plan's. The word of the dual tells; the plan is not built.
-fn judge_mesh(inverse: &[u8], record: &[u8], w: &mut [u16]) -> ReadBack
-    requires { ⌜ Inverse (now inverse) × (passes (now «record») ≡ true) × (kindOf (now «record») ≡ 3) × (32 * edgesOf (now «record») ≤ length (now w)) ⌝ }
-    ensures { λ r. ⌜ JudgedUnder (now (inverse .entry)) (now («record» .entry)) r ⌝ }
+fn judge_mesh(inverse: [u8; 256], record: &[u8], w: &mut [u16]) -> ReadBack
+    requires { ⌜ Inverse inverse × (passes (now «record») ≡ true) × (kindOf (now «record») ≡ 3) × (32 * edgesOf (now «record») ≤ length (now w)) ⌝ }
+    ensures { λ r. ⌜ JudgedUnder inverse (now («record» .entry)) r ⌝ }
 {
     let m = heads::field(record, 4);
-    let found = mesh_reading::spell(&record[6..], inverse, m as usize, w);
+    let found = mesh_reading::spell(&record[6..], &inverse, m as usize, w);
     if !found {
         return ReadBack::Refused(13);
     }
@@ -106,9 +115,9 @@ fn judge_mesh(inverse: &[u8], record: &[u8], w: &mut [u16]) -> ReadBack
 }
 
 // What reading answers where the output has room, for any record. The work area is not cleared.
-pub fn verdict(loaded: bool, inverse: &[u8], record: &[u8], work: &mut [u16]) -> ReadBack
-    requires { ⌜ Handed loaded (now inverse) ⌝ }
-    ensures { λ r. ⌜ VerdictUnder loaded (now (inverse .entry)) (now («record» .entry)) (length (now (work .entry))) r ⌝ }
+pub fn verdict(loaded: bool, inverse: [u8; 256], record: &[u8], work: &mut [u16]) -> ReadBack
+    requires { ⌜ Handed loaded inverse ⌝ }
+    ensures { λ r. ⌜ VerdictUnder loaded inverse (now («record» .entry)) (length (now (work .entry))) r ⌝ }
 {
     let e = refusal(loaded, record, work.len());
     if e != 0 {

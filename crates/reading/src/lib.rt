@@ -12,13 +12,13 @@ use model::ReadBack;
 use model::Table;
 
 // The standard plan of a record of kind 3 whose head passes, in the output, or 13. The work area is not cleared.
-fn read_mesh(inverse: &[u8], record: &[u8], w: &mut [u16], out: &mut [u16]) -> ReadBack
-    requires { ⌜ Inverse (now inverse) × (passes (now «record») ≡ true) × (kindOf (now «record») ≡ 3) × (32 * edgesOf (now «record») ≤ length (now w))
+fn read_mesh(inverse: [u8; 256], record: &[u8], w: &mut [u16], out: &mut [u16]) -> ReadBack
+    requires { ⌜ Inverse inverse × (passes (now «record») ≡ true) × (kindOf (now «record») ≡ 3) × (32 * edgesOf (now «record») ≤ length (now w))
         × (2 * edgesOf (now «record») ≤ length (now out)) ⌝ }
-    ensures { λ r. ⌜ MeshUnder (now (inverse .entry)) (now («record» .entry)) (now (out .entry)) r (now (out .exit)) ⌝ }
+    ensures { λ r. ⌜ MeshUnder inverse (now («record» .entry)) (now (out .entry)) r (now (out .exit)) ⌝ }
 {
     let m = heads::field(record, 4);
-    let found = mesh_reading::read(&record[6..], inverse, m as usize, w, out);
+    let found = mesh_reading::read(&record[6..], &inverse, m as usize, w, out);
     if !found {
         return ReadBack::Refused(13);
     }
@@ -28,13 +28,13 @@ fn read_mesh(inverse: &[u8], record: &[u8], w: &mut [u16], out: &mut [u16]) -> R
 // The refusals of the record, 8, then 13, then the plan to the output.
 fn read_out(
     loaded: bool,
-    inverse: &[u8],
+    inverse: [u8; 256],
     record: &[u8],
     work: &mut [u16],
     out: &mut [u16],
 ) -> ReadBack
-    requires { ⌜ Handed loaded (now inverse) ⌝ }
-    ensures { λ r. ⌜ ReadsUnder loaded (now (inverse .entry)) (now («record» .entry)) (length (now (work .entry))) (now (out .entry)) r (now (out .exit)) ⌝ }
+    requires { ⌜ Handed loaded inverse ⌝ }
+    ensures { λ r. ⌜ ReadsUnder loaded inverse (now («record» .entry)) (length (now (work .entry))) (now (out .entry)) r (now (out .exit)) ⌝ }
 {
     let e = decoding::refusal(loaded, record, work.len());
     if e != 0 {
@@ -64,7 +64,7 @@ pub fn read(table: Table, record: &[u8], work: &mut [u16], out: &mut [u16]) -> R
 {
     let loaded = tables::is_loaded(table);
     let inverse = table.inverse;
-    let r = read_out(loaded, &inverse, record, work, out);
+    let r = read_out(loaded, inverse, record, work, out);
     work::clear(work);
     r
 }

@@ -16,7 +16,7 @@ pub fn shelve(
 {
     let loaded = tables::is_loaded(table);
     let inverse = table.inverse;
-    let verdict = decoding::verdict(loaded, &inverse, record, work);
+    let verdict = decoding::verdict(loaded, inverse, record, work);
     work::clear(work);
     let ReadBack::Refused(number) = verdict else {
         return placing::place(record, shelf, used);

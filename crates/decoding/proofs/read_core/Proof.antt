@@ -13,7 +13,7 @@ use Rattle.model.proofs.Heads.{passes-facts}
 use Rattle.coding.specs.Payloads.{decodeRecord}
 use Rattle.builder.specs.Decoded.{Answered}
 use Rattle.decoding.proofs.Payloads.{head-in, family-other, payload-sized, record-decoded}
-use Rattle.decoding.proofs.Outcomes.{under, inverse-wide, core-unreadable, face-asked, core-read, core-unsound}
+use Rattle.decoding.proofs.Outcomes.{under, core-unreadable, face-asked, core-read, core-unsound}
 use borrow.Author.Needs.{needs}
 use Rattle.decoding.proofs.read_core.Statement.{statement}
 use Rattle.decoding.proofs.read_core.Tie as tie
@@ -23,11 +23,11 @@ use Rattle.decoding.proofs.read_core.Tie as tie
 whole-head : (c : tie.Start) → 6 ≤ length (c .args .«record» .now)
 whole-head c = passes-facts _ (c .pre .1) .whole-head
 
-bytes : (c : tie.After-slice-known) → allBelow 256 (c .before .before .before .args .«record» .now) ≡ true
-bytes c = all-below 256 _ (λ i h. omega (arith, c .before .shared-slice-known2 .given i))
+bytes : (c : tie.After-slice-known) → allBelow 256 (c .before .before .args .«record» .now) ≡ true
+bytes c = all-below 256 _ (λ i h. omega (arith, c .before .shared-slice-known .given i))
 
 abbrev start : tie.After-head-length → tie.Start
-start c = c .before .before .before .before .before .before
+start c = c .before .before .before .before .before
 
 head : (c : tie.After-head-length) → let r = start c .args .«record» .now in (c .head-length .result ≡ headLength (kindOf r)) × (c .head-length .result ≤ length r)
 head c =
@@ -36,10 +36,10 @@ head c =
     (e, omega arith)
 
 field-requires : tie.Need-field-requires
-field-requires c κs = let h = whole-head (c .before .before .before) in omega arith
+field-requires c κs = let h = whole-head (c .before .before) in omega arith
 
 field-requires-2 : tie.Need-field-requires-2
-field-requires-2 c κs = let h = whole-head (c .before .before .before .before) in omega arith
+field-requires-2 c κs = let h = whole-head (c .before .before .before) in omega arith
 
 -- ---- the payload
 
@@ -61,12 +61,12 @@ decode-requires c κs =
     let st = start h in
     let m-is = h .before .field2 .ensures in
     let room = st .pre .2 in (
-      (payload-sized _ (st .pre .1) _ _ _ (family-is (c .before)) m-is (head h .0), inverse-wide _ (st .pre .0), (λ three. family-other _ (st .pre .1) (st .pre .3) (sym (family-is (c .before)) ∙ three))),
+      (payload-sized _ (st .pre .1) _ _ _ (family-is (c .before)) m-is (head h .0), (λ three. family-other _ (st .pre .1) (st .pre .3) (sym (family-is (c .before)) ∙ three))),
       omega arith,
     )
 
 decoded : (c : tie.After-decode) → let a = start (c .before .before .before .before) .args in let r = a .«record» .now in
-    Answered (decodeRecord (a .inverse .now) r) (2 * edgesOf r) (c .decode .result) (c .decode .last .1 .1 .1 .1 .0)
+    Answered (decodeRecord (a .inverse) r) (2 * edgesOf r) (c .decode .result) (c .decode .last .1 .1 .1 .1 .0)
 decoded c =
     let h = c .before .before .before .before in
     record-decoded _ (start h .pre .1) _ _ _ (family-is (c .before .before)) (h .before .field2 .ensures) (head h .0) _ _ _ (c .decode .ensures)

@@ -11,7 +11,7 @@ unfolding zeros
 returns c =
     let o = c .before .before .before .before .before .before .before .before in
     record {
-      outcome = o .read-out .ensures _ (o .before .before .before .before .before .is-loaded .ensures) refl;
+      outcome = o .read-out .ensures _ (o .before .before .before .before .is-loaded .ensures) refl;
       cleared = c .before .before .clear .ensures ∙ ap (λ (n : ℕ). replicate n 0) (o .read-out .kept .1 .1 .1 .0);
     }
 
@@ -20,7 +20,6 @@ read-spec =
     tie.close
     (tie.spec
     (λ c κs. search needs)
-    (λ c. search needs)
     (λ c κs. search needs)
     (λ c κs. search needs)
     (λ c. search needs)

@@ -20,35 +20,35 @@ use Rattle.reading.proofs.read_mesh.Tie as tie
 whole-head : (c : tie.Start) → 6 ≤ length (c .args .«record» .now)
 whole-head c = passes-facts _ (c .pre .1) .whole-head
 
-bytes : (c : tie.After-slice-known2) → allBelow 256 (c .before .before .before .before .args .«record» .now) ≡ true
-bytes c = all-below 256 _ (λ i h. omega (arith, c .before .before .shared-slice-known2 .given i))
+bytes : (c : tie.After-slice-known2) → allBelow 256 (c .before .before .before .args .«record» .now) ≡ true
+bytes c = all-below 256 _ (λ i h. omega (arith, c .before .before .shared-slice-known .given i))
 
 field-requires : tie.Need-field-requires
-field-requires c κs = let h = whole-head (c .before .before .before .before) in omega arith
+field-requires c κs = let h = whole-head (c .before .before .before) in omega arith
 
 sub-read : tie.Need-sub-read
-sub-read c = let h = whole-head (c .before .before .before .before .before) in omega arith
+sub-read c = let h = whole-head (c .before .before .before .before) in omega arith
 
 part-read-start : tie.Need-part-read-start
-part-read-start c = let h = whole-head (c .before .before .before .before .before) in omega arith
+part-read-start c = let h = whole-head (c .before .before .before .before) in omega arith
 
 read-requires : tie.Need-read-requires
 read-requires c κs =
-    let f = c .before .before .before in
-    let st = f .before .before .before .before .before in
+    let f = c .before .before .before .before in
+    let st = f .before .before .before .before in
     let p = st .pre in
     let size = f .field .ensures in
-    let (wide, some, few, short, room) = mesh-asked _ (p .1) _ size (st .args .inverse .now) (st .args .w .now) (inverse-wide _ (p .0)) (bytes (f .before)) (p .3) in
+    let (wide, some, few, short, room) = mesh-asked _ (p .1) _ size (st .args .t1) (st .args .w .now) (inverse-wide _ (p .0)) (bytes (f .before)) (p .3) in
     (wide, some, few, short, room, omega (arith, size, p .4))
 
 -- what is read of the payload is read of the record
 decoded : (c : tie.After-read) → let a = c .before .before .before .before .before .before .before .before .before .args in
-    MeshRead (decodeMeshRecord (a .inverse .now) (a .«record» .now)) (c .read .result) (a .out .now) (c .read .last .1 .1 .1 .1 .0)
+    MeshRead (decodeMeshRecord (a .t1) (a .«record» .now)) (c .read .result) (a .out .now) (c .read .last .1 .1 .1 .1 .0)
 decoded c =
-    let f = c .before .before .before .before in
-    let a = f .before .before .before .before .before .args in
+    let f = c .before .before .before .before .before in
+    let a = f .before .before .before .before .args in
     subst (λ (w : Found). MeshRead w (c .read .result) (a .out .now) (c .read .last .1 .1 .1 .1 .0))
-    (mesh-decoded _ (f .before .before .before .before .before .pre .1) _ (f .field .ensures) (a .inverse .now)) (c .read .ensures)
+    (mesh-decoded _ (f .before .before .before .before .pre .1) _ (f .field .ensures) (a .t1)) (c .read .ensures)
 
 returns : tie.Need-returns
 returns c =
@@ -59,8 +59,8 @@ returns c =
 returns-2 : tie.Need-returns-2
 returns-2 c =
     let d = c .before .before .before .before .before in
-    let f = d .before .before .before .before in
-    let p = f .before .before .before .before .before .pre in
+    let f = d .before .before .before .before .before in
+    let p = f .before .before .before .before .pre in
     λ t stands same.
     mesh-read t stands _ (p .2) _ _ _ (mesh-under t _ _ _ _ _ same (decoded d)) (p .1) (bytes (f .before)) (not-false _ (c .if1 .left)) _ (f .field .ensures)
 
@@ -71,6 +71,7 @@ read-mesh-spec =
     field-requires
     sub-read
     part-read-start
+    (λ c. search needs)
     (λ c. search needs)
     (λ c. search needs)
     read-requires

@@ -13,10 +13,10 @@ abbrev judged : tie.After-slice-known4 → tie.After-verdict
 judged c = c .before .before .before .before .before .before
 
 abbrev start : tie.After-verdict → tie.Start
-start c = c .before .before .before .before .before .before .before .before
+start c = c .before .before .before .before .before .before .before
 
 told : (c : tie.After-verdict) → let a = start c .args in Verdict (a .table) (a .«record» .now) (length (a .work .now)) (c .verdict .result)
-told c = c .verdict .ensures _ (c .before .before .before .before .is-loaded .ensures) refl
+told c = c .verdict .ensures _ (c .before .before .before .is-loaded .ensures) refl
 
 zeroed : (c : tie.After-slice-known4) → c .before .before .clear .last .0 ≡ zeros (start (judged c) .args .work .now)
 unfolding zeros
@@ -45,7 +45,6 @@ shelve-spec =
     tie.close
     (tie.spec
     (λ c κs. search needs)
-    (λ c. search needs)
     (λ c κs. search needs)
     (λ c κs. search needs)
     (λ c. search needs)
