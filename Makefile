@@ -36,7 +36,9 @@ all: tool ## proves and builds library and tool, and shelves the sample plans (t
 	$(TOOL) shelve $(SHELF) examples/*.plan
 	$(TOOL) verify $(SHELF)
 
+# `rt check` proves crates that do not need each other side by side, `rt staticlib` one after the other.
 $(PROVED)/libjurnadel.a: crates.txt $(shell find crates -type f)
+	rt check jurnadel
 	rt staticlib jurnadel
 	@touch $@
 

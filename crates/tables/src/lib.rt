@@ -207,15 +207,14 @@ pub fn load(bytes: &[u8], refusal: &mut u16) -> Table
     }
     let own = copied(bytes);
     let inverse = inverted(&own);
-    let table = Table {
-        bytes: own,
-        inverse,
-    };
-    if !is_loaded(table) {
+    if !leads_all_back(&own, &inverse) {
         return no_table(refusal);
     }
     *refusal = 0;
-    table
+    Table {
+        bytes: own,
+        inverse,
+    }
 }
 
 // 0, 1, .., 242.

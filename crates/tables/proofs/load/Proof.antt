@@ -7,9 +7,9 @@ use Rattle.tables.proofs.load.Statement.{statement}
 use Rattle.tables.proofs.load.Tie as tie
 
 -- the table of the bytes and their inverse
-made : (c : tie.After-inverted) → let t : Table = record { bytes = c .before .before .copied .result; inverse = c .inverted .result } in
-    t ≡ loaded (c .before .before .before .before .before .args .bytes .now)
-made c = made-loaded _ _ _ (c .before .before .copied .ensures) (c .inverted .ensures)
+made : (c : tie.After-leads-all-back) → let t : Table = record { bytes = c .before .before .before .before .before .copied .result; inverse = c .before .before .before .inverted .result } in
+    t ≡ loaded (c .before .before .before .before .before .before .before .before .args .bytes .now)
+made c = made-loaded _ _ _ (c .before .before .before .before .before .copied .ensures) (c .before .before .before .inverted .ensures)
 
 returns : tie.Need-returns
 returns c = load-short _ _ _ (c .before .before .if1 .taken) (c .no-table .ensures .0) (c .no-table .ensures .1)
@@ -17,10 +17,10 @@ returns c = load-short _ _ _ (c .before .before .if1 .taken) (c .no-table .ensur
 returns-2 : tie.Need-returns-2
 returns-2 c =
     let l = c .before .before .before in
-    load-equal _ _ _ _ (made (l .before)) _ (l .is-loaded .ensures) (c .before .before .if2 .taken) (c .no-table2 .ensures .0) (c .no-table2 .ensures .1)
+    load-equal _ _ _ _ (made l) _ (l .leads-all-back .ensures) (c .before .before .if2 .taken) (c .no-table2 .ensures .0) (c .no-table2 .ensures .1)
 
 returns-3 : tie.Need-returns-3
-returns-3 c = load-good _ _ _ _ (made (c .before .before)) _ (c .before .is-loaded .ensures) (c .if2 .left) refl refl
+returns-3 c = load-good _ _ _ _ (made (c .before)) _ (c .before .leads-all-back .ensures) (c .if2 .left) refl refl
 
 pub load-spec : {M : Type 1} → statement M
 load-spec =
@@ -31,6 +31,8 @@ load-spec =
     (λ c κs. search needs)
     (λ c. search needs)
     (λ c κs. search needs)
+    (λ c. search needs)
+    (λ c. search needs)
     (λ c κs. search needs)
     (λ c κs. search needs)
     returns-2
