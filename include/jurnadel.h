@@ -58,7 +58,7 @@ extern "C" {
 
 #define JURNADEL_VERSION_MAJOR 0
 #define JURNADEL_VERSION_MINOR 9
-#define JURNADEL_VERSION_PATCH 0
+#define JURNADEL_VERSION_PATCH 1
 #define JURNADEL_VERSION "0.9.1"
 
 /* ---- Sizes ------------------------------------------------------------------------ */
