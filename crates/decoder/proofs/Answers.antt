@@ -1,7 +1,7 @@
--- The loop over windows, and what the payload comes to: the letters read so far and the run from here give the word, and the darts entered so far and those to
+-- The loop over words of the cursor, and what the payload comes to: the letters read so far and the run from here give the word, and the darts entered so far and those to
 -- come its rotation. Assumes nothing.
 --
---   Running               what the loop keeps; k bits are read
+--   Running               what the loop keeps, at the cursor c
 --   running-start, running-asks, running-on, running-less   at its start, in a turn
 --   answer-stuck          the answer where the machine is stuck
 --   answer-end            the answer where all bits are read
@@ -30,16 +30,17 @@ use Rattle.work.proofs.Regions.{length-region}
 use Rattle.coding.specs.Payloads.{decodeLabelled}
 use Rattle.unpacker.specs.Unpacked.{labelsIn}
 use Rattle.unpacker.proofs.Payload.{one, of-kind, bits-room, bit-count, labels-small, labels-in-one, labels-in-two, labels-in-same}
+use Rattle.bit_cursor.specs.declared.Cursor.{Cursor}
+use Rattle.bit_cursor.specs.Cursors.{Labelled}
+use Rattle.bit_cursor.proofs.Cursors.{labelled-kept}
 use Rattle.builder.specs.Decoded.{Answered}
 use Rattle.builder.proofs.Linking.{linked-end, linked-whole}
 use Rattle.builder.proofs.Whole.{blank-area}
 use Rattle.decoder_ends.specs.declared.State.{State}
-use Rattle.decoder_turns.specs.declared.Window.{Window}
 use Rattle.decoder_turns.specs.declared.Outcome.{Outcome}
 use Rattle.decoder_turns.specs.declared.Outcome.the-variants.{Goes, Stuck}
-use Rattle.decoder_ends.specs.States.{Area, areaOf, areaAt, treesOf, upsOf, edgesOf, labelsOf, machineOf, machineAt, outcomeOf, outcomeAt, firstState}
+use Rattle.decoder_ends.specs.States.{Stage, stage, Area, areaOf, areaAt, treesOf, upsOf, edgesOf, labelsOf, machineOf, machineAt, outcomeOf, outcomeAt, firstStage}
 use Rattle.decoder_ends.specs.States.{Hangs, Fits}
-use Rattle.decoder_turns.specs.Turns.{Labelled}
 use Rattle.decoder_ends.specs.Ends.{Passed, Finished}
 use Rattle.decoder_turns.specs.Turns.{Turned}
 use Rattle.decoder_ends.proofs.Areas.{below-long, begun-long, below-none, begun-none, dart-entered}
@@ -47,12 +48,11 @@ use Rattle.decoder_ends.proofs.Letters.{something-left, finishing}
 use Rattle.decoder_ends.proofs.Moves.{none-passed, fewer-passed, more-passed}
 use Rattle.decoder_ends.proofs.Runs.{left-is, passed-less, passed-stuck}
 use Rattle.decoder_turns.proofs.Steps.{turned-goes, turned-stuck}
-use Rattle.decoder.proofs.Stretches.{labelled-kept}
 use Rattle.decoder.proofs.Openings.{first-dart}
 
 -- ---- the start
 
-fits-start : (m : ℕ) (w : List ℕ) → 1 ≤ m → m ≤ 4096 → 32 * m ≤ length w → Fits m w firstState
+fits-start : (m : ℕ) (w : List ℕ) → 1 ≤ m → m ≤ 4096 → 32 * m ≤ length w → Fits m w firstStage
 unfolding areaOf stack allBelow Hangs
 fits-start m w g h r = record {
   few-edges = h;
@@ -63,7 +63,7 @@ fits-start m w g h r = record {
   stacked = record { hangs = tt; here-in = omega arith; below-in = refl; begun-in = refl; opens-in = refl };
 }
 
-run-start : (m : ℕ) (bs ls w : List ℕ) → run (machineAt m bs ls w firstState 0 0) ≡ run (start bs ls)
+run-start : (m : ℕ) (bs ls w : List ℕ) → run (machineAt m bs ls w firstStage 0 0) ≡ run (start bs ls)
 unfolding machineOf areaOf stack start upsOf labelsOf allBelow
 run-start m bs ls w = run-raised 2 (start bs ls) (record { here-in = omega arith; below-in = refl; opens-in = refl }) (omega arith)
 
@@ -74,9 +74,9 @@ only-these (x ∷ xs) = ap (λ (r : List Letter). found (x ∷ r)) (append-nil x
 -- ---- the loop
 
 -- w₀ is the work area at the start
-pub record Running (f m : ℕ) (ps w₀ w : List ℕ) (s : State) (k : ℕ) : Type 0 where
-  pub passes : Passed 0 m (payloadBits m ps) (labelsIn f m ps w₀) w₀ firstState 0 0 s 0 k w
-  pub more : k < 2 * m
+pub record Running (f m : ℕ) (ps w₀ w : List ℕ) (s : State) (c : Cursor) : Type 0 where
+  pub passes : Passed 0 m (payloadBits m ps) (labelsIn f m ps w₀) w₀ firstStage 0 0 (stage (c .labels) s) 0 (c .bits) w
+  pub more : c .bits < 2 * m
 
 module _ (f m : ℕ) (ps w₀ : List ℕ) where
   abbrev bs : List ℕ
@@ -85,51 +85,64 @@ module _ (f m : ℕ) (ps w₀ : List ℕ) where
   abbrev ls : List ℕ
   ls = labelsIn f m ps w₀
 
-  pub running-start : 1 ≤ m → m ≤ 4096 → 32 * m ≤ length w₀ → Running f m ps w₀ w₀ firstState 0
-  running-start g h r = record { passes = none-passed m bs ls w₀ firstState 0 0 (fits-start m w₀ g h r); more = omega arith }
+  pub running-start : 1 ≤ m → m ≤ 4096 → 32 * m ≤ length w₀ → (s : State) (c : Cursor) → stage (c .labels) s ≡ firstStage → c .bits ≡ 0
+      → Running f m ps w₀ w₀ s c
+  running-start g h r s c p q = record {
+    passes = subst (λ (k : ℕ). Passed 0 m bs ls w₀ firstStage 0 0 (stage (c .labels) s) 0 k w₀) (sym q)
+        (subst (λ (z : Stage). Passed 0 m bs ls w₀ firstStage 0 0 z 0 0 w₀) (sym p) (none-passed m bs ls w₀ firstStage 0 0 (fits-start m w₀ g h r)));
+    more = omega arith;
+  }
 
-  answer-none : (w : List ℕ) → run (machineAt m bs ls w₀ firstState 0 0) ≡ none → Answered (decodeWord bs ls) (2 * m) false w
+  answer-none : (w : List ℕ) → run (machineAt m bs ls w₀ firstStage 0 0) ≡ none → Answered (decodeWord bs ls) (2 * m) false w
   answer-none w e = record {
     word-found = λ q. absurd (false≢true q);
     none-found = λ q. decodeWord-run bs ls ∙ sym (run-start m bs ls w₀) ∙ e;
   }
 
-  module _ (w : List ℕ) (s : State) (k : ℕ) (x : Running f m ps w₀ w s k) where
-    pub running-asks : Labelled f m ps w₀ → Labelled f m ps w × Fits m w s × (k < 2 * m)
+  module _ (w : List ℕ) (s : State) (c : Cursor) (x : Running f m ps w₀ w s c) where
+    abbrev S : Stage
+    S = stage (c .labels) s
+
+    pub running-asks : Labelled f m ps w₀ → Labelled f m ps w × Fits m w S × (c .bits < 2 * m)
     running-asks g = (labelled-kept f m ps w₀ w (x .passes .labels-kept) g, x .passes .fits, x .more)
 
     pub running-kept : length w ≡ length w₀
     running-kept = x .passes .kept
 
-    module _ (r : Outcome) (w′ : List ℕ) (y : Turned 1 m bs (labelsIn f m ps w) w s k r w′) where
-      here : Turned 1 m bs ls w s k r w′
-      here = subst (λ (zs : List ℕ). Turned 1 m bs zs w s k r w′) (labels-in-same f m ps w₀ w (x .passes .labels-kept)) y
+    module _ (r : Outcome) (w′ : List ℕ) (y : Turned 1 m bs (labelsIn f m ps w) w (c .labels) s (c .bits) r w′) where
+      here : Turned 1 m bs ls w (c .labels) s (c .bits) r w′
+      here =
+          subst (λ (zs : List ℕ). Turned 1 m bs zs w (c .labels) s (c .bits) r w′) (labels-in-same f m ps w₀ w (x .passes .labels-kept)) y
 
       pub answer-stuck : r ≡ Stuck → (u : List ℕ) → Answered (decodeWord bs ls) (2 * m) false u
       answer-stuck e u =
-          answer-none u (passed-stuck 0 m bs ls w₀ firstState 0 0 s 0 k w (x .passes) (turned-stuck 1 m bs ls w s k r w′ here e))
+          answer-none u
+          (passed-stuck 0 m bs ls w₀ firstStage 0 0 S 0 (c .bits) w (x .passes) (turned-stuck 1 m bs ls w (c .labels) s (c .bits) r w′ here e))
 
-      module _ (t : State) (l : ℕ) (d : Window) (e : r ≡ Goes t l d) where
-        gone : (l < 1) × Passed 1 m bs ls w s 0 k t l (d .at) w′
-        gone = turned-goes 1 m bs ls w s k r w′ here t l d e
+      module _ (t : State) (l : ℕ) (d : Cursor) (e : r ≡ Goes t l d) where
+        abbrev T : Stage
+        T = stage (d .labels) t
 
-        pub running-less : length bs - d .at + t .opens < length bs - k + s .opens
-        running-less = let z = passed-less 1 m bs ls w s 0 k t l (d .at) w′ (gone .1) in omega arith
+        gone : (l < 1) × Passed 1 m bs ls w S 0 (c .bits) T l (d .bits) w′
+        gone = turned-goes 1 m bs ls w (c .labels) s (c .bits) r w′ here t l d e
 
-        pub so-far : Passed 0 m bs ls w₀ firstState 0 0 t 0 (d .at) w′
+        pub running-less : length bs - d .bits + t .opens < length bs - c .bits + s .opens
+        running-less = let z = passed-less 1 m bs ls w S 0 (c .bits) T l (d .bits) w′ (gone .1) in omega arith
+
+        pub so-far : Passed 0 m bs ls w₀ firstStage 0 0 T 0 (d .bits) w′
         so-far =
             let z = gone .0 in let zero-left : l ≡ 0 = omega arith in
-            subst (λ (j : ℕ). Passed 0 m bs ls w₀ firstState 0 0 t j (d .at) w′) zero-left
-            (fewer-passed m bs ls w₀ firstState 0 0 1 t l (d .at) w′
-            (more-passed m bs ls w₀ firstState 0 0 0 s 0 k w (x .passes) 1 t l (d .at) w′ (gone .1)) 0 (omega arith))
+            subst (λ (j : ℕ). Passed 0 m bs ls w₀ firstStage 0 0 T j (d .bits) w′) zero-left
+            (fewer-passed m bs ls w₀ firstStage 0 0 1 T l (d .bits) w′
+            (more-passed m bs ls w₀ firstStage 0 0 0 S 0 (c .bits) w (x .passes) 1 T l (d .bits) w′ (gone .1)) 0 (omega arith))
 
-        pub running-on : d .at < 2 * m → Running f m ps w₀ w′ t (d .at)
+        pub running-on : d .bits < 2 * m → Running f m ps w₀ w′ t d
         running-on h = record { passes = so-far; more = h }
 
   -- ---- the end
 
   -- all bits are read
-  module _ (w : List ℕ) (s : State) (k : ℕ) (x : Passed 0 m bs ls w₀ firstState 0 0 s 0 k w) (g : Labelled f m ps w₀) (all : 2 * m ≤ k) where
+  module _ (w : List ℕ) (s : Stage) (k : ℕ) (x : Passed 0 m bs ls w₀ firstStage 0 0 s 0 k w) (g : Labelled f m ps w₀) (all : 2 * m ≤ k) where
     size : length bs ≡ 2 * m
     size = bit-count ps m (g .bits-room)
 
@@ -162,7 +175,7 @@ module _ (f m : ℕ) (ps w₀ : List ℕ) where
       unfolding v
       all-read =
           let p = x .read .paced in let z = turn-none (machineAt m bs ls w s 0 k) is-done in
-          let a = left-is m bs ls w₀ firstState 0 0 in let n = size in omega arith
+          let a = left-is m bs ls w₀ firstStage 0 0 in let n = size in omega arith
 
       begun : head (wordDarts 0 [] [] v) ≡ 0
       unfolding start
@@ -174,14 +187,14 @@ module _ (f m : ℕ) (ps w₀ : List ℕ) where
           ap (region 0 (2 * m)) (h .3)
           ∙ ap (λ (a : Area). a .rotation) (dart-entered m w (s .depth) (s .opens) (s .place) 0 (x .fits .place-in))
           ∙ sym (linked-end (s .place) (region 0 (2 * m) w))
-          ∙ x .read .built [] ∙ ap (outcomeAt m w₀ firstState) (append-nil v) ∙ rw clear (linked-whole (2 * m) v all-read begun)
+          ∙ x .read .built [] ∙ ap (outcomeAt m w₀ firstStage) (append-nil v) ∙ rw clear (linked-whole (2 * m) v all-read begun)
 
       found-word : Answered (decodeWord bs ls) (2 * m) true w′
       found-word = record { word-found = λ q. (v, decodeWord-run bs ls ∙ whole, plan-built); none-found = λ q. absurd (true≢false q) }
 
     pub answer-end : region 0 (2 * m) w₀ ≡ replicate (2 * m) 0 → (b : Bool) (w′ : List ℕ) → Finished m w s b w′ → Answered (decodeWord bs ls) (2 * m) b w′
     answer-end clear true w′ z = found-word clear w′ (z .ends refl)
-    answer-end clear false w′ z = answer-none w′ (passed-stuck 0 m bs ls w₀ firstState 0 0 s 0 k w x (stops (z .goes-on refl)))
+    answer-end clear false w′ z = answer-none w′ (passed-stuck 0 m bs ls w₀ firstStage 0 0 s 0 k w x (stops (z .goes-on refl)))
 
 -- ---- the payload
 

@@ -1,5 +1,5 @@
 // A payload of kind 1 or 2 decoded into the standard plan, in the lent work area, by a machine that reads tree bits and labels in step: its turns one after the
-// other, and the windows from which they read.
+// other, and where the cursor's word is filled anew.
 ghost use mathlib.Core.Path.{_≡_};
 ghost use mathlib.Core.Bool.{true};
 ghost use Prim.Native.Nat.{_+_, _*_, _≤_, _<_};
@@ -11,16 +11,17 @@ ghost use Rattle.work.specs.Area.{region};
 ghost use Rattle.coding.specs.Payloads.{decodeLabelled};
 ghost use Rattle.unpacker.specs.Unpacked.{labelsIn};
 ghost use Rattle.builder.specs.Decoded.{Answered};
-ghost use Rattle.decoder_ends.specs.States.{Fits};
-ghost use Rattle.decoder_turns.specs.Turns.{Labelled, Turned};
+ghost use Rattle.bit_cursor.specs.Cursors.{Labelled};
+ghost use Rattle.decoder_ends.specs.States.{stage, Fits};
+ghost use Rattle.decoder_turns.specs.Turns.{Turned};
+use bit_cursor::Cursor;
 use decoder_ends::State;
 use decoder_turns::Outcome;
-use decoder_turns::Window;
 
-// The bits of a window that are read: one less than count in it, since a turn may look at two.
+// The bits of a word that are read: one less than count in it, since a turn may look at two.
 const WINDOW: usize = 56;
 
-// Where the window from bit `at` on is left.
+// Where a word that is filled at bit `at` is left.
 fn window_end(m: usize, at: usize) -> usize
     requires { ⌜ (m ≤ 4096) × (at < 2 * m) ⌝ }
     ensures { λ r. ⌜ (at < r) × (r ≤ at + 56) × (r ≤ 2 * m) ⌝ }
@@ -32,22 +33,22 @@ fn window_end(m: usize, at: usize) -> usize
     2 * m
 }
 
-// The steps that read from one window, the first at bit `at`.
-fn stretch(payload: &[u8], family: u16, m: usize, w: &mut [u16], s: State, at: usize) -> Outcome
-    requires { ⌜ Labelled family m (now payload) (now w) × Fits m (now w) s × (at < 2 * m) ⌝ }
-    ensures { λ r. ⌜ Turned 1 m (payloadBits m (now (payload .entry))) (labelsIn family m (now (payload .entry)) (now (w .entry))) (now (w .entry)) s at r (now (w .exit)) ⌝ }
+// The steps that read from one word, the first at the cursor c, where it is filled.
+fn stretch(payload: &[u8], family: u16, m: usize, w: &mut [u16], s: State, c: Cursor) -> Outcome
+    requires { ⌜ Labelled family m (now payload) (now w) × Fits m (now w) (stage (c .labels) s) × (c .bits < 2 * m) ⌝ }
+    ensures { λ r. ⌜ Turned 1 m (payloadBits m (now (payload .entry))) (labelsIn family m (now (payload .entry)) (now (w .entry))) (now (w .entry)) (c .labels) s (c .bits) r
+        (now (w .exit)) ⌝ }
 {
-    let end = window_end(m, at);
-    let word = bit_window::from(payload, at);
+    let end = window_end(m, c.bits);
     let mut s = s;
-    let mut c = Window { word, at };
+    let mut c = c.filled(payload);
     loop {
         match decoder_turns::step(payload, family, m, w, s, c) {
             Outcome::Stuck => {
                 return Outcome::Stuck;
             }
             Outcome::Goes(t, l, d) => {
-                let next = d.at;
+                let next = d.bits;
                 if end <= next {
                     return Outcome::Goes(t, l, d);
                 }
@@ -65,25 +66,28 @@ fn run(payload: &[u8], family: u16, m: usize, w: &mut [u16]) -> bool
     ensures { λ r. ⌜ Answered (decodeWord (payloadBits m (now (payload .entry))) (labelsIn family m (now (payload .entry)) (now (w .entry)))) (2 * m) r (now (w .exit)) ⌝ }
 {
     let mut s = State {
-        edges: 0,
         here: 0,
         depth: 0,
         opens: 0,
         place: 0,
     };
-    let mut at = 0;
+    let mut c = Cursor {
+        word: 0,
+        bits: 0,
+        labels: 0,
+    };
     loop {
-        match stretch(payload, family, m, w, s, at) {
+        match stretch(payload, family, m, w, s, c) {
             Outcome::Stuck => {
                 return false;
             }
             Outcome::Goes(t, _, d) => {
-                let next = d.at;
+                let next = d.bits;
                 if 2 * m <= next {
-                    return decoder_ends::finish(w, m, t);
+                    return decoder_ends::finish(w, m, t, d.labels);
                 }
                 s = t;
-                at = next;
+                c = d;
             }
         }
     }

@@ -1,4 +1,4 @@
--- One turn of the machine in the code's terms: which area and state it leads to. s is the state before it, in the area a. Assumes nothing.
+-- One turn of the machine in the code's terms: which area and stage it leads to. s is the stage before it, in the area a. Assumes nothing.
 --
 --   low                   the names are lower than that of the next vertex
 --   none-read, more-read, fewer   no letter is read; more letters are read; fewer would do
@@ -25,12 +25,11 @@ use Rattle.machine.proofs.Runs.{after-after, run-stuck}
 use Rattle.naming.specs.Named.{entersAt, Low}
 use Rattle.naming.proofs.Named.{reads-on, reads-paced}
 use Rattle.builder.proofs.Linking.{linked-step}
-use Rattle.decoder_ends.specs.declared.State.{State}
-use Rattle.decoder_ends.specs.States.{Area, treesOf, upsOf, edgesOf, labelsOf, machineOf, outcomeOf, at, Stacked}
+use Rattle.decoder_ends.specs.States.{Stage, Area, treesOf, upsOf, edgesOf, labelsOf, machineOf, outcomeOf, at, Stacked}
 use Rattle.decoder_ends.specs.Ends.{Read}
 use Rattle.decoder_ends.proofs.Areas.{entered, pushedTree, pushedOpen}
 
-module _ (bs ls : List ℕ) (a : Area) (s : State) where
+module _ (bs ls : List ℕ) (a : Area) (s : Stage) where
   pub low : (l k : ℕ) → Stacked a s → Low (machineOf bs ls a s l k)
   unfolding machineOf
   low l k x = record { here-in = x .here-in; below-in = x .below-in; opens-in = x .begun-in }
@@ -40,12 +39,12 @@ module _ (bs ls : List ℕ) (a : Area) (s : State) where
   pub none-read : (l k : ℕ) → Read 0 bs ls a s l k s l k a
   none-read l k = record { letters = []; some = omega arith; answer = refl; paced = omega arith; built = λ v. refl }
 
-  module _ (p l k : ℕ) (t : State) (j i : ℕ) (b : Area) (x : Read p bs ls a s l k t j i b) where
+  module _ (p l k : ℕ) (t : Stage) (j i : ℕ) (b : Area) (x : Read p bs ls a s l k t j i b) where
     pub fewer : (q : ℕ) → q ≤ p → Read q bs ls a s l k t j i b
     fewer q h = let y = x .some in
         record { letters = x .letters; some = omega arith; answer = x .answer; paced = x .paced; built = x .built }
 
-    pub more-read : (q : ℕ) (u : State) (n r : ℕ) (c : Area) → Read q bs ls b t j i u n r c → Read (p + q) bs ls a s l k u n r c
+    pub more-read : (q : ℕ) (u : Stage) (n r : ℕ) (c : Area) → Read q bs ls b t j i u n r c → Read (p + q) bs ls a s l k u n r c
     more-read q u n r c y =
         let e = length-append (x .letters) (y .letters) in
         let g = x .some in let h = y .some in let c₁ = x .paced in let c₂ = y .paced in
@@ -58,7 +57,7 @@ module _ (bs ls : List ℕ) (a : Area) (s : State) where
         }
 
   -- a turn of the machine, where the next vertex is named n
-  read-turn : (l k : ℕ) (t : State) (j i : ℕ) (b : Area) → Stacked a s → (n : ℕ) (r : Machine) (v : List Letter) → 2 * s .edges + 2 ≤ n
+  read-turn : (l k : ℕ) (t : Stage) (j i : ℕ) (b : Area) → Stacked a s → (n : ℕ) (r : Machine) (v : List Letter) → 2 * s .edges + 2 ≤ n
       → turn (entersAt n (machineOf bs ls a s l k)) ≡ goes v r → r .n ≤ 2 * t .edges + 2 → entersAt (2 * t .edges + 2) r ≡ machineOf bs ls b t j i
       → ((u : List Letter) → outcomeOf b t u ≡ outcomeOf a s (v ++ u)) → Read 1 bs ls a s l k t j i b
   unfolding machineOf
@@ -150,7 +149,7 @@ module _ (bs ls : List ℕ) (a : Area) (s : State) where
 
 -- ---- an edge ends
 
-module _ (bs ls : List ℕ) (a : Area) (s : State) (d o k : ℕ) where
+module _ (bs ls : List ℕ) (a : Area) (s : Stage) (d o k : ℕ) where
   pub closing : (v x : ℕ) → Stacked (pushedOpen v x a) s → s .here < v
       → Read 1 bs ls (pushedOpen v x a) s 1 k (at (s .edges) (s .here) d o (2 * (x / 2) + 1)) (x % 2) k (entered (s .place) (2 * (x / 2) + 1) a)
   unfolding machineOf outcomeOf wordDarts placeOf labelsOf edgesOf

@@ -1,4 +1,4 @@
--- One turn in the work area: what is stored is what the machine reads. s is the state before it, which fits the work area w. Assumes nothing.
+-- One turn in the work area: what is stored is what the machine reads. s is the stage before it, which fits the work area w. Assumes nothing.
 --
 --   open-top              the edge outside the tree that was opened last is stacked in range
 --   tree-top              so is the tree edge
@@ -17,15 +17,15 @@ use Rattle.model.specs.LabelledTree.{star}
 use Rattle.model.proofs.Below.{below-cons, below-head, below-tail, below-mono}
 use Rattle.work.specs.Map.{BELOW, BEGUN, OPENS}
 use Rattle.unpacker.specs.Unpacked.{labelsAt}
-use Rattle.decoder_ends.specs.declared.State.{State}
-use Rattle.decoder_ends.specs.States.{Area, areaOf, areaAt, at, leafState, leafArea, backState, backArea, enterState, enterArea, Hangs, Stacked, Fits}
+use Rattle.decoder_ends.specs.States.{Stage, Area, areaOf, areaAt, at, leafStage, leafArea, backStage, backArea, enterStage, enterArea, Hangs, Stacked}
+use Rattle.decoder_ends.specs.States.{Fits}
 use Rattle.decoder_ends.specs.Ends.{Read, Passed}
 use Rattle.decoder_ends.proofs.Areas.{entered, pushedTree, pushedOpen, labels-beside, dart-entered, tree-pushed, open-pushed, tree-popped, open-popped}
 use Rattle.decoder_ends.proofs.Letters as letters
 
 -- ---- what is stacked stays in range
 
-module _ (a : Area) (s : State) (d o p q y : ℕ) where
+module _ (a : Area) (s : Stage) (d o p q y : ℕ) where
   stacked-closed : (v x : ℕ) → Stacked (pushedOpen v x a) s → Stacked (entered q y a) (at (s .edges) (s .here) d o p)
   stacked-closed v x h = record {
     hangs = h .hangs;
@@ -82,12 +82,12 @@ module _ (a : Area) (s : State) (d o p q y : ℕ) where
 
 -- ---- the turns
 
-module _ (m : ℕ) (w : List ℕ) (s : State) (f : Fits m w s) where
+module _ (m : ℕ) (w : List ℕ) (s : Stage) (f : Fits m w s) where
   abbrev e : ℕ
   e = s .edges
 
   -- the area before the turn and after it
-  passed : (bs ls : List ℕ) (p l k : ℕ) (t : State) (j i : ℕ) (w′ : List ℕ) (a b : Area) → areaAt m w s ≡ a → areaAt m w′ t ≡ b
+  passed : (bs ls : List ℕ) (p l k : ℕ) (t : Stage) (j i : ℕ) (w′ : List ℕ) (a b : Area) → areaAt m w s ≡ a → areaAt m w′ t ≡ b
       → Read p bs ls a s l k t j i b → Stacked b t → t .edges ≤ m → t .depth + t .opens ≤ t .edges → t .place < 2 * m → length w′ ≡ length w
       → labelsAt m w′ ≡ labelsAt m w → Passed p m bs ls w s l k t j i w′
   passed bs ls p l k t j i w′ a b x y r g n₁ n₂ n₃ kept same = record {
@@ -189,7 +189,7 @@ module _ (m : ℕ) (w : List ℕ) (s : State) (f : Fits m w s) where
     dart-in : (d o : ℕ) → areaOf m dart d o ≡ entered (s .place) (2 * e) (areaOf m w d o)
     dart-in d o = dart-entered m w d o (s .place) (2 * e) (f .place-in)
 
-    pub leafing : y ≡ star → Passed 1 m bs ls w s 0 k (leafState s) b (k + 2) (leafArea w s)
+    pub leafing : y ≡ star → Passed 1 m bs ls w s 0 k (leafStage s) b (k + 2) (leafArea w s)
     leafing h =
         let n = f .few-open in
         passed bs ls 1 0 k _ b (k + 2) _ _ _ refl
@@ -201,7 +201,7 @@ module _ (m : ℕ) (w : List ℕ) (s : State) (f : Fits m w s) where
         (labels-beside m dart (2 * e + 1) (2 * e + 1) (omega arith) ∙ dart-beside)
 
     module _ (h : y ≢ star) (small : y < 3) where
-      pub backing : b ≡ 0 → Passed 1 m bs ls w s 0 k (backState s) 0 (k + 2) (backArea m w s y)
+      pub backing : b ≡ 0 → Passed 1 m bs ls w s 0 k (backStage s) 0 (k + 2) (backArea m w s y)
       backing t =
           let n = f .few-open in let room = f .room in let long = dart-long in
           let i₁ = BEGUN * (2 * m) + s .opens in let i₂ = OPENS * (2 * m) + s .opens in
@@ -214,7 +214,7 @@ module _ (m : ℕ) (w : List ℕ) (s : State) (f : Fits m w s) where
           (labels-beside m (set dart i₁ (s .here)) i₂ (2 * e + y) (omega arith) ∙ labels-beside m dart i₁ (s .here) (omega arith) ∙ dart-beside)
 
       pub entering : b ≢ 0 → drop (k + 1) bs ≡ b ∷ drop (k + 2) bs
-          → Passed 1 m bs ls w s 0 k (enterState s y) 0 (k + 1) (enterArea m w s)
+          → Passed 1 m bs ls w s 0 k (enterStage s y) 0 (k + 1) (enterArea m w s)
       entering t r =
           let n = f .few-open in let room = f .room in let long = dart-long in
           let i₁ = BELOW * (2 * m) + s .depth in
@@ -228,11 +228,11 @@ module _ (m : ℕ) (w : List ℕ) (s : State) (f : Fits m w s) where
 
 -- ---- letters one after the other
 
-module _ (m : ℕ) (bs ls w : List ℕ) (s : State) (l k : ℕ) where
+module _ (m : ℕ) (bs ls w : List ℕ) (s : Stage) (l k : ℕ) where
   pub none-passed : Fits m w s → Passed 0 m bs ls w s l k s l k w
   none-passed f = record { read = letters.none-read bs ls (areaAt m w s) s l k; fits = f; kept = refl; labels-kept = refl }
 
-  module _ (p : ℕ) (t : State) (j i : ℕ) (w′ : List ℕ) (x : Passed p m bs ls w s l k t j i w′) where
+  module _ (p : ℕ) (t : Stage) (j i : ℕ) (w′ : List ℕ) (x : Passed p m bs ls w s l k t j i w′) where
     pub fewer-passed : (q : ℕ) → q ≤ p → Passed q m bs ls w s l k t j i w′
     fewer-passed q h = record {
       read = letters.fewer bs ls (areaAt m w s) s p l k t j i (areaAt m w′ t) (x .read) q h;
@@ -241,7 +241,7 @@ module _ (m : ℕ) (bs ls w : List ℕ) (s : State) (l k : ℕ) where
       labels-kept = x .labels-kept;
     }
 
-    pub more-passed : (q : ℕ) (u : State) (n r : ℕ) (w″ : List ℕ) → Passed q m bs ls w′ t j i u n r w″ → Passed (p + q) m bs ls w s l k u n r w″
+    pub more-passed : (q : ℕ) (u : Stage) (n r : ℕ) (w″ : List ℕ) → Passed q m bs ls w′ t j i u n r w″ → Passed (p + q) m bs ls w s l k u n r w″
     more-passed q u n r w″ y = record {
       read = letters.more-read bs ls (areaAt m w s) s p l k t j i (areaAt m w′ t) (x .read) q u n r (areaAt m w″ u) (y .read);
       fits = y .fits;

@@ -2,13 +2,11 @@
 // ended, and the traversal. An open edge is stacked with its label, and a vertex is named by what is stacked of the tree edge above it, so that later ones have
 // higher names. It knows no bits.
 ghost use Prim.Native.Nat.{_<_};
-ghost use Rattle.decoder_ends.specs.States.{Fits};
+ghost use Rattle.decoder_ends.specs.States.{stage, Fits, Standing};
 ghost use Rattle.decoder_ends.specs.Ends.{Ended, Finished};
 
-// Where the traversal stands: edges begun, the name of the present vertex, how many tree edges and how many others are open, and the dart whose entry is the
-// next dart.
+// Where the traversal stands: the name of the present vertex, how many tree edges and how many others are open, and the dart whose entry is the next dart.
 pub struct State {
-    pub edges: usize,
     pub here: u16,
     pub depth: usize,
     pub opens: usize,
@@ -25,10 +23,9 @@ pub enum Ending {
 
 // The edge outside the tree that was opened last ends here too, if this is a proper ancestor of where it began.
 fn close_last(w: &mut [u16], m: usize, s: State) -> Ending
-    requires { ⌜ Fits m (now w) s ⌝ }
+    requires { ⌜ Standing m (now w) s ⌝ }
     ensures { λ r. ⌜ Ended 1 2 m (now (w .entry)) s 1 r (now (w .exit)) ⌝ }
 {
-    let edges = s.edges;
     let here = s.here;
     let depth = s.depth;
     let opens = s.opens;
@@ -46,7 +43,6 @@ fn close_last(w: &mut [u16], m: usize, s: State) -> Ending
     let dart = x - label + 1;
     w[q] = dart;
     let t = State {
-        edges,
         here,
         depth,
         opens: top,
@@ -57,7 +53,7 @@ fn close_last(w: &mut [u16], m: usize, s: State) -> Ending
 
 // An edge of this label has ended: edges outside the tree end while it is 1.
 pub fn close_all(w: &mut [u16], m: usize, s: State, label: u16) -> Ending
-    requires { ⌜ Fits m (now w) s × (label < 2) ⌝ }
+    requires { ⌜ Standing m (now w) s × (label < 2) ⌝ }
     ensures { λ r. ⌜ Ended 0 1 m (now (w .entry)) s label r (now (w .exit)) ⌝ }
 {
     let mut s = s;
@@ -78,12 +74,11 @@ pub fn close_all(w: &mut [u16], m: usize, s: State, label: u16) -> Ending
 
 // ---- the traversal ends
 
-// All bits are read: if all edges have begun and ended, the last dart's successor is dart 0.
-pub fn finish(w: &mut [u16], m: usize, s: State) -> bool
-    requires { ⌜ Fits m (now w) s ⌝ }
-    ensures { λ r. ⌜ Finished m (now (w .entry)) s r (now (w .exit)) ⌝ }
+// All bits are read, and this many edges have begun: if all edges have begun and ended, the last dart's successor is dart 0.
+pub fn finish(w: &mut [u16], m: usize, s: State, edges: usize) -> bool
+    requires { ⌜ Fits m (now w) (stage edges s) ⌝ }
+    ensures { λ r. ⌜ Finished m (now (w .entry)) (stage edges s) r (now (w .exit)) ⌝ }
 {
-    let edges = s.edges;
     let depth = s.depth;
     let opens = s.opens;
     let place = s.place;

@@ -1,7 +1,7 @@
--- The next bit is not 0, in the window and in the payload: what begins. Assumes nothing.
+-- A bit that is not 0 was read, the k-th, up to the cursor c: what begins. Assumes nothing.
 --
---   no-second, no-more    no bit is left after it; no label is left
 --   label-fits            a label is below 3
+--   no-second, no-more    no bit is left after it; no label is left
 --   to-leaf, to-back, to-tree   a leaf, an edge outside the tree, a tree edge
 use Prim.Native.Nat.{ℕ, _+_, _*_, _/_, _^_, _≤_, _<_}
 use native.Mathlib.Omega.{arith}
@@ -10,89 +10,106 @@ use mathlib.Core.Logic.{_≢_}
 use mathlib.Core.List.{List, _∷_}
 use lib.ListN.{length, getD, drop, drop-of-length-le}
 use Rattle.model.specs.LabelledTree.{star}
+use Rattle.model.proofs.Below.{below-take}
 use Rattle.model.proofs.Permutations.{below-all}
 use Rattle.packing.specs.Unpack.{bits}
 use Rattle.packing.specs.Payload.{payloadBits}
+use Rattle.packing.proofs.Packed.{bits-below}
 use Rattle.unpacker.specs.Unpacked.{labelsIn}
 use Rattle.unpacker.proofs.Payload.{bit-count}
-use Rattle.bit_window.specs.Window.{shifted, Holds}
+use Rattle.bit_cursor.specs.declared.Cursor.{Cursor}
+use Rattle.bit_cursor.specs.declared.Next.{Next}
+use Rattle.bit_cursor.specs.Cursors.{Labelled, Sees, pastLabel, nextBit, nextLabel}
+use Rattle.bit_cursor.proofs.Cursors.{sees-tree-bit}
 use Rattle.decoder_ends.specs.declared.State.{State}
-use Rattle.decoder_turns.specs.declared.Window.{Window}
-use Rattle.decoder_turns.specs.declared.Outcome.the-variants.{Goes, Stuck}
-use Rattle.decoder_ends.specs.States.{areaAt, leafState, leafArea, backState, backArea, enterState, enterArea, Fits}
-use Rattle.decoder_turns.specs.Turns.{Labelled, Slid}
-use Rattle.decoder_turns.specs.Turns.{Turned, Stepped}
+use Rattle.decoder_ends.specs.States.{stage, areaAt, leafStage, leafArea, backStage, backArea, enterStage, enterArea, Fits}
 use Rattle.decoder_ends.proofs.Letters.{no-bit, no-label}
 use Rattle.decoder_ends.proofs.Moves.{leafing, backing, entering}
-use Rattle.decoder_turns.proofs.Windows.{slid-one, slid-two, second-bit, one-next, two-next, last-next}
+use Rattle.decoder_turns.specs.declared.Outcome.the-variants.{Goes, Stuck}
+use Rattle.decoder_turns.specs.Turns.{Turned}
+use Rattle.decoder_turns.proofs.Lists.{one-next, two-next, last-next}
+use Rattle.decoder_turns.proofs.Steps.{turned-to}
 
-module _ (f m : ℕ) (ps w : List ℕ) (s : State) (c : Window) (g : Labelled f m ps w) (fits : Fits m w s) (h : Holds (bits ps) (c .word) (c .at) 2)
-    (i : c .at < 2 * m) (one : getD (payloadBits m ps) (c .at) 0 ≢ 0) where
+module _ (f m : ℕ) (ps w : List ℕ) (s : State) (c : Cursor) (g : Labelled f m ps w) (fits : Fits m w (stage (c .labels) s)) (h : Sees (bits ps) c 1)
+    (i : c .bits ≤ 2 * m) where
   abbrev bs : List ℕ
   bs = payloadBits m ps
 
   abbrev ls : List ℕ
   ls = labelsIn f m ps w
 
+  abbrev e : ℕ
+  e = c .labels
+
   size : length bs ≡ 2 * m
   size = bit-count ps m (g .bits-room)
 
-  pub no-second : 2 * m ≤ c .at + 1 → Stepped 2 f m ps w s c Stuck w
-  unfolding Turned Slid
-  no-second l = let z = size in (no-bit bs ls (areaAt m w s) s (c .at) _ one (last-next bs (c .at) (omega arith) (omega arith)), tt)
+  label-is : (x : Next) → x ≡ nextLabel ls c → x .value ≡ getD ls e 0
+  label-is x p = ap (λ (z : Next). z .value) p
 
-  module _ (j : c .at + 1 < 2 * m) where
-    -- the second bit
-    abbrev b : ℕ
-    b = shifted (c .word) / 2 ^ 63
+  pub label-fits : e < m → (x : Next) → x ≡ nextLabel ls c → x .value < 3
+  label-fits l x p = let z = g .label-count in rw (label-is x p) (below-all 3 ls (g .labels-small) e (omega arith))
 
-    both : drop (c .at) bs ≡ getD bs (c .at) 0 ∷ b ∷ drop (c .at + 2) bs
-    both = let z = size in two-next bs (c .at) _ b (omega arith) refl (second-bit ps m (c .word) (c .at) h j)
+  module _ (k : ℕ) (after : c .bits ≡ k + 1) (one : getD bs k 0 ≢ 0) where
+    pub no-second : 2 * m ≤ c .bits → Turned 2 m bs ls w e s k Stuck w
+    unfolding Turned
+    no-second l = let z = size in no-bit bs ls (areaAt m w (stage e s)) (stage e s) k _ one (last-next bs k (omega arith) (omega arith))
 
-    pub no-more : m ≤ s .edges → Stepped 2 f m ps w s c Stuck w
-    unfolding Turned Slid
-    no-more l =
-        let z = g .label-count in
-        (no-label bs ls (areaAt m w s) s (c .at) _ one b _ both (drop-of-length-le ls {i = s .edges} (omega arith)), tt)
+    module _ (j : c .bits < 2 * m) where
+      -- the second bit
+      second : c .word / 2 ^ 63 ≡ getD bs (k + 1) 0
+      second = sees-tree-bit ps m c h j ∙ ap (λ (n : ℕ). getD bs n 0) after
 
-    -- y is the label of the next edge
-    module _ (e : s .edges < m) (y : ℕ) (q : y ≡ getD ls (s .edges) 0) where
-      next-label : drop (s .edges) ls ≡ y ∷ drop (s .edges + 1) ls
-      next-label = let z = g .label-count in one-next ls (s .edges) y (omega arith) q
+      pub no-more : m ≤ e → Turned 2 m bs ls w e s k Stuck w
+      unfolding Turned
+      no-more l =
+          let z = size in let n = g .label-count in
+          no-label bs ls (areaAt m w (stage e s)) (stage e s) k _ one _ _ (two-next bs k _ _ (omega arith) refl second)
+          (drop-of-length-le ls {i = e} (omega arith))
 
-      pub label-fits : y < 3
-      label-fits = let z = g .label-count in rw q (below-all 3 ls (g .labels-small) (s .edges) (omega arith))
+      -- x is the next label and y the bit after it
+      module _ (l : e < m) (x : Next) (p : x ≡ nextLabel ls c) (y : Next) (q : y ≡ nextBit (x .cursor)) where
+        next-is : y ≡ nextBit (pastLabel c)
+        next-is = q ∙ ap (λ (z : Next). nextBit (z .cursor)) p
 
-      module _ (t : State) (w′ : List ℕ) where
-        pub to-leaf : y ≡ star → t ≡ leafState s → w′ ≡ leafArea w s
-            → Stepped 2 f m ps w s c (Goes t b (record { word = shifted (shifted (c .word)); at = c .at + 2 })) w′
-        unfolding Turned Slid
-        to-leaf z p r =
-            rw (p, r) (
-              (omega arith, leafing m w s fits bs ls (c .at) _ b y one e both next-label z),
-              λ n x. slid-two (bits ps) (c .word) (c .at) n x,
-            )
+        bit-is : y .value ≡ getD bs (k + 1) 0
+        bit-is = ap (λ (z : Next). z .value) next-is ∙ second
 
-        module _ (z : y ≢ star) where
-          pub to-back : b ≡ 0 → t ≡ backState s → w′ ≡ backArea m w s y
-              → Stepped 2 f m ps w s c (Goes t 0 (record { word = shifted (shifted (c .word)); at = c .at + 2 })) w′
-          unfolding Turned Slid
-          to-back o p r =
-              rw (p, r) (
-                (omega arith, backing m w s fits bs ls (c .at) _ b y one e both next-label z label-fits o),
-                λ n x. slid-two (bits ps) (c .word) (c .at) n x,
-              )
+        bit-small : y .value < 2
+        unfolding payloadBits
+        bit-small = let z = size in rw bit-is (below-all 2 bs (below-take 2 (2 * m) (bits ps) (bits-below ps)) (k + 1) (omega arith))
 
-          pub to-tree : b ≢ 0 → t ≡ enterState s y → w′ ≡ enterArea m w s
-              → Stepped 2 f m ps w s c (Goes t 0 (record { word = shifted (c .word); at = c .at + 1 })) w′
-          unfolding Turned Slid
-          to-tree o p r =
-              let k = size in let d : c .at + 1 + 1 ≡ c .at + 2 = omega arith in
-              rw (p, r) (
-                (
-                  omega arith,
-                  entering m w s fits bs ls (c .at) _ b y one e both next-label z label-fits o
-                      (one-next bs (c .at + 1) b (omega arith) (second-bit ps m (c .word) (c .at) h j) ∙ ap (λ (v : ℕ). b ∷ drop v bs) d),
-                ),
-                λ n x. slid-one (bits ps) (c .word) (c .at) n x,
-              )
+        both : drop k bs ≡ getD bs k 0 ∷ y .value ∷ drop (k + 2) bs
+        both = let z = size in two-next bs k _ _ (omega arith) refl bit-is
+
+        next-label : drop e ls ≡ x .value ∷ drop (e + 1) ls
+        next-label = let z = g .label-count in one-next ls e _ (omega arith) (label-is x p)
+
+        bits-read : y .cursor .bits ≡ k + 2
+        bits-read = ap (λ (z : Next). z .cursor .bits) next-is ∙ omega arith
+
+        labels-read : y .cursor .labels ≡ e + 1
+        labels-read = ap (λ (z : Next). z .cursor .labels) next-is
+
+        module _ (t : State) (w′ : List ℕ) where
+          pub to-leaf : x .value ≡ star → stage (e + 1) t ≡ leafStage (stage e s) → w′ ≡ leafArea w (stage e s)
+              → Turned 2 m bs ls w e s k (Goes t (y .value) (y .cursor)) w′
+          to-leaf z r u =
+              turned-to 2 m bs ls w e s k t _ (y .cursor) w′ _ _ _ _ labels-read bits-read r u bit-small
+              (leafing m w (stage e s) fits bs ls k _ _ _ one l both next-label z)
+
+          module _ (z : x .value ≢ star) where
+            pub to-back : y .value ≡ 0 → stage (e + 1) t ≡ backStage (stage e s) → w′ ≡ backArea m w (stage e s) (x .value)
+                → Turned 2 m bs ls w e s k (Goes t 0 (y .cursor)) w′
+            to-back o r u =
+                turned-to 2 m bs ls w e s k t 0 (y .cursor) w′ _ _ _ _ labels-read bits-read r u (omega arith)
+                (backing m w (stage e s) fits bs ls k _ _ _ one l both next-label z (label-fits l x p) o)
+
+            pub to-tree : y .value ≢ 0 → stage (e + 1) t ≡ enterStage (stage e s) (x .value) → w′ ≡ enterArea m w (stage e s)
+                → Turned 2 m bs ls w e s k (Goes t 0 (x .cursor)) w′
+            to-tree o r u =
+                let n = size in let d : k + 1 + 1 ≡ k + 2 = omega arith in
+                turned-to 2 m bs ls w e s k t 0 (x .cursor) w′ _ _ _ _ (ap (λ (v : Next). v .cursor .labels) p)
+                (ap (λ (v : Next). v .cursor .bits) p ∙ after) r u (omega arith)
+                (entering m w (stage e s) fits bs ls k _ _ _ one l both next-label z (label-fits l x p) o
+                (one-next bs (k + 1) _ (omega arith) bit-is ∙ ap (λ (v : ℕ). y .value ∷ drop v bs) d))

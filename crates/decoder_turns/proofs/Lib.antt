@@ -1,3 +1,4 @@
-mod Windows
 mod Descents
+mod Lists
 pub mod Steps
+mod Turning

@@ -1,37 +1,31 @@
 // The turns of the machine that decodes families 1 and 2: up, or down to a leaf, into the tree or along an edge outside it, and the edges that end after each.
-// Tree bits come from a window of 64, labels from the payload or the work area.
+// The cursor hands out tree bits and labels; as many edges have begun as labels are read.
 ghost use mathlib.Core.Path.{_≡_};
 ghost use mathlib.Core.Logic.{_≢_};
-ghost use Prim.Native.Nat.{_*_, _<_};
+ghost use Prim.Native.Nat.{_+_, _*_, _≤_, _<_};
 ghost use lib.ListN.{getD};
 ghost use Rattle.packing.specs.Unpack.{bits};
 ghost use Rattle.packing.specs.Payload.{payloadBits};
-ghost use Rattle.bit_window.specs.Window.{Holds};
-ghost use Rattle.decoder_ends.specs.States.{leafState, leafArea, backState, backArea, enterState, enterArea, Fits};
-ghost use Rattle.decoder_turns.specs.Turns.{Labelled, Risen, Stepped};
+ghost use Rattle.bit_cursor.specs.Cursors.{Labelled, Sees, pastBit};
+ghost use Rattle.decoder_ends.specs.States.{stage, leafStage, leafArea, backStage, backArea, enterStage, enterArea, Fits};
+ghost use Rattle.decoder_turns.specs.Turns.{Risen, Descended, Stepped};
+use bit_cursor::Cursor;
 use decoder_ends::Ending;
 use decoder_ends::State;
 
-// The next tree bit is bit `at`, and the highest one of the word.
-pub struct Window {
-    pub word: u64,
-    pub at: usize,
-}
-
 // What a turn comes to: where the machine stands then, with the label of the edge that has just ended, 0 where none has.
 pub enum Outcome {
-    Goes(State, u16, Window),
+    Goes(State, u16, Cursor),
     Stuck,
 }
 
 // ---- a turn
 
-// The next bit is 0: up.
-fn rise(w: &mut [u16], m: usize, s: State, c: Window) -> Outcome
-    requires { ⌜ Fits m (now w) s × (c .at < 2 * m) ⌝ }
+// A bit 0 was read up to c: up.
+fn rise(w: &mut [u16], m: usize, s: State, c: Cursor) -> Outcome
+    requires { ⌜ Fits m (now w) (stage (c .labels) s) ⌝ }
     ensures { λ r. ⌜ Risen m (now (w .entry)) s c r (now (w .exit)) ⌝ }
 {
-    let edges = s.edges;
     let depth = s.depth;
     let opens = s.opens;
     let q = s.place;
@@ -45,25 +39,19 @@ fn rise(w: &mut [u16], m: usize, s: State, c: Window) -> Outcome
     let here = w[work::BELOW * (2 * m) + top];
     w[q] = (place + 1) as u16;
     let t = State {
-        edges,
         here,
         depth: top,
         opens,
         place,
     };
-    let d = Window {
-        word: c.word << 1,
-        at: c.at + 1,
-    };
-    Outcome::Goes(t, label as u16, d)
+    Outcome::Goes(t, label as u16, c)
 }
 
-// Down the next edge and up again: a bare leaf.
-fn leaf(w: &mut [u16], m: usize, s: State) -> State
-    requires { ⌜ Fits m (now w) s × (s .edges < m) ⌝ }
-    ensures { λ r. ⌜ (r ≡ leafState s) × (now (w .exit) ≡ leafArea (now (w .entry)) s) ⌝ }
+// Down edge e, the next one, and up again: a bare leaf.
+fn leaf(w: &mut [u16], m: usize, s: State, e: usize) -> State
+    requires { ⌜ Fits m (now w) (stage e s) × (e < m) ⌝ }
+    ensures { λ r. ⌜ (stage (e + 1) r ≡ leafStage (stage e s)) × (now (w .exit) ≡ leafArea (now (w .entry)) (stage e s)) ⌝ }
 {
-    let e = s.edges;
     let here = s.here;
     let depth = s.depth;
     let opens = s.opens;
@@ -73,7 +61,6 @@ fn leaf(w: &mut [u16], m: usize, s: State) -> State
     w[q] = place as u16;
     w[end] = end as u16;
     State {
-        edges: e + 1,
         here,
         depth,
         opens,
@@ -81,12 +68,11 @@ fn leaf(w: &mut [u16], m: usize, s: State) -> State
     }
 }
 
-// The next edge, of label l, begins outside the tree.
-fn back(w: &mut [u16], m: usize, s: State, l: u16) -> State
-    requires { ⌜ Fits m (now w) s × (s .edges < m) × (l < 3) ⌝ }
-    ensures { λ r. ⌜ (r ≡ backState s) × (now (w .exit) ≡ backArea m (now (w .entry)) s l) ⌝ }
+// Edge e, the next one, of label l, begins outside the tree.
+fn back(w: &mut [u16], m: usize, s: State, e: usize, l: u16) -> State
+    requires { ⌜ Fits m (now w) (stage e s) × (e < m) × (l < 3) ⌝ }
+    ensures { λ r. ⌜ (stage (e + 1) r ≡ backStage (stage e s)) × (now (w .exit) ≡ backArea m (now (w .entry)) (stage e s) l) ⌝ }
 {
-    let e = s.edges;
     let here = s.here;
     let depth = s.depth;
     let opens = s.opens;
@@ -97,7 +83,6 @@ fn back(w: &mut [u16], m: usize, s: State, l: u16) -> State
     w[work::BEGUN * (2 * m) + opens] = here;
     w[work::OPENS * (2 * m) + opens] = dart + l;
     State {
-        edges: e + 1,
         here,
         depth,
         opens: opens + 1,
@@ -105,12 +90,11 @@ fn back(w: &mut [u16], m: usize, s: State, l: u16) -> State
     }
 }
 
-// Down the next edge, of the tree and of label l.
-fn enter(w: &mut [u16], m: usize, s: State, l: u16) -> State
-    requires { ⌜ Fits m (now w) s × (s .edges < m) × (l < 3) ⌝ }
-    ensures { λ r. ⌜ (r ≡ enterState s l) × (now (w .exit) ≡ enterArea m (now (w .entry)) s) ⌝ }
+// Down edge e, the next one, of the tree and of label l.
+fn enter(w: &mut [u16], m: usize, s: State, e: usize, l: u16) -> State
+    requires { ⌜ Fits m (now w) (stage e s) × (e < m) × (l < 3) ⌝ }
+    ensures { λ r. ⌜ (stage (e + 1) r ≡ enterStage (stage e s) l) × (now (w .exit) ≡ enterArea m (now (w .entry)) (stage e s)) ⌝ }
 {
-    let e = s.edges;
     let here = s.here;
     let depth = s.depth;
     let opens = s.opens;
@@ -120,7 +104,6 @@ fn enter(w: &mut [u16], m: usize, s: State, l: u16) -> State
     w[q] = dart;
     w[work::BELOW * (2 * m) + depth] = here;
     State {
-        edges: e + 1,
         here: dart + l + 2,
         depth: depth + 1,
         opens,
@@ -128,64 +111,56 @@ fn enter(w: &mut [u16], m: usize, s: State, l: u16) -> State
     }
 }
 
-// The next bit is not 0: a bit and a label more say what begins. Where a tree edge begins, that bit is the next to be read.
-fn descend(payload: &[u8], family: u16, m: usize, w: &mut [u16], s: State, c: Window) -> Outcome
-    requires { ⌜ Labelled family m (now payload) (now w) × Fits m (now w) s ⌝ }
-    requires { ⌜ Holds (bits (now payload)) (c .word) (c .at) 2 × (c .at < 2 * m) × (getD (payloadBits m (now payload)) (c .at) 0 ≢ 0) ⌝ }
-    ensures { λ r. ⌜ Stepped 2 family m (now (payload .entry)) (now (w .entry)) s c r (now (w .exit)) ⌝ }
+// A bit that is not 0 was read up to c: a label and a bit more say what begins. Where a tree edge begins, that bit is the next to be read.
+fn descend(payload: &[u8], family: u16, m: usize, w: &mut [u16], s: State, c: Cursor) -> Outcome
+    requires { ⌜ Labelled family m (now payload) (now w) × Fits m (now w) (stage (c .labels) s) ⌝ }
+    requires { ⌜ Sees (bits (now payload)) c 1 × (c .bits ≤ 2 * m) ⌝ }
+    ensures { λ r. ⌜ Descended family m (now (payload .entry)) (now (w .entry)) s c r (now (w .exit)) ⌝ }
 {
-    let e = s.edges;
-    let at = c.at;
-    if 2 * m <= at + 1 {
+    let at = c.bits;
+    let e = c.labels;
+    if 2 * m <= at {
         return Outcome::Stuck;
     }
     if m <= e {
         return Outcome::Stuck;
     }
-    let l = unpacker::label_at(payload, family, m, w, e);
-    let rest = c.word << 1;
-    let b = rest >> 63;
+    let label = c.label(payload, family, m, w);
+    let l = label.value;
+    let d = label.cursor;
+    let bit = d.bit();
+    let b = bit.value;
+    let past = bit.cursor;
     if l == work::STAR {
-        let t = leaf(w, m, s);
-        let d = Window {
-            word: rest << 1,
-            at: at + 2,
-        };
-        return Outcome::Goes(t, b as u16, d); // b is its saved label
+        let t = leaf(w, m, s, e);
+        return Outcome::Goes(t, b, past); // b is its saved label
     }
     if b == 0 {
-        let t = back(w, m, s, l);
-        let d = Window {
-            word: rest << 1,
-            at: at + 2,
-        };
-        return Outcome::Goes(t, 0, d);
+        let t = back(w, m, s, e, l);
+        return Outcome::Goes(t, 0, past);
     }
-    let t = enter(w, m, s, l);
-    let d = Window {
-        word: rest,
-        at: at + 1,
-    };
+    let t = enter(w, m, s, e, l);
     Outcome::Goes(t, 0, d)
 }
 
 // One letter, or two where a leaf is.
-fn turn(payload: &[u8], family: u16, m: usize, w: &mut [u16], s: State, c: Window) -> Outcome
-    requires { ⌜ Labelled family m (now payload) (now w) × Fits m (now w) s ⌝ }
-    requires { ⌜ Holds (bits (now payload)) (c .word) (c .at) 2 × (c .at < 2 * m) ⌝ }
+fn turn(payload: &[u8], family: u16, m: usize, w: &mut [u16], s: State, c: Cursor) -> Outcome
+    requires { ⌜ Labelled family m (now payload) (now w) × Fits m (now w) (stage (c .labels) s) ⌝ }
+    requires { ⌜ Sees (bits (now payload)) c 2 × (c .bits < 2 * m) ⌝ }
     ensures { λ r. ⌜ Stepped 2 family m (now (payload .entry)) (now (w .entry)) s c r (now (w .exit)) ⌝ }
 {
-    let b = c.word >> 63;
-    if b == 0 {
-        return rise(w, m, s, c);
+    let bit = c.bit();
+    let d = bit.cursor;
+    if bit.value == 0 {
+        return rise(w, m, s, d);
     }
-    descend(payload, family, m, w, s, c)
+    descend(payload, family, m, w, s, d)
 }
 
 // A turn, and the edges outside the tree that end where it leads to.
-pub fn step(payload: &[u8], family: u16, m: usize, w: &mut [u16], s: State, c: Window) -> Outcome
-    requires { ⌜ Labelled family m (now payload) (now w) × Fits m (now w) s ⌝ }
-    requires { ⌜ Holds (bits (now payload)) (c .word) (c .at) 2 × (c .at < 2 * m) ⌝ }
+pub fn step(payload: &[u8], family: u16, m: usize, w: &mut [u16], s: State, c: Cursor) -> Outcome
+    requires { ⌜ Labelled family m (now payload) (now w) × Fits m (now w) (stage (c .labels) s) ⌝ }
+    requires { ⌜ Sees (bits (now payload)) c 2 × (c .bits < 2 * m) ⌝ }
     ensures { λ r. ⌜ Stepped 1 family m (now (payload .entry)) (now (w .entry)) s c r (now (w .exit)) ⌝ }
 {
     match turn(payload, family, m, w, s, c) {

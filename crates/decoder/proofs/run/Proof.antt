@@ -1,6 +1,6 @@
 use Prim.Native.Nat.{_+_, _-_}
 use native.Mathlib.Omega.{arith}
-use mathlib.Core.Path.{_∙_}
+use mathlib.Core.Path.{refl, _∙_}
 use lib.ListN.{length}
 use Rattle.packing.specs.Payload.{payloadBits}
 use Rattle.decoder.proofs.Answers.{Running, running-start, running-asks, running-kept, running-on, running-less, so-far, answer-stuck, answer-end}
@@ -9,15 +9,15 @@ use Rattle.decoder.proofs.run.Statement.{statement}
 use Rattle.decoder.proofs.run.Tie as tie
 
 abbrev Inv-loop : tie.InvT-loop
-Inv-loop payload family m w₀ s₀ at₀ w s at = Running family m payload w₀ w s at
+Inv-loop payload family m w₀ s₀ c₀ w s c = Running family m payload w₀ w s c
 
 abbrev μ-loop : tie.MeasureT-loop
-μ-loop payload family m w₀ s₀ at₀ w s at = length (payloadBits m payload) - at + s .opens
+μ-loop payload family m w₀ s₀ c₀ w s c = length (payloadBits m payload) - c .bits + s .opens
 
 loop-holds : tie.Need-loop-holds Inv-loop μ-loop
 loop-holds c =
     let p = c .before .before .pre in let z = p .0 .sized in
-    running-start _ _ _ _ (z .some-edge) (z .few-edges) (p .1 .0)
+    running-start _ _ _ _ (z .some-edge) (z .few-edges) (p .1 .0) _ _ refl refl
 
 stretch-requires : tie.Need-stretch-requires Inv-loop μ-loop
 stretch-requires c κs = running-asks _ _ _ _ _ _ _ (c .before .loop .inv) (c .before .before .before .before .pre .0)

@@ -31,5 +31,4 @@ back-spec =
     slice-write-w-3
     (λ c. search needs)
     (λ c. search needs)
-    (λ c. search needs)
     (λ c. search needs))

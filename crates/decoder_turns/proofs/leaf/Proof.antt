@@ -20,5 +20,4 @@ leaf-spec =
     (λ c. search needs)
     slice-write-w-2
     (λ c. search needs)
-    (λ c. search needs)
     (λ c. search needs))
