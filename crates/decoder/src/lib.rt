@@ -94,16 +94,14 @@ fn run(payload: &[u8], family: u16, m: usize, w: &mut [u16]) -> bool
 }
 
 // The standard plan of a payload of kind 1 or 2, under the table with this inverse: whether there is one, and its rotation in the first 2m entries.
-pub fn decode(payload: &[u8], family: u16, inverse: &[u8], m: usize, w: &mut [u16]) -> bool
-    requires { ⌜ (hasLabels family ≡ true) × Sized family m (now payload) × (length (now inverse) ≡ 256) ⌝ }
-    requires { ⌜ 32 * m ≤ length (now w) ⌝ }
-    ensures { λ r. ⌜ Answered (decodeLabelled family m (undone (now (inverse .entry)) family m (now (payload .entry)))) (2 * m) r (now (w .exit)) ⌝ }
+pub fn decode(payload: &[u8], family: u16, inverse: [u8; 256], m: usize, w: &mut [u16]) -> bool
+    requires { ⌜ (hasLabels family ≡ true) × Sized family m (now payload) × (32 * m ≤ length (now w)) ⌝ }
+    ensures { λ r. ⌜ Answered (decodeLabelled family m (undone inverse family m (now (payload .entry)))) (2 * m) r (now (w .exit)) ⌝ }
 {
-    let clean = unpacker::clean(payload, family, inverse, m);
+    let clean = unpacker::unpack(payload, family, inverse, m, w);
     if !clean {
         return false;
     }
-    unpacker::spread(payload, family, inverse, m, w);
     work::fill(w, 0, 2 * m, 0);
     run(payload, family, m, w)
 }

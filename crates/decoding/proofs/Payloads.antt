@@ -35,8 +35,8 @@ module _ (f m : ℕ) (ps : List ℕ) (s : Sized f m ps) (other : f ≢ 3) where
   pub letters-asked : f ≡ 4 → (1 ≤ m) × (m ≤ 4096) × (length ps ≡ bytesFor m 2)
   letters-asked e = let l = s .long (ne-eqb f 3 other) in let q = family-four f m e in (s .some-edge, s .few-edges, omega arith)
 
-  pub labels-asked : (inv : List ℕ) → length inv ≡ 256 → f ≢ 4 → (hasLabels f ≡ true) × Sized f m ps × (length inv ≡ 256)
-  labels-asked inv wide d = (labelled-other f (s .is-family) other d, s, wide)
+  pub labels-asked : f ≢ 4 → hasLabels f ≡ true
+  labels-asked = labelled-other f (s .is-family) other
 
 module _ (inv : List ℕ) (f m : ℕ) (ps : List ℕ) (b : Bool) (w : List ℕ) where
   abbrev vs : List ℕ

@@ -36,15 +36,6 @@ pub fn refusal(loaded: bool, record: &[u8], work: usize) -> u16
     0
 }
 
-// The standard plan of a payload with labels, as `decode` has it. The inverse is handed down by value: it is copied only here.
-fn decode_labelled(payload: &[u8], family: u16, inverse: [u8; 256], m: usize, w: &mut [u16]) -> bool
-    requires { ⌜ Sized family m (now payload) × (family ≢ 3) × (family ≢ 4) ⌝ }
-    requires { ⌜ 32 * m ≤ length (now w) ⌝ }
-    ensures { λ r. ⌜ Answered (decodePayload family m (undone inverse family m (now (payload .entry)))) (2 * m) r (now (w .exit)) ⌝ }
-{
-    decoder::decode(payload, family, &inverse, m, w)
-}
-
 // The standard plan of a payload of this family, which is not 3, under the table with this inverse: whether there is one, and its rotation in the first 2m entries.
 fn decode(payload: &[u8], family: u16, inverse: [u8; 256], m: usize, w: &mut [u16]) -> bool
     requires { ⌜ Sized family m (now payload) × (family ≢ 3) ⌝ }
@@ -54,7 +45,7 @@ fn decode(payload: &[u8], family: u16, inverse: [u8; 256], m: usize, w: &mut [u1
     if family == 4 {
         return letter_decoder::decode(payload, m, w);
     }
-    decode_labelled(payload, family, inverse, m, w)
+    decoder::decode(payload, family, inverse, m, w)
 }
 
 // x is the lowest dart of a face of the rotation in the first n entries.

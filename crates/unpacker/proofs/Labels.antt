@@ -1,6 +1,7 @@
 -- Labels put into the work area, group by group. Assumes nothing.
 --
 --   five                  five stores place a group's labels
+--   groups-more           one group more
 --   groups-start, group-on, groups-end   the labels of no group, of one more, and the first of all
 use Prim.Native.Nat.{ℕ, suc, _+_, _*_, _/_, _%_, _≤_, _<_}
 use native.Mathlib.Nat.{add-zero}
@@ -36,9 +37,9 @@ module _ (a from : ℕ) (r : List ℕ) where
   unfolding region groups unpack
   groups-start w = refl
 
-  more : (i : ℕ) → from + i < length r → groups (take (i + 1) (drop from r)) ≡ groups (take i (drop from r)) ++ digitsOf 3 5 (getD r (from + i) 0)
+  pub groups-more : (i : ℕ) → from + i < length r → groups (take (i + 1) (drop from r)) ≡ groups (take i (drop from r)) ++ digitsOf 3 5 (getD r (from + i) 0)
   unfolding groups unpack
-  more i h =
+  groups-more i h =
       let d = length-drop from r in
       let t : take (i + 1) (drop from r) ≡ take i (drop from r) ++ (getD r (from + i) 0 ∷ [])
       = rw (add-one, ← getD-drop from r i 0) (take-suc (drop from r) i 0 (omega arith)) in
@@ -50,7 +51,7 @@ module _ (a from : ℕ) (r : List ℕ) where
   group-on w i h l q =
       let ds = digitsOf 3 5 (getD r (from + i) 0) in
       let e : 5 * (i + 1) ≡ 5 * i + 5 = omega arith in
-      rw e (region-grow a (5 * i) 5 ds w (length-digitsOf 3 5 (getD r (from + i) 0)) l ∙ ap (λ (x : List ℕ). x ++ ds) q ∙ sym (more i h))
+      rw e (region-grow a (5 * i) 5 ds w (length-digitsOf 3 5 (getD r (from + i) 0)) l ∙ ap (λ (x : List ℕ). x ++ ds) q ∙ sym (groups-more i h))
 
   pub groups-end : (w : List ℕ) (i m : ℕ) → length r ≤ from + i → m ≤ 5 * i → region a (5 * i) w ≡ groups (take i (drop from r))
       → region a m w ≡ take m (groups (drop from r))

@@ -2,13 +2,13 @@
 // the lent work area. It knows digits and bytes and the inverse of a table; no heads of records, no letters, no words and no plans.
 ghost use mathlib.Core.Path.{_≡_};
 ghost use mathlib.Core.Bool.{true};
-ghost use Prim.Native.Nat.{_+_, _*_, _^_, _≤_, _<_};
+ghost use Prim.Native.Nat.{_+_, _-_, _*_, _^_, _≤_, _<_};
 ghost use lib.ListN.{length, getD, take, drop};
 ghost use Rattle.model.specs.Numbers.{allBelow};
-ghost use Rattle.packing.specs.Unpack.{bits, groups};
+ghost use Rattle.packing.specs.Unpack.{digitsOf, bits, groups};
 ghost use Rattle.packing.specs.Payload.{hasLabels, Sized, payloadLabels, payloadClean};
 ghost use Rattle.packing.specs.Groups.{undone, valuesOf};
-ghost use Rattle.unpacker.specs.Unpacked.{labelsAt, labelsIn, grouped};
+ghost use Rattle.unpacker.specs.Unpacked.{labelsAt, labelsIn, grouped, Unpacks};
 
 // ---- padding bits, fill labels and groups
 
@@ -28,21 +28,34 @@ pub fn zero_bits(bytes: &[u8], from: usize, to: usize) -> bool
     true
 }
 
-// Every label of the groups from byte `from` on is 0, from number m on.
+// The last labels of a group, so many, are 0.
+fn ends_in_zeros(group: u8, count: usize) -> bool
+    requires { ⌜ (0 < count) × (count < 5) ⌝ }
+    ensures { λ r. ⌜ r ≡ allBelow 1 (drop (5 - count) (digitsOf 3 5 group)) ⌝ }
+{
+    if count == 1 {
+        return group % 3 == 0;
+    }
+    if count == 2 {
+        return group % 9 == 0;
+    }
+    if count == 3 {
+        return group % 27 == 0;
+    }
+    group % 81 == 0
+}
+
+// Every label of the groups from byte `from` on is 0, from number m on, which is one of the last group's, or past it.
 pub fn zero_labels(bytes: &[u8], inverse: &[u8], from: usize, m: usize) -> bool
-    requires { ⌜ (length (now inverse) ≡ 256) × (from ≤ length (now bytes)) × (length (now bytes) < 2 ^ 32) ⌝ }
+    requires { ⌜ (length (now inverse) ≡ 256) × (from ≤ length (now bytes)) × (length (now bytes) < 2 ^ 32) × (5 * (length (now bytes) - from) < m + 5) ⌝ }
     ensures { λ r. ⌜ r ≡ allBelow 1 (drop m (groups (drop from (valuesOf (now (inverse .entry)) (now (bytes .entry)))))) ⌝ }
 {
     let end = 5 * (bytes.len() - from);
-    let mut k = m;
-    while k < end {
-        let l = bits::label_at(bytes, inverse, from, k);
-        if l != 0 {
-            return false;
-        }
-        k += 1;
+    if end <= m {
+        return true;
     }
-    true
+    let b = bytes[bytes.len() - 1] as usize;
+    ends_in_zeros(inverse[b], end - m)
 }
 
 // Every byte from place `from` on stands for a group.
@@ -61,14 +74,11 @@ pub fn groups_fit(bytes: &[u8], inverse: &[u8], from: usize) -> bool
     true
 }
 
-// "unused low bits are 0", "the last group filled with 0", and every group's byte is the table's.
-pub fn clean(payload: &[u8], family: u16, inverse: &[u8], m: usize) -> bool
-    requires { ⌜ (hasLabels family ≡ true) × Sized family m (now payload) × (length (now inverse) ≡ 256) ⌝ }
-    ensures { λ r. ⌜ r ≡ payloadClean family m (undone (now (inverse .entry)) family m (now (payload .entry))) ⌝ }
+// "unused low bits are 0", "the last group filled with 0", and every group's byte is the table's: a payload of kind 2.
+fn groups_clean(payload: &[u8], inverse: &[u8], m: usize) -> bool
+    requires { ⌜ Sized 2 m (now payload) × (length (now inverse) ≡ 256) ⌝ }
+    ensures { λ r. ⌜ r ≡ payloadClean 2 m (undone (now (inverse .entry)) 2 m (now (payload .entry))) ⌝ }
 {
-    if family == 1 {
-        return zero_bits(payload, 3 * m, 8 * payload.len());
-    }
     let from = (2 * m + 7) / 8;
     let padded = zero_bits(payload, 2 * m, 8 * from);
     if !padded {
@@ -116,16 +126,28 @@ fn spread_groups(payload: &[u8], inverse: &[u8], m: usize, w: &mut [u16])
     }
 }
 
-// The labels of kind 2 by number, so that whoever reads them one by one needs no division; those of kind 1 stay in the payload.
-pub fn spread(payload: &[u8], family: u16, inverse: &[u8], m: usize, w: &mut [u16])
-    requires { ⌜ (hasLabels family ≡ true) × Sized family m (now payload) × (length (now inverse) ≡ 256) ⌝ }
-    requires { ⌜ 32 * m ≤ length (now w) ⌝ }
-    ensures { λ _. ⌜ labelsIn family m (now (payload .entry)) (now (w .exit)) ≡ payloadLabels family m (undone (now (inverse .entry)) family m (now (payload .entry))) ⌝ }
+// The same for a payload that is clean; the inverse is handed down by value, and copied only here.
+fn unpack_groups(payload: &[u8], inverse: [u8; 256], m: usize, w: &mut [u16]) -> bool
+    requires { ⌜ Sized 2 m (now payload) × (32 * m ≤ length (now w)) ⌝ }
+    ensures { λ r. ⌜ Unpacks 2 m inverse (now (payload .entry)) r (now (w .exit)) ⌝ }
+{
+    let clean = groups_clean(payload, &inverse, m);
+    if clean {
+        spread_groups(payload, &inverse, m, w);
+    }
+    clean
+}
+
+// Whether a payload is as it is laid out, and if so, its labels by number: those of kind 2 in the work area, so that whoever reads them one by one needs no
+// division; those of kind 1 stay in the payload.
+pub fn unpack(payload: &[u8], family: u16, inverse: [u8; 256], m: usize, w: &mut [u16]) -> bool
+    requires { ⌜ (hasLabels family ≡ true) × Sized family m (now payload) × (32 * m ≤ length (now w)) ⌝ }
+    ensures { λ r. ⌜ Unpacks family m inverse (now (payload .entry)) r (now (w .exit)) ⌝ }
 {
     if family == 1 {
-        return;
+        return zero_bits(payload, 3 * m, 8 * payload.len());
     }
-    spread_groups(payload, inverse, m, w);
+    unpack_groups(payload, inverse, m, w)
 }
 
 // Label e.

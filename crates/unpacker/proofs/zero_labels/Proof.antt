@@ -1,68 +1,55 @@
-use Prim.Native.Nat.{_-_, _*_}
-use mathlib.Core.Path.{_≡_, refl, sym, _∙_}
+use Prim.Native.Nat.{ℕ, _+_, _-_, _*_}
 use native.Mathlib.Omega.{arith}
-use lib.ListN.{length, drop}
+use mathlib.Core.Path.{_≡_, sym, ap, _∙_}
+use lib.ListN.{length, getD, drop}
 use Rattle.model.specs.Numbers.{allBelow}
-use Rattle.model.proofs.Below.{below-next, below-stop, below-end}
-use Rattle.packing.specs.Unpack.{groups}
+use Rattle.model.proofs.Below.{below-end}
+use Rattle.packing.specs.Unpack.{digitsOf}
 use Rattle.packing.specs.Groups.{valuesOf}
-use Rattle.packing.proofs.Groups.{values-length}
+use Rattle.packing.proofs.Groups.{values-length, values-at}
+use Rattle.unpacker.proofs.Fill.{last-labels}
 use Rattle.unpacker.proofs.Padding.{length-labels}
 use borrow.Author.Needs.{needs}
 use Rattle.unpacker.proofs.zero_labels.Statement.{statement}
 use Rattle.unpacker.proofs.zero_labels.Tie as tie
 
-abbrev Inv-loop : tie.InvT-loop
-Inv-loop bytes inverse from m end k₀ k =
-    (end ≡ 5 * (length bytes - from))
-    × (allBelow 1 (drop k (groups (drop from (valuesOf inverse bytes)))) ≡ allBelow 1 (drop m (groups (drop from (valuesOf inverse bytes)))))
-
-abbrev μ-loop : tie.MeasureT-loop
-μ-loop bytes inverse from m end k₀ k = end - k
-
-loop-holds : tie.Need-loop-holds Inv-loop μ-loop
-loop-holds c = (refl, refl)
-
--- how many labels there are
-many : (c : tie.Start Inv-loop μ-loop) → let a = c .args in
-    length (groups (drop (a .from) (valuesOf (a .inverse .now) (a .bytes .now)))) ≡ 5 * (length (a .bytes .now) - a .from)
-many c =
-    let a = c .args in
-    let n = length-labels (valuesOf (a .inverse .now) (a .bytes .now)) (a .from) in
-    let l = values-length (a .inverse .now) (a .bytes .now) in
-    omega arith
-
-returns : tie.Need-returns Inv-loop μ-loop
+returns : tie.Need-returns
 returns c =
-    let at = c .before .before .before .loop in
-    let n = many (c .before .before .before .before .before .before) in
-    let l = c .before .label-at .ensures in
-    sym (below-stop 1 _ (at .k) (omega arith) (omega arith)) ∙ at .inv .1
+    let a = c .before .before .before .args in let vs = valuesOf (a .inverse .now) (a .bytes .now) in
+    let n = length-labels vs (a .from) in let l = values-length (a .inverse .now) (a .bytes .now) in
+    sym (below-end 1 _ (a .m) (omega arith))
 
-loop-again : tie.Need-loop-again Inv-loop μ-loop
-loop-again c =
-    let at = c .before .before .before .loop in
-    let n = many (c .before .before .before .before .before .before) in
-    let l = c .before .label-at .ensures in
-    (at .inv .0, sym (below-next 1 _ (at .k) (omega arith) (omega arith)) ∙ at .inv .1)
+cast-b : tie.Need-cast-b
+cast-b c = omega (arith, c .shared-slice-known3 .given (length (c .before .before .before .before .args .bytes .now) - 1))
 
-returns-2 : tie.Need-returns-2 Inv-loop μ-loop
+shared-slice-read-ends-in-zeros : tie.Need-shared-slice-read-ends-in-zeros
+shared-slice-read-ends-in-zeros c =
+    let st = c .before .before .before .before .before in omega (arith, st .pre .0, c .before .shared-slice-known3 .given (length (st .args .bytes .now) - 1))
+
+returns-2 : tie.Need-returns-2
 returns-2 c =
-    let n = many (c .before .before .before .before) in
-    sym (below-end 1 _ (c .before .loop .k) (omega arith)) ∙ c .before .loop .inv .1
+    let a = c .before .before .before .before .before .before .args in let p = c .before .before .before .before .before .before .pre in
+    let vs = valuesOf (a .inverse .now) (a .bytes .now) in
+    let l = values-length (a .inverse .now) (a .bytes .now) in
+    let i = length (a .bytes .now) - a .from - 1 in
+    let e : a .from + i ≡ length (a .bytes .now) - 1 = omega arith in
+    let v = values-at (a .inverse .now) (a .bytes .now) (length (a .bytes .now) - 1) (omega arith) in
+    c .ends-in-zeros .ensures ∙ sym
+    (ap (allBelow 1)
+    (last-labels (a .from) vs i (a .m) (5 - (5 * (length (a .bytes .now) - a .from) - a .m)) (omega arith) (omega arith)
+    ∙ ap (λ (g : ℕ). drop (5 - (5 * (length (a .bytes .now) - a .from) - a .m)) (digitsOf 3 5 g)) (ap (λ (k : ℕ). getD vs k 0) e ∙ v)))
 
 pub zero-labels-spec : {M : Type 1} → statement M
 zero-labels-spec =
     tie.close
     (tie.spec
-    Inv-loop
-    μ-loop
     (λ c. search needs)
     (λ c. search needs)
-    loop-holds
-    (λ c κs. search needs)
     returns
     (λ c. search needs)
     (λ c. search needs)
-    loop-again
+    cast-b
+    shared-slice-read-ends-in-zeros
+    (λ c. search needs)
+    (λ c κs. search needs)
     returns-2)
