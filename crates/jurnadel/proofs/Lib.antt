@@ -1,3 +1,2 @@
 mod Outcomes
 mod Parts
-mod Sizes

@@ -1,67 +1,71 @@
--- Answers taken apart into numbers: each way out of a call, from the answer's case.
+-- The numbers of an answer are those that the exported call promises.
 --
---   write-out             what writing answered, as numbers
---   read-out              what reading answered, as numbers
---   measure-out           what measuring answered, as numbers
---   shelve-out            what shelving answered, as numbers
-use mathlib.Core.Path.{_≡_, sym, ap, _∙_}
+--   write-out             of writing
+--   read-out              of reading
+--   measure-out           of measuring
+--   shelve-out            of shelving
+use mathlib.Core.Path.{_≡_, ap, _∙_}
 use mathlib.Core.List.{List}
 use Prim.Native.Nat.{ℕ}
+use lib.IntN.{ℤ}
 use Rattle.model.specs.declared.Table.{Table}
 use Rattle.model.specs.declared.Written.{Written}
 use Rattle.model.specs.declared.ReadBack.{ReadBack}
 use Rattle.model.specs.declared.Measured.{Measured}
 use Rattle.model.specs.declared.Shelved.{Shelved}
 use Rattle.model.specs.Map.{Plan}
-use Rattle.model.specs.Calls.{Wrote, ReadCall, Stored, numberOfWritten, lengthOfWritten, characteristicOfWritten, numberOfRead, edgesOfRead, outsideOfRead}
+use Rattle.model.specs.Calls.{Wrote, numberOfWritten, lengthOfWritten, characteristicOfWritten}
+use Rattle.model.specs.Calls.{ReadCall, numberOfRead, edgesOfRead, outsideOfRead}
 use Rattle.model.specs.Calls.{Measures, numberOfMeasured, countOfMeasured, characteristicOfMeasured}
-use Rattle.model.specs.Calls.{numberOfShelved, recordNumberOfShelved, usedOfShelved}
+use Rattle.model.specs.Calls.{Stored, numberOfShelved, recordNumberOfShelved, usedOfShelved}
 use Rattle.model.specs.Exports.{WriteExport, ReadExport, MeasureExport, ShelveExport}
 
-pub write-out : (t : Table) (k : ℕ) (p : Plan) (work out : List ℕ) (a b : Written) (work′ out′ : List ℕ) → Wrote t k p work out a work′ out′ → a ≡ b
-    → WriteExport t k p work out (numberOfWritten b) (lengthOfWritten b) (characteristicOfWritten b) work′ out′
-write-out t k p work out a b work′ out′ w e =
-    let z = sym e ∙ w .answered in
+pub write-out : (t : Table) (k : ℕ) (p : Plan) (work out : List ℕ) (a : Written) (r l : ℕ) (x : ℤ) (work′ out′ : List ℕ) → Wrote t k p work out a work′ out′
+    → (r ≡ numberOfWritten a) × (l ≡ lengthOfWritten a) × (x ≡ characteristicOfWritten a)
+    → WriteExport t k p work out r l x work′ out′
+write-out t k p work out a r l x work′ out′ w numbers =
     record {
-      number-is = ap numberOfWritten z;
-      length-is = ap lengthOfWritten z;
-      characteristic-is = ap characteristicOfWritten z;
+      number-is = numbers .0 ∙ ap numberOfWritten (w .answered);
+      length-is = numbers .1 ∙ ap lengthOfWritten (w .answered);
+      characteristic-is = numbers .2 ∙ ap characteristicOfWritten (w .answered);
       filled = w .filled;
       cleared = w .cleared;
     }
 
-pub read-out : (t : Table) (bytes work out : List ℕ) (a b : ReadBack) (work′ out′ : List ℕ) → ReadCall t bytes work out a work′ out′ → a ≡ b
-    → ReadExport t bytes work out (numberOfRead b) (edgesOfRead b) (outsideOfRead b) work′ out′
-read-out t bytes work out a b work′ out′ c e =
+pub read-out : (t : Table) (bytes work out : List ℕ) (a : ReadBack) (r m x : ℕ) (work′ out′ : List ℕ) → ReadCall t bytes work out a work′ out′
+    → (r ≡ numberOfRead a) × (m ≡ edgesOfRead a) × (x ≡ outsideOfRead a)
+    → ReadExport t bytes work out r m x work′ out′
+read-out t bytes work out a r m x work′ out′ c numbers =
     record {
       answer = a;
       outcome = c .outcome;
-      number-is = ap numberOfRead (sym e);
-      edges-are = ap edgesOfRead (sym e);
-      outside-is = ap outsideOfRead (sym e);
+      number-is = numbers .0;
+      edges-are = numbers .1;
+      outside-is = numbers .2;
       cleared = c .cleared;
     }
 
-pub measure-out : (rot work list : List ℕ) (a b : Measured) (work′ list′ : List ℕ) → Measures rot work list a work′ list′ → a ≡ b
-    → MeasureExport rot work list (numberOfMeasured b) (countOfMeasured b) (characteristicOfMeasured b) work′ list′
-measure-out rot work list a b work′ list′ m e =
-    let z = sym e ∙ m .answered in
+pub measure-out : (rot work list : List ℕ) (a : Measured) (r n : ℕ) (x : ℤ) (work′ list′ : List ℕ) → Measures rot work list a work′ list′
+    → (r ≡ numberOfMeasured a) × (n ≡ countOfMeasured a) × (x ≡ characteristicOfMeasured a)
+    → MeasureExport rot work list r n x work′ list′
+measure-out rot work list a r n x work′ list′ m numbers =
     record {
-      number-is = ap numberOfMeasured z;
-      count-is = ap countOfMeasured z;
-      characteristic-is = ap characteristicOfMeasured z;
+      number-is = numbers .0 ∙ ap numberOfMeasured (m .answered);
+      count-is = numbers .1 ∙ ap countOfMeasured (m .answered);
+      characteristic-is = numbers .2 ∙ ap characteristicOfMeasured (m .answered);
       filled = m .filled;
       cleared = m .cleared;
     }
 
-pub shelve-out : (t : Table) (bytes work shelf : List ℕ) (used : ℕ) (a b : Shelved) (work′ shelf′ : List ℕ) → Stored t bytes work shelf used a work′ shelf′ → a ≡ b
-    → ShelveExport t bytes work shelf used (numberOfShelved b) (recordNumberOfShelved b) (usedOfShelved used b) work′ shelf′
-shelve-out t bytes work shelf used a b work′ shelf′ s e =
+pub shelve-out : (t : Table) (bytes work shelf : List ℕ) (used : ℕ) (a : Shelved) (r n used′ : ℕ) (work′ shelf′ : List ℕ) → Stored t bytes work shelf used a work′ shelf′
+    → (r ≡ numberOfShelved a) × (n ≡ recordNumberOfShelved a) × (used′ ≡ usedOfShelved used a)
+    → ShelveExport t bytes work shelf used r n used′ work′ shelf′
+shelve-out t bytes work shelf used a r n used′ work′ shelf′ s numbers =
     record {
       answer = a;
       outcome = s .outcome;
-      refusal-is = ap numberOfShelved (sym e);
-      number-is = ap recordNumberOfShelved (sym e);
-      used-is = ap (usedOfShelved used) (sym e);
+      refusal-is = numbers .0;
+      number-is = numbers .1;
+      used-is = numbers .2;
       cleared = s .cleared;
     }

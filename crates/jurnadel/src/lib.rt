@@ -1,11 +1,7 @@
 // The calls as exported C functions. Numbers and slices go over as they are, a slice as pointer and length, a table by value; an answer's values go out
-// through references to numbers. Each function is total: any content and any length of what is lent. But for the sizes nothing is worked out here: each
-// call is that of a crate below.
-use model::Measured;
-use model::ReadBack;
-use model::Shelved;
+// through references to numbers. Each function is total: any content and any length of what is lent. Nothing is worked out here: each call is that of a
+// crate below.
 use model::Table;
-use model::Written;
 ghost use mathlib.Core.Path.{_≡_};
 ghost use Prim.Native.Nat.{_*_};
 ghost use lib.ListN.{length, take};
@@ -21,19 +17,7 @@ ghost use Rattle.model.specs.Exports.{WriteExport, ReadExport, MeasureExport, S
 pub extern "C" fn jurnadel_record_length(kind: u16, trails: u16) -> u16
     ensures { λ r. ⌜ r ≡ lengthFor kind trails ⌝ }
 {
-    if !heads::is_kind(kind) {
-        return 0;
-    }
-    if kind == 3 {
-        return 0;
-    }
-    if trails == 0 {
-        return 0;
-    }
-    if trails > 4096 {
-        return 0;
-    }
-    heads::record_length(kind, trails) as u16
+    sizes::record_length(kind, trails)
 }
 
 // The work area, in 16-bit numbers, for so many trails.
@@ -41,7 +25,7 @@ pub extern "C" fn jurnadel_record_length(kind: u16, trails: u16) -> u16
 pub extern "C" fn jurnadel_work_length(trails: u16) -> usize
     ensures { λ r. ⌜ r ≡ 32 * trails ⌝ }
 {
-    32 * (trails as usize)
+    sizes::work_length(trails)
 }
 
 // ---- group tables
@@ -80,23 +64,7 @@ pub extern "C" fn jurnadel_write(
     ensures { λ r. ⌜ WriteExport table kind (record { rotation = now (order .entry); root = start; outside = outside }) (now (work .entry)) (now (output .entry)) r (now (length .exit)) (now (characteristic .exit)) (now (work .exit)) (now (output .exit)) ⌝ }
 {
     let answer = writing::write(table, order, start, outside, kind, work, output);
-    match answer {
-        Written::Length(n) => {
-            *length = n;
-            *characteristic = 0;
-            0
-        }
-        Written::Refused(number) => {
-            *length = 0;
-            *characteristic = 0;
-            number
-        }
-        Written::NotPlanar(x) => {
-            *length = 0;
-            *characteristic = x;
-            10
-        }
-    }
+    outcomes::written(answer, length, characteristic)
 }
 
 // The plan in its standard numbering goes to the first entries of `order`, the number of its trails to `trails`, and the lowest dart of the outside area to
@@ -113,18 +81,7 @@ pub extern "C" fn jurnadel_read(
     ensures { λ r. ⌜ ReadExport table (now («record» .entry)) (now (work .entry)) (now (order .entry)) r (now (trails .exit)) (now (outside .exit)) (now (work .exit)) (now (order .exit)) ⌝ }
 {
     let answer = reading::read(table, record, work, order);
-    match answer {
-        ReadBack::Edges(m, x) => {
-            *trails = m;
-            *outside = x;
-            0
-        }
-        ReadBack::Refused(number) => {
-            *trails = 0;
-            *outside = 0;
-            number
-        }
-    }
+    outcomes::read_back(answer, trails, outside)
 }
 
 // How many darts each area has goes to the first entries of `list`, areas in the order of their lowest dart, and the number of areas to `count`, 0 if
@@ -140,23 +97,7 @@ pub extern "C" fn jurnadel_area_lengths(
     ensures { λ r. ⌜ MeasureExport (now (order .entry)) (now (work .entry)) (now (list .entry)) r (now (count .exit)) (now (characteristic .exit)) (now (work .exit)) (now (list .exit)) ⌝ }
 {
     let answer = measuring::measure(order, work, list);
-    match answer {
-        Measured::Count(n) => {
-            *count = n;
-            *characteristic = 0;
-            0
-        }
-        Measured::Refused(number) => {
-            *count = 0;
-            *characteristic = 0;
-            number
-        }
-        Measured::NotPlanar(x) => {
-            *count = 0;
-            *characteristic = x;
-            10
-        }
-    }
+    outcomes::measured(answer, count, characteristic)
 }
 
 // ---- the shelf
@@ -175,18 +116,7 @@ pub extern "C" fn jurnadel_shelve(
     ensures { λ r. ⌜ ShelveExport table (now («record» .entry)) (now (work .entry)) (now (shelf .entry)) used r (now (number .exit)) (now («new_used» .exit)) (now (work .exit)) (now (shelf .exit)) ⌝ }
 {
     let answer = shelving::shelve(table, record, work, shelf, used);
-    match answer {
-        Shelved::At(n, end) => {
-            *number = n;
-            *new_used = end;
-            0
-        }
-        Shelved::Refused(refusal) => {
-            *number = 0;
-            *new_used = used;
-            refusal
-        }
-    }
+    outcomes::shelved(answer, used, number, new_used)
 }
 
 // Where the record stands goes to `at` and its length to `length`; both 0 if refused.

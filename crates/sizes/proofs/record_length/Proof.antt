@@ -3,10 +3,10 @@ use mathlib.Core.Bool.{true}
 use native.Mathlib.Omega.{arith}
 use borrow.Author.Tests.{not-true, not-false}
 use Rattle.model.specs.Map.{isKind}
-use Rattle.jurnadel.proofs.Sizes.{no-kind, not-fixed, no-edges, too-many, length-there, length-fits}
+use Rattle.sizes.proofs.Sizes.{no-kind, not-fixed, no-edges, too-many, length-there, length-fits}
 use borrow.Author.Needs.{needs}
-use Rattle.jurnadel.proofs.jurnadel_record_length.Statement.{statement}
-use Rattle.jurnadel.proofs.jurnadel_record_length.Tie as tie
+use Rattle.sizes.proofs.record_length.Statement.{statement}
+use Rattle.sizes.proofs.record_length.Tie as tie
 
 kind : (c : tie.Else1) → isKind (c .before .before .args .kind) ≡ true
 kind c = sym (c .before .is-kind .ensures) ∙ not-false _ (c .if1 .left)
@@ -25,7 +25,7 @@ returns-4 c = too-many _ _ (kind (c .before .before .before)) (c .before .before
 
 cast-result : tie.Need-cast-result
 cast-result c = let a = c .before .before .before .before .before .before .args in
-    let h = length-fits (a .kind) (a .trails) (c .before .before .if3 .left) (omega arith) in
+    let h = length-fits (a .kind) (a .edges) (c .before .before .if3 .left) (omega arith) in
     omega (arith, c .record-length .ensures)
 
 returns-5 : tie.Need-returns-5
@@ -33,8 +33,8 @@ returns-5 c =
     let e = c .before .before in
     c .record-length .ensures ∙ length-there _ _ (kind (e .before .before)) (e .before .if2 .left) (e .if3 .left) (omega arith)
 
-pub jurnadel-record-length-spec : {M : Type 1} → statement M
-jurnadel-record-length-spec =
+pub record-length-spec : {M : Type 1} → statement M
+record-length-spec =
     tie.close
     (tie.spec
     (λ c κs. search needs)
