@@ -30,6 +30,7 @@ use Rattle.traversal.proofs.Steps.{seen-here}
 use Rattle.traversal.proofs.Walk.{walk-back}
 use Rattle.traversal.proofs.Complete.{long-connected}
 use Rattle.traversal.proofs.Toured.{walk-toured}
+use Rattle.traversal.proofs.Positions.{stack-ext, letter-at, dart-at, stack-at, mate-is}
 use Rattle.forward.proofs.Stacked.{OnTop, stacked-chords}
 use Rattle.forward.proofs.Tops.{tree-opener, chord-opener}
 use Rattle.duals.proofs.Duals.{length-dual, dual-next, dual-perm}
@@ -38,7 +39,7 @@ use Rattle.mesh_walks.specs.Told.{toldAfter, told, tell, written}
 use Rattle.mesh_walks.proofs.Tests.{mesh-fits-top}
 use Rattle.mesh_walks.proofs.Written.{length-written, types-front}
 use Rattle.tracing.specs.Tracing.{from}
-use Rattle.tracing.proofs.Positions.{stack-ext, letter-at, dart-at, stack-at, mate-is, tops-at}
+use Rattle.tracing.proofs.Positions.{tops-at}
 use Rattle.mesh_trails.specs.Strolls.{Strolled}
 use Rattle.mesh_trails.proofs.Climbs.{seen-marked}
 use Rattle.mesh_tracing.specs.Walks.{Good}
@@ -134,7 +135,7 @@ module _ (order : List ℕ) (count-fits : dartCountFits (length order) ≡ true)
     t = walk-toured q dual-count hq dual-entries joined
 
     letters : (j : ℕ) → j < N → letterOf q j ≡ letterAfter rot r j
-    letters = letter-at rot r dual-count dual-entries hq t
+    letters = letter-at q dual-count hq dual-entries t
 
     tops : OnTop q
     tops = tops-at rot r dual-count dual-entries hq t N (le-refl N) (s .trail .tops)
@@ -151,7 +152,7 @@ module _ (order : List ℕ) (count-fits : dartCountFits (length order) ≡ true)
             let h′ : d < N = subst (λ (n : ℕ). d < n) (sym size) h in
             let j = posOf q d in
             let hj = t .pos-bound d h′ in
-            let e : dart rot r j ≡ d = sym (dart-at rot r dual-count dual-entries hq t j hj) ∙ t .dart-pos d h′ in
+            let e : dart rot r j ≡ d = sym (dart-at q dual-count hq dual-entries t j hj) ∙ t .dart-pos d h′ in
             s .faces d h′ (seen-marked (Good order) rot r turn cross hq few three N b [] ts s d h′
             (subst (λ (x : ℕ). seenMark rot r N x ≢ 0) e (seen-here rot r turn cross hq N j (le-of-lt hj))))
 
@@ -161,8 +162,8 @@ module _ (order : List ℕ) (count-fits : dartCountFits (length order) ≡ true)
         let hk : suc k < N = subst (λ (n : ℕ). suc k < n) (sym size) h in
         let (x, c, j, o, d, l) = s .crossed k hk (sym (letters k (omega arith)) ∙ e) (sym (letters (suc k) hk) ∙ u) in
         let (b, f) = chord-opener (letterAfter rot r) (suc k) x c o in
-        let m = mate-is rot r dual-count dual-entries hq t (suc k) j hk (omega arith) d in
-        (x, c, stack-at rot r dual-count dual-entries hq t (suc k) (le-of-lt hk) ∙ o, subst (λ (i : ℕ). i ≤ x) (sym m) l))
+        let m = mate-is q dual-count hq dual-entries t (suc k) j hk (omega arith) d in
+        (x, c, stack-at q dual-count hq dual-entries t (suc k) (le-of-lt hk) ∙ o, subst (λ (i : ℕ). i ≤ x) (sym m) l))
 
     pub types-walked : length order / 3 - 1 ≤ length ts → take (length order / 3 - 1) ts ≡ types (from order r)
     unfolding dualPlan

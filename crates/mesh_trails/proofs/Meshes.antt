@@ -7,7 +7,7 @@
 --   Home rot r k         k is the last position but one, all edges have begun, and the two that are open end there and at the last one
 --   mesh-home            so it is at the start's second place
 --   mesh-face            all faces are triangles
-use Prim.Native.Nat.{ℕ, zero, suc, _/_, _≤_, _<_}
+use Prim.Native.Nat.{ℕ, suc, _/_, _≤_, _<_}
 use native.Mathlib.Nat.{le-refl, le-of-lt}
 use native.Mathlib.Omega.{arith}
 use mathlib.Core.Path.{_≡_, refl, sym, ap, ap₂, subst, _∙_}
@@ -16,21 +16,21 @@ use mathlib.Core.Bool.{true}
 use mathlib.Core.List.{List, [], _∷_}
 use lib.ListN.{length}
 use Rattle.model.specs.Map.{Plan, opposite, next, isTriangle, fit}
-use Rattle.model.specs.Traversal.{Letter, down, up, first, second, opens, onward, visits}
+use Rattle.model.specs.Traversal.{Letter, down, up, first, second, opens, onward}
 use Rattle.model.specs.Mesh.{dualOf, dualPlan}
 use Rattle.model.proofs.Fitness.{Fit, fit-parts}
-use Rattle.orbits.specs.Stack.{Kind, top, push, stack}
+use Rattle.orbits.specs.Stack.{top}
 use Rattle.orbits.proofs.Order.{le-split}
-use Rattle.orbits.proofs.Tally.{count-ext, count-grows}
+use Rattle.orbits.proofs.Tally.{count-grows}
 use Rattle.words.specs.Toured.{Toured, dartAt, letterOf, mateOf, isTree, isChord}
-use Rattle.words.specs.Brackets.{chordKind, chordStack}
+use Rattle.words.specs.Brackets.{chordStack}
 use Rattle.words.specs.Position.{opened}
 use Rattle.words.proofs.Letters.{apart}
-use Rattle.words.proofs.Positions.{dart-inj, mate-bound, mate-dart, mate-before, mate-letter}
+use Rattle.words.proofs.Positions.{dart-inj, mate-bound, mate-before, mate-letter}
 use Rattle.words.proofs.OpenEdges.{chord-whole, part-holds}
 use Rattle.traversal.specs.Steps.{dart, letterAfter}
 use Rattle.traversal.proofs.Steps.{dart-step}
-use Rattle.traversal.proofs.Walk.{walk-dart, walk-letter}
+use Rattle.traversal.proofs.Positions.{letter-at, dart-at, opened-at, stack-at, across-at}
 use Rattle.fit_plans.proofs.FitPlans.{fit-toured, fit-bracketed}
 use Rattle.forward.proofs.Labels.{opened-half}
 use Rattle.meshes.proofs.Triangles.{parts-triangle, mesh-triangle, Cubic, mesh-dual}
@@ -65,11 +65,6 @@ pub record Home (rot : List ℕ) (r k : ℕ) : Type 0 where
   pub across : dart rot r begun ≡ opposite (dart rot r k)
   pub across-next : dart rot r under ≡ opposite (next rot (dart rot r k))
 
-stack-ext : (K L : ℕ → Kind) (i : ℕ) → ((j : ℕ) → j < i → K j ≡ L j) → stack K i ≡ stack L i
-unfolding stack
-stack-ext K L zero e = refl
-stack-ext K L (suc i) e = ap₂ (λ (k : Kind) (s : List ℕ). push k i s) (e i (omega arith)) (stack-ext K L i (λ j h. e j (omega arith)))
-
 module _ (order : List ℕ) (r : ℕ) (fits : fit 3 (record { rotation = order; root = r; outside = 0 }) ≡ true) where
   abbrev rot : List ℕ
   rot = dualOf order
@@ -98,77 +93,70 @@ module _ (order : List ℕ) (r : ℕ) (fits : fit 3 (record { rotation = order; 
 
   -- ---- the steps of the walk are the positions of the tour
 
-  visited : (j : ℕ) → j < N → j < length (visits q)
-  visited j h = subst (λ (k : ℕ). j < k) (sym (toured .all-met)) h
+  letters-are : (j : ℕ) → j < N → letterOf q j ≡ ℓ j
+  letters-are = letter-at q (parts .count) (parts .root) (parts .entries) toured
 
-  letter-at : (j : ℕ) → j < N → letterOf q j ≡ ℓ j
-  letter-at j h = walk-letter q (parts .count) (parts .root) (parts .entries) j (visited j h)
+  darts-are : (j : ℕ) → j < N → dartAt q j ≡ D j
+  darts-are = dart-at q (parts .count) (parts .root) (parts .entries) toured
 
-  dart-at : (j : ℕ) → j < N → dartAt q j ≡ D j
-  dart-at j h = walk-dart q (parts .count) (parts .root) (parts .entries) j (visited j h)
-
-  opened-at : (i : ℕ) → i ≤ N → opened (letterOf q) i ≡ opened ℓ i
-  unfolding opened
-  opened-at i h = count-ext (λ j. opens (letterOf q j)) (λ j. opens (ℓ j)) i (λ j l. ap opens (letter-at j (omega arith)))
-
-  stack-at : (i : ℕ) → i ≤ N → chordStack (letterOf q) i ≡ chordStack ℓ i
-  stack-at i h = stack-ext _ _ i (λ j l. ap chordKind (letter-at j (omega arith)))
+  stacks-are : (i : ℕ) → i ≤ N → chordStack (letterOf q) i ≡ chordStack ℓ i
+  stacks-are = stack-at q (parts .count) (parts .root) (parts .entries) toured
 
   -- the edge that ends at k: where it began, and that it is on top
   ending : (k : ℕ) → k < N → ℓ k ≡ second
       → (mateOf q k < k) × (D (mateOf q k) ≡ opposite (D k)) × (chordStack (letterOf q) k ≡ mateOf q k ∷ chordStack (letterOf q) (suc k))
   ending k h e =
-      let l = letter-at k h ∙ e in (
+      let l = letters-are k h ∙ e in (
         mate-before q toured (parts .count) k h (ap opens l),
-        sym (dart-at (mateOf q k) (mate-bound q toured (parts .count) k h)) ∙ mate-dart q toured (parts .count) k h ∙ ap opposite (dart-at k h),
+        across-at q (parts .count) (parts .root) (parts .entries) toured k h,
         after-second q (cubic .fits) k h l .1,
       )
 
   -- ---- the places of a node
 
   open-place : (i : ℕ) → i < N → (letterOf q i ≡ down) ⊎ (letterOf q i ≡ first) → (ℓ i ≡ down) ⊎ (ℓ i ≡ first)
-  open-place i h o = subst (λ (l : Letter). (l ≡ down) ⊎ (l ≡ first)) (letter-at i h) o
+  open-place i h o = subst (λ (l : Letter). (l ≡ down) ⊎ (l ≡ first)) (letters-are i h) o
 
   pub mesh-first : (k : ℕ) → k < N → ℓ k ≡ down → (ℓ (suc k) ≡ down) ⊎ (ℓ (suc k) ≡ first)
   mesh-first k h e =
-      let d = letter-at k h ∙ e in
+      let d = letters-are k h ∙ e in
       open-place (suc k) (node q cubic k h d .inside .0) (node-first q cubic k h d)
 
   pub mesh-leaf : (k : ℕ) → k < N → ℓ k ≡ down → ℓ (suc k) ≡ first → (ℓ (suc (suc k)) ≡ down) ⊎ (ℓ (suc (suc k)) ≡ first)
   mesh-leaf k h e f =
-      let d = letter-at k h ∙ e in
+      let d = letters-are k h ∙ e in
       let (i, j) = node q cubic k h d .inside in
-      let l = letter-at (suc k) i ∙ f in
+      let l = letters-are (suc k) i ∙ f in
       open-place (suc (suc k)) (subst (λ (n : ℕ). n < N) (first-leaf q k (ap isTree l)) j) (node-leaf q cubic k h d l)
 
   second-at : (j k : ℕ) → j < N → ℓ j ≡ down → k < N → D k ≡ place rot r j → secondPlace q j ≡ k
   unfolding onward
   second-at j k h e hk p =
-      let d = letter-at j h ∙ e in
+      let d = letters-are j h ∙ e in
       let n = node q cubic j h d in
       let s : dartAt q (suc j) ≡ next rot (opposite (D j)) =
-      toured .step j (n .inside .0) ∙ ap₂ (λ (l : Letter) (x : ℕ). onward rot l x) d (dart-at j h) in
-      dart-inj q toured (secondPlace q j) k (n .inside .1) hk (sym (n .turn₁) ∙ ap (next rot) s ∙ sym p ∙ sym (dart-at k hk))
+      toured .step j (n .inside .0) ∙ ap₂ (λ (l : Letter) (x : ℕ). onward rot l x) d (darts-are j h) in
+      dart-inj q toured (secondPlace q j) k (n .inside .1) hk (sym (n .turn₁) ∙ ap (next rot) s ∙ sym p ∙ sym (darts-are k hk))
 
   pub mesh-second : (j k : ℕ) → j < N → ℓ j ≡ down → k < N → D k ≡ place rot r j → ℓ k ≢ up
   mesh-second j k h e hk p u =
-      node-second q cubic j h (letter-at j h ∙ e) (ap (letterOf q) (second-at j k h e hk p) ∙ letter-at k hk ∙ u)
+      node-second q cubic j h (letters-are j h ∙ e) (ap (letterOf q) (second-at j k h e hk p) ∙ letters-are k hk ∙ u)
 
   -- the tree edge that enters a node is crossed
   crossed : (j : ℕ) → j < N → ℓ j ≡ down → Crossed q (cubic .fits) j
   crossed j h e =
       let (t, g, n, s) = grown q (cubic .fits) (cubic .three) (cubic .alone) (cubic .two-faced) in
-      whole-fine q (cubic .fits) t g s j h .1 (letter-at j h ∙ e)
+      whole-fine q (cubic .fits) t g s j h .1 (letters-are j h ∙ e)
 
   -- and its up comes just after an edge that ends at the second place
   ending-up : (j k : ℕ) → j < N → ℓ j ≡ down → k < N → D k ≡ place rot r j → ℓ k ≡ second → mateOf q j ≡ suc k
   ending-up j k h e hk p f =
-      let d = letter-at j h ∙ e in
+      let d = letters-are j h ∙ e in
       ⊎-elim
       (λ z. z)
       (λ z. absurd (omega (arith, z .0, toured .opens-first j h (ap opens d))))
       (after-flat q (cubic .fits) k (mateOf q j) hk (mate-bound q toured (parts .count) j h)
-      (ap (λ (i : ℕ). next rot (dartAt q i)) (sym (second-at j k h e hk p)) ∙ node q cubic j h d .turn₂) (ap isTree (letter-at k hk ∙ f)))
+      (ap (λ (i : ℕ). next rot (dartAt q i)) (sym (second-at j k h e hk p)) ∙ node q cubic j h d .turn₂) (ap isTree (letters-are k hk ∙ f)))
 
   pub mesh-ends : (j k : ℕ) → j < N → ℓ j ≡ down → k < N → D k ≡ place rot r j → ℓ k ≡ second → Ends rot r j k
   unfolding opened
@@ -186,7 +174,7 @@ module _ (order : List ℕ) (r : ℕ) (fits : fit 3 (record { rotation = order; 
             begun = mateOf q k;
             under = y;
             rest = s;
-            stacked = sym (stack-at k (le-of-lt hk)) ∙ on-top ∙ ap (λ (t : List ℕ). mateOf q k ∷ t) z;
+            stacked = sym (stacks-are k (le-of-lt hk)) ∙ on-top ∙ ap (λ (t : List ℕ). mateOf q k ∷ t) z;
             earlier = before;
             across = over;
             later = omega arith;
@@ -199,10 +187,10 @@ module _ (order : List ℕ) (r : ℕ) (fits : fit 3 (record { rotation = order; 
   unfolding onward
   mesh-home k h e =
       let (t, g, n, s) = grown q (cubic .fits) (cubic .three) (cubic .alone) (cubic .two-faced) in
-      let (long, a, b) = whole-home q (cubic .fits) t g s k h (ap (next rot) (toured .starts) ∙ sym e ∙ sym (dart-at k h)) in
+      let (long, a, b) = whole-home q (cubic .fits) t g s k h (ap (next rot) (toured .starts) ∙ sym e ∙ sym (darts-are k h)) in
       let i : suc k < N = omega arith in
-      let f = sym (letter-at k h) ∙ a in
-      let f′ = sym (letter-at (suc k) i) ∙ b in
+      let f = sym (letters-are k h) ∙ a in
+      let f′ = sym (letters-are (suc k) i) ∙ b in
       let (before, over, on-top) = ending k h f in
       let (before′, over′, on-top′) = ending (suc k) i f′ in
       let to : D (suc k) ≡ next rot (D k) = dart-step rot r k ∙ ap (λ (l : Letter). onward rot l (D k)) f in
@@ -213,11 +201,11 @@ module _ (order : List ℕ) (r : ℕ) (fits : fit 3 (record { rotation = order; 
         long = long;
         edges =
             sym (opened-stays ℓ k (ap opens f)) ∙ sym (opened-stays ℓ (suc k) (ap opens f′)) ∙ ap (opened ℓ) long
-            ∙ sym (opened-at N (le-refl N)) ∙ opened-half q toured (parts .count);
+            ∙ sym (opened-at q (parts .count) (parts .root) (parts .entries) toured N (le-refl N)) ∙ opened-half q toured (parts .count);
         begun = mateOf q k;
         under = mateOf q (suc k);
         stacked =
-            sym (stack-at k (le-of-lt h)) ∙ on-top ∙ ap (λ (s : List ℕ). mateOf q k ∷ s) (on-top′ ∙ ap (λ (s : List ℕ). mateOf q (suc k) ∷ s) none);
+            sym (stacks-are k (le-of-lt h)) ∙ on-top ∙ ap (λ (s : List ℕ). mateOf q k ∷ s) (on-top′ ∙ ap (λ (s : List ℕ). mateOf q (suc k) ∷ s) none);
         earlier = (
           before,
           le-split {a = mateOf q (suc k)} {b = k} (omega arith)

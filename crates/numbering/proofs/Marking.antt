@@ -27,11 +27,11 @@ use Rattle.words.proofs.Positions.{dart-inj}
 use Rattle.traversal.specs.Steps.{dart, letterAfter}
 use Rattle.traversal.proofs.Steps.{dart-bound}
 use Rattle.traversal.proofs.Follow.{Away}
+use Rattle.traversal.proofs.Positions.{dart-at, back-late}
 use Rattle.marks.specs.Marks.{Rounded, markOf}
 use Rattle.marks.proofs.Trail.{some-mark}
 use Rattle.marks.proofs.Walk.{unmarked-vertex, read-down, read-first, read-up, read-second, marks-start, marks-up, marks-second, marks-first, marks-down}
 use Rattle.tracing.specs.Tracing.{from}
-use Rattle.tracing.proofs.Positions.{dart-at, back-late}
 use Rattle.numbering.specs.Numbering.{Marked}
 use Rattle.numbering.proofs.Numbers.{Ends}
 
@@ -59,7 +59,7 @@ module _ (rot : List ℕ) (r : ℕ) (count : dartCountFits (length rot) ≡ true
     o = opposite (D k)
 
     out : Away rot r turn cross hr (suc k)
-    out j some h = back-late rot r count perm hr t j some (omega arith)
+    out j some h = back-late (from rot r) count hr perm t j some (omega arith)
 
     inside : D k < N
     inside = dart-bound rot r turn cross hr k
@@ -67,7 +67,7 @@ module _ (rot : List ℕ) (r : ℕ) (count : dartCountFits (length rot) ≡ true
     fresh : (j : ℕ) → j < k → D j ≢ D k
     fresh j h e =
         let z = dart-inj (from rot r) t j k (omega arith) here
-        (dart-at rot r count perm hr t j (omega arith) ∙ e ∙ sym (dart-at rot r count perm hr t k here)) in
+        (dart-at (from rot r) count hr perm t j (omega arith) ∙ e ∙ sym (dart-at (from rot r) count hr perm t k here)) in
         omega arith
 
     -- ---- the letter to come

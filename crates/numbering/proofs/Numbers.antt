@@ -5,9 +5,8 @@
 --   end-number, open-number   the numbers of a dart at which an edge ends, and of its opposite
 --   link-bound           what waits for its entry is a dart's number
 --   link-entry           its entry is the number of the dart that comes next
---   back                 after all darts the root comes next
 --   covered              each number is linked at some step
-use mathlib.Core.Path.{_≡_, refl, sym, ap, _∙_, subst}
+use mathlib.Core.Path.{_≡_, refl, sym, ap, _∙_}
 use mathlib.Core.Bool.{true, false}
 use mathlib.Core.List.{List}
 use Prim.Native.Nat.{ℕ, zero, suc, _+_, _-_, _*_, _<_}
@@ -24,13 +23,13 @@ use Rattle.orbits.specs.Chord.{Involution}
 use Rattle.orbits.proofs.Maps.{next-perm, opposite-inv}
 use Rattle.words.specs.Position.{opened}
 use Rattle.words.specs.Toured.{Toured, dartAt, letterOf, posOf, mateOf, fellow}
-use Rattle.words.proofs.Positions.{mate-bound, mate-dart, mate-before, mate-letter}
+use Rattle.words.proofs.Positions.{mate-bound, mate-before, mate-letter}
 use Rattle.traversal.specs.Steps.{dart, letterAfter}
 use Rattle.traversal.proofs.Steps.{dart-step, dart-bound, across-bound}
+use Rattle.traversal.proofs.Positions.{letter-at, dart-at, opened-at, back-at, across-at}
 use Rattle.standard.proofs.Numbering.{opened-number, other-number, numbers-below, numbers-onto}
 use Rattle.standard.proofs.Entries.{standard-entry}
 use Rattle.tracing.specs.Tracing.{from}
-use Rattle.tracing.proofs.Positions.{letter-at, dart-at, opened-at}
 use Rattle.numbering.specs.Numbering.{source, linkOf}
 
 module _ (rot : List ℕ) (r : ℕ) (count : dartCountFits (length rot) ≡ true) (perm : isPermutation rot ≡ true) (hr : r < length rot)
@@ -60,17 +59,17 @@ module _ (rot : List ℕ) (r : ℕ) (count : dartCountFits (length rot) ≡ true
 
   module _ (k : ℕ) (h : k < N) (o : opens (ℓ k) ≡ true) where
     opening : opens (letterOf p k) ≡ true
-    opening = ap opens (letter-at rot r count perm hr t k h) ∙ o
+    opening = ap opens (letter-at p count hr perm t k h) ∙ o
 
     rank-is : opened (letterOf p) k ≡ opened ℓ k
-    rank-is = opened-at rot r count perm hr t k (le-of-lt h)
+    rank-is = opened-at p count hr perm t k (le-of-lt h)
 
     pub begins-number : num (D k) ≡ 2 * opened ℓ k
-    begins-number = ap num (sym (dart-at rot r count perm hr t k h)) ∙ opened-number p t count k h opening ∙ ap (λ (e : ℕ). 2 * e) rank-is
+    begins-number = ap num (sym (dart-at p count hr perm t k h)) ∙ opened-number p t count k h opening ∙ ap (λ (e : ℕ). 2 * e) rank-is
 
     pub across-number : num (opposite (D k)) ≡ 2 * opened ℓ k + 1
     across-number =
-        ap (λ (d : ℕ). num (opposite d)) (sym (dart-at rot r count perm hr t k h)) ∙ other-number p t count k h opening ∙ ap (λ (e : ℕ). 2 * e + 1) rank-is
+        ap (λ (d : ℕ). num (opposite d)) (sym (dart-at p count hr perm t k h)) ∙ other-number p t count k h opening ∙ ap (λ (e : ℕ). 2 * e + 1) rank-is
 
   -- ---- an edge ends
 
@@ -84,12 +83,12 @@ module _ (rot : List ℕ) (r : ℕ) (count : dartCountFits (length rot) ≡ true
   ends k h a e o =
       let j = mateOf p k in
       let hj = mate-bound p t count k h in
-      let is = letter-at rot r count perm hr t k h ∙ e in
+      let is = letter-at p count hr perm t k h ∙ e in
       record {
         begun = j;
         earlier = mate-before p t count k h (ap opens is ∙ o);
-        across = sym (dart-at rot r count perm hr t j hj) ∙ mate-dart p t count k h ∙ ap opposite (dart-at rot r count perm hr t k h);
-        letter = sym (letter-at rot r count perm hr t j hj) ∙ mate-letter p t k h a is;
+        across = across-at p count hr perm t k h;
+        letter = sym (letter-at p count hr perm t j hj) ∙ mate-letter p t k h a is;
       }
 
   module _ (k : ℕ) (h : k < N) (a : Letter) (g : Ends k a) (o : opens (fellow a) ≡ true) where
@@ -130,19 +129,13 @@ module _ (rot : List ℕ) (r : ℕ) (count : dartCountFits (length rot) ≡ true
   unfolding linkOf standardPlan next
   link-entry j = standard-entry p t count (source (ℓ j) (D j)) (source-bound (ℓ j) j) ∙ ap num (next-is j)
 
-  pub back : (j : ℕ) → suc j ≡ N → D (suc j) ≡ r
-  back j e =
-      let h : j < N = omega arith in
-      dart-step rot r j ∙ subst (λ (l : Letter). onward rot l (D j) ≡ r) (letter-at rot r count perm hr t j h)
-      (subst (λ (d : ℕ). onward rot (letterOf p j) d ≡ r) (dart-at rot r count perm hr t j h) (t .closes j e))
-
   -- the step after which a dart comes
   before : (x : ℕ) → x < N → (j : ℕ) × (j < N) × (D (suc j) ≡ x)
   before x h = go (posOf p x) (t .pos-bound x h) (t .dart-pos x h)
     where
       go : (i : ℕ) → i < N → dartAt p i ≡ x → (j : ℕ) × (j < N) × (D (suc j) ≡ x)
-      go zero l e = (N - 1, omega arith, back (N - 1) (omega arith) ∙ sym (t .starts) ∙ e)
-      go (suc j) l e = (j, omega arith, sym (dart-at rot r count perm hr t (suc j) l) ∙ e)
+      go zero l e = (N - 1, omega arith, back-at p count hr perm t (N - 1) (omega arith) ∙ sym (t .starts) ∙ e)
+      go (suc j) l e = (j, omega arith, sym (dart-at p count hr perm t (suc j) l) ∙ e)
 
   pub covered : (y : ℕ) → y < N → (j : ℕ) × (j < N) × (linkOf rot r j ≡ y)
   unfolding linkOf

@@ -17,6 +17,7 @@ use Rattle.words.specs.Position.{opened}
 use Rattle.traversal.specs.Steps.{at, start, dart}
 use Rattle.traversal.proofs.Marks.{zeros-at}
 use Rattle.traversal.proofs.Toured.{walk-toured}
+use Rattle.traversal.proofs.Positions.{back-at}
 use Rattle.standard.proofs.Numbering.{numbers-root}
 use Rattle.standard.proofs.Entries.{standard-darts}
 use Rattle.work.specs.Area.{region, placed}
@@ -27,7 +28,7 @@ use Rattle.tracing.specs.Tracing.{from}
 use Rattle.tracing.proofs.Places.{mark-at}
 use Rattle.numbering.specs.declared.Stand.{Stand}
 use Rattle.numbering.specs.Numbering.{Numbering}
-use Rattle.numbering.proofs.Numbers.{back, covered}
+use Rattle.numbering.proofs.Numbers.{covered}
 use Rattle.numbering.proofs.Marking.{start-marks}
 use Rattle.numbering.proofs.Entries.{stored}
 
@@ -81,7 +82,7 @@ module _ (rot : List ℕ) (r : ℕ) (w : List ℕ) (s : Stand) (g : Numbering ro
   last : (i : ℕ) → i ≡ m → 0 < i → 0 ≡ getD (standardNumbers (from rot r)) (dart rot r i) 0
   last zero e h = absurd (omega arith)
   last (suc j) e h =
-      sym (ap (λ (d : ℕ). getD (standardNumbers (from rot r)) d 0) (back rot r (g .ground .count) (g .ground .perm) (g .root-in) (g .toured) j e)
+      sym (ap (λ (d : ℕ). getD (standardNumbers (from rot r)) d 0) (back-at (from rot r) (g .ground .count) (g .root-in) (g .ground .perm) (g .toured) j e)
       ∙ numbers-root (from rot r) (g .toured) (g .ground .count))
 
   abbrev w′ : List ℕ

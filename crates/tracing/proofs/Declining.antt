@@ -22,6 +22,7 @@ use Rattle.traversal.specs.Steps.{dart, letterAfter}
 use Rattle.traversal.proofs.Walk.{walk-back}
 use Rattle.traversal.proofs.Complete.{connected-long}
 use Rattle.traversal.proofs.Toured.{walk-toured}
+use Rattle.traversal.proofs.Positions.{letter-at, dart-at, stack-at, back-at, mate-is}
 use Rattle.forward.proofs.Stacked.{planar-stacked}
 use Rattle.forward.proofs.Loops.{loop-first}
 use Rattle.forward.proofs.DeadEnds.{dead-end-up}
@@ -31,7 +32,6 @@ use Rattle.trace_steps.specs.declared.Trace.{Trace}
 use Rattle.trace_steps.specs.Steps.{lastIs}
 use Rattle.tracing.specs.Tracing.{from, Tracing, Sound}
 use Rattle.tracing.proofs.Places.{mark-at}
-use Rattle.tracing.proofs.Positions.{letter-at, dart-at, back-at, mate-is, stack-at}
 use Rattle.tracing.proofs.Stepping as stepping
 
 module _ (family : ℕ) (rot : List ℕ) (k : ℕ) (w : List ℕ) (s : Trace) (g : Tracing family rot k w s) (sound : Sound family (from rot (s .root))) where
@@ -52,10 +52,10 @@ module _ (family : ℕ) (rot : List ℕ) (k : ℕ) (w : List ℕ) (s : Trace) (g
 
   module _ (here : k < n) (on : 0 < k → s .dart ≢ s .root) where
     dart-is : dartAt p k ≡ s .dart
-    dart-is = dart-at rot r (g .ground .count) (g .ground .perm) (g .root-in) t k here ∙ sym (g .here)
+    dart-is = dart-at p (g .ground .count) (g .root-in) (g .ground .perm) t k here ∙ sym (g .here)
 
     letter-is : letterOf p k ≡ letterAfter rot r k
-    letter-is = letter-at rot r (g .ground .count) (g .ground .perm) (g .root-in) t k here
+    letter-is = letter-at p (g .ground .count) (g .root-in) (g .ground .perm) t k here
 
     pub loop-unsound : family ≢ 4 → 32768 ≤ mark → mark ≡ getD w (s .dart) 0 → ⊥
     loop-unsound f big e =
@@ -77,10 +77,10 @@ module _ (family : ℕ) (rot : List ℕ) (k : ℕ) (w : List ℕ) (s : Trace) (g
     crossing-unsound lo hi off =
         let (b, m, e) = stepping.end-edge family rot k w s g here on lo hi in
         let (q, top) = planar-stacked p t (g .ground .count) (g .ground .perm) (sound .flat) k here (letter-is ∙ stepping.is-second family rot k w s g here on lo hi) in
-        let mate = mate-is rot r (g .ground .count) (g .ground .perm) (g .root-in) t k (b .position) here (let z = b .earlier in omega arith) (b .across) in
+        let mate = mate-is p (g .ground .count) (g .root-in) (g .ground .perm) t k (b .position) here (let z = b .earlier in omega arith) (b .across) in
         let ℓ = letterAfter rot r in
         let held : stack (WAITING * n) (s .waiting) w ≡ opened ℓ (b .position) ∷ map (opened ℓ) q =
-        g .trail .stacked ∙ ap (map (opened ℓ)) (sym (stack-at rot r (g .ground .count) (g .ground .perm) (g .root-in) t k (le-of-lt here)) ∙ top)
+        g .trail .stacked ∙ ap (map (opened ℓ)) (sym (stack-at p (g .ground .count) (g .root-in) (g .ground .perm) t k (le-of-lt here)) ∙ top)
         ∙ ap (λ (x : ℕ). opened ℓ x ∷ map (opened ℓ) q) mate in
         false≢true (sym off ∙ ap (λ (xs : List ℕ). lastIs xs (mark - 8192)) held ∙ eq-eqb _ _ (sym e))
 
@@ -93,4 +93,4 @@ module _ (family : ℕ) (rot : List ℕ) (k : ℕ) (w : List ℕ) (s : Trace) (g
   endless-unsound e ne =
       let some = count-positive n (g .ground .count) in
       let one : suc (n - 1) ≡ n = omega arith in
-      ne (g .here ∙ ap (dart rot r) (e ∙ sym one) ∙ back-at rot r (g .ground .count) (g .ground .perm) (g .root-in) t (n - 1) one)
+      ne (g .here ∙ ap (dart rot r) (e ∙ sym one) ∙ back-at p (g .ground .count) (g .root-in) (g .ground .perm) t (n - 1) one)

@@ -1,18 +1,13 @@
--- The steps of the walk from r are the positions of a tour: letters, darts and stacks agree.
+-- What the marks of the walk from r tell of the positions of a tour; that its steps are those positions, `traversal/Positions` says.
 --
---   stack-ext                a stack is made of what stands before it
---   letter-at, dart-at       the letter and the dart at a position
---   opened-at, stack-at      how many edges have begun before it, and the stack of those outside the tree that wait
---   back-late, back-at       the walk is back at the root only after the last position, and then it is
---   mate-is                  the position where an edge began
 --   tops-at                  where each edge outside the tree ended on top of the stack, it did so in the tour
 --   ended-mark               a dart at which an edge ended is marked as seen
 --   next-second              whether second comes next, by the mark of the opposite of the dart that does
-use mathlib.Core.Path.{_≡_, refl, sym, ap, ap₂, _∙_, subst}
+use mathlib.Core.Path.{_≡_, refl, sym, ap, _∙_, subst}
 use mathlib.Core.Logic.{_≢_}
 use mathlib.Core.Bool.{Bool, true, false, cond, true≢false}
 use mathlib.Core.List.{List, _∷_}
-use Prim.Native.Nat.{ℕ, zero, suc, _/_, _≤_, _<_}
+use Prim.Native.Nat.{ℕ, _/_, _≤_, _<_}
 use native.Mathlib.Nat.{le-of-lt}
 use native.Mathlib.Omega.{arith}
 use lib.Dec.{eqb}
@@ -20,35 +15,26 @@ use lib.ListN.{length, getD, drop}
 use borrow.Author.Tests.{eq-eqb, ne-eqb}
 use Rattle.model.specs.Numbers.{isPermutation}
 use Rattle.model.specs.Map.{Plan, opposite, next, dartCountFits}
-use Rattle.model.specs.Traversal.{Letter, down, up, first, second, code, opens, onward, visits, word}
+use Rattle.model.specs.Traversal.{Letter, down, up, first, second, code, opens, word}
 use Rattle.model.proofs.Fitness.{count-even}
 use Rattle.orbits.specs.Permutation.{Perm}
 use Rattle.orbits.specs.Chord.{Involution}
-use Rattle.orbits.specs.Stack.{Kind, push, stack}
 use Rattle.orbits.proofs.Order.{lt-or-le, le-split}
 use Rattle.orbits.proofs.Maps.{next-perm, opposite-inv}
-use Rattle.orbits.proofs.Tally.{count-ext}
 use Rattle.words.specs.Word.{startsSecond}
-use Rattle.words.specs.Brackets.{chordKind, chordStack}
-use Rattle.words.specs.Position.{opened}
-use Rattle.words.specs.Toured.{Toured, dartAt, letterOf, posOf, mateOf}
+use Rattle.words.specs.Toured.{Toured, letterOf, mateOf}
 use Rattle.words.proofs.Letters.{fellow-closes}
-use Rattle.words.proofs.Positions.{dart-inj, mate-bound, mate-dart, mate-before}
+use Rattle.words.proofs.Positions.{mate-bound, mate-before}
 use Rattle.traversal.specs.Steps.{dart, letterAfter, mark, seenMark}
-use Rattle.traversal.proofs.Steps.{dart-step, dart-bound, seen-here}
+use Rattle.traversal.proofs.Steps.{dart-bound, seen-here}
 use Rattle.traversal.proofs.Follow.{follows}
-use Rattle.traversal.proofs.Walk.{walk-dart, walk-letter}
+use Rattle.traversal.proofs.Positions.{letter-at, dart-at, stack-at, back-late, across-at, mate-is}
 use Rattle.forward.proofs.Stacked.{OnTopTo}
 use Rattle.forward.proofs.Starts.{starts-second, starts-other, starts-none}
 use Rattle.forward.proofs.Tops.{chord-opener}
 use Rattle.marks.specs.Marks.{Trailed, Top}
 use Rattle.marks.proofs.Trail.{tells-down, tells-first, tells-up, tells-second, began-second, began-mark}
 use Rattle.tracing.specs.Tracing.{from}
-
-pub stack-ext : (K L : ℕ → Kind) (i : ℕ) → ((j : ℕ) → j < i → K j ≡ L j) → stack K i ≡ stack L i
-unfolding stack
-stack-ext K L zero e = refl
-stack-ext K L (suc i) e = ap₂ (λ (k : Kind) (s : List ℕ). push k i s) (e i (omega arith)) (stack-ext K L i (λ j h. e j (omega arith)))
 
 no-second : (m : ℕ) → m / 8192 ≢ 1 → _≡_ {A = ℕ} (cond (eqb (m / 8192) 1) 1 0) 0
 no-second m n = rw (ne-eqb (m / 8192) 1 n) refl
@@ -73,42 +59,16 @@ module _ (rot : List ℕ) (r : ℕ) (count : dartCountFits (length rot) ≡ true
   cross : Involution N opposite
   cross = opposite-inv N (count-even N count)
 
-  visited : (j : ℕ) → j < N → j < length (visits p)
-  visited j h = subst (λ (k : ℕ). j < k) (sym (t .all-met)) h
-
-  pub letter-at : (j : ℕ) → j < N → letterOf p j ≡ ℓ j
-  letter-at j h = walk-letter p count hr perm j (visited j h)
-
-  pub dart-at : (j : ℕ) → j < N → dartAt p j ≡ D j
-  dart-at j h = walk-dart p count hr perm j (visited j h)
-
-  pub opened-at : (i : ℕ) → i ≤ N → opened (letterOf p) i ≡ opened ℓ i
-  unfolding opened
-  opened-at i h = count-ext (λ j. opens (letterOf p j)) (λ j. opens (ℓ j)) i (λ j l. ap opens (letter-at j (omega arith)))
-
-  pub stack-at : (i : ℕ) → i ≤ N → chordStack (letterOf p) i ≡ chordStack ℓ i
-  stack-at i h = stack-ext _ _ i (λ j l. ap chordKind (letter-at j (omega arith)))
-
-  pub back-late : (j : ℕ) → 0 < j → j < N → D j ≢ r
-  back-late j some h e =
-      let z = dart-inj p t j 0 h (omega arith) (dart-at j h ∙ e ∙ sym (t .starts)) in omega arith
-
-  pub back-at : (k : ℕ) → suc k ≡ N → D (suc k) ≡ r
-  back-at k e =
-      let h : k < N = omega arith in
-      dart-step rot r k ∙ ap₂ (λ (a : Letter) (x : ℕ). onward rot a x) (sym (letter-at k h)) (sym (dart-at k h)) ∙ t .closes k e
-
-  pub mate-is : (j a : ℕ) → j < N → a < N → D a ≡ opposite (D j) → mateOf p j ≡ a
-  unfolding mateOf
-  mate-is j a h ha e = ap (posOf p) (ap opposite (dart-at j h) ∙ sym e ∙ sym (dart-at a ha)) ∙ t .pos-dart a ha
+  letters-are : (j : ℕ) → j < N → letterOf p j ≡ ℓ j
+  letters-are = letter-at p count hr perm t
 
   pub tops-at : (k : ℕ) → k ≤ N → ((j : ℕ) → j < k → ℓ j ≡ second → Top rot r j) → OnTopTo p k
   tops-at k h tops j l e =
       let hj : j < N = omega arith in
-      let top = tops j l (sym (letter-at j hj) ∙ e) in
-      let s = stack-at j (le-of-lt hj) ∙ top .on-top in
+      let top = tops j l (sym (letters-are j hj) ∙ e) in
+      let s = stack-at p count hr perm t j (le-of-lt hj) ∙ top .on-top in
       let a = chord-opener (letterOf p) j (top .begun) (top .below) s .0 in
-      (top .below, s ∙ ap (λ (i : ℕ). i ∷ top .below) (sym (mate-is j (top .begun) hj (omega arith) (top .across))))
+      (top .below, s ∙ ap (λ (i : ℕ). i ∷ top .below) (sym (mate-is p count hr perm t j (top .begun) hj (omega arith) (top .across))))
 
   -- ---- the letter that comes next
 
@@ -121,11 +81,11 @@ module _ (rot : List ℕ) (r : ℕ) (count : dartCountFits (length rot) ≡ true
 
     -- not the end: the mark tells the letter
     other : (h : k < N) → (l : Letter) → ℓ k ≡ l → (l ≢ second) → m / 8192 ≢ 1 → Right
-    other h l e ne n = no-second m n ∙ sym (starts-other p t k h (λ q. ne (sym e ∙ sym (letter-at k h) ∙ q)))
+    other h l e ne n = no-second m n ∙ sym (starts-other p t k h (λ q. ne (sym e ∙ sym (letters-are k h) ∙ q)))
 
     inner : k < N → Right
     inner h =
-        let on : 0 < k → D k ≢ r = λ some. back-late k some h in
+        let on : 0 < k → D k ≢ r = λ some. back-late p count hr perm t k some h in
         lt-or-le m 1
         (λ z. other h down (tells-down rot r turn cross hr k b waiting trail on (omega arith)) (λ q. omega (arith, ap code q)) (λ q. omega arith))
         (λ lo. lt-or-le m 16384
@@ -134,7 +94,7 @@ module _ (rot : List ℕ) (r : ℕ) (count : dartCountFits (length rot) ≡ true
         let g = began-second rot r turn cross hr k b waiting trail on e in
         let q = began-mark rot r turn cross hr k b waiting trail on first g refl in
         let one : m / 8192 ≡ 1 = omega arith in
-        ap (λ (x : Bool). cond x 1 0) (eq-eqb (m / 8192) 1 one) ∙ sym (starts-second p t k h (letter-at k h ∙ e)))
+        ap (λ (x : Bool). cond x 1 0) (eq-eqb (m / 8192) 1 one) ∙ sym (starts-second p t k h (letters-are k h ∙ e)))
         (λ mid. lt-or-le m 32768
         (λ z. other h up (tells-up rot r turn cross hr k b waiting trail on mid z) (λ q. omega (arith, ap code q)) (λ q. omega arith))
         (λ hi. other h first (tells-first rot r turn cross hr k b waiting trail on hi) (λ q. omega (arith, ap code q)) (λ q. omega arith))))
@@ -159,8 +119,8 @@ module _ (rot : List ℕ) (r : ℕ) (count : dartCountFits (length rot) ≡ true
         let some : 0 < N = omega arith in
         let j = mateOf p 0 in
         let hj = mate-bound p t count 0 some in
-        let o = ap opens (sym (letter-at j hj) ∙ t .fellows 0 some) ∙ fellow-closes (letterOf p 0) (begins some (opens (letterOf p 0)) refl) in
-        let there : D j ≡ opposite (D k) = sym (dart-at j hj) ∙ mate-dart p t count 0 some ∙ ap opposite (t .starts ∙ sym back) in
+        let o = ap opens (sym (letters-are j hj) ∙ t .fellows 0 some) ∙ fellow-closes (letterOf p 0) (begins some (opens (letterOf p 0)) refl) in
+        let there : D j ≡ opposite (D k) = across-at p count hr perm t 0 some ∙ ap opposite (sym (dart-at p count hr perm t 0 some) ∙ t .starts ∙ sym back) in
         let big : 32768 ≤ m = subst (λ (x : ℕ). 32768 ≤ getD b x 0) there (ended-mark j (omega arith) o) in
         no-second m (λ q. omega arith) ∙ sym (ap (λ (i : ℕ). startsSecond (drop i (word p))) e ∙ starts-none p t)
       where

@@ -32,6 +32,7 @@ use Rattle.words.specs.Toured.{Toured, dartAt, letterOf, mateOf}
 use Rattle.words.proofs.Opened.{opened-more, opened-stays, opened-few}
 use Rattle.traversal.specs.Steps.{dart, letterAfter}
 use Rattle.traversal.proofs.Steps.{dart-step, dart-bound}
+use Rattle.traversal.proofs.Positions.{letter-at, dart-at, opened-at, stack-at, back-at, mate-is}
 use Rattle.forward.proofs.Tops.{open-room, stacks-size}
 use Rattle.work.specs.Map.{WAITING}
 use Rattle.work.specs.Area.{region, stack}
@@ -47,7 +48,7 @@ use Rattle.trace_steps.specs.Putting.{follows, downPut, firstPut, upPut, second
 use Rattle.trace_steps.specs.Steps.{Placed, downOn, WentDown, firstOn, firstArea, upOn, upArea, secondOn, secondArea, lastIs}
 use Rattle.tracing.specs.Tracing.{Put, from, Tracing}
 use Rattle.tracing.proofs.Places.{mark-at, region-mark, from-drop, above-stack, down-below, first-below, up-below, second-below}
-use Rattle.tracing.proofs.Positions.{letter-at, dart-at, opened-at, stack-at, back-at, mate-is, tops-at, next-second}
+use Rattle.tracing.proofs.Positions.{tops-at, next-second}
 use Rattle.tracing.proofs.Puts.{puts-same, puts-down, puts-first, puts-up, puts-second}
 
 last-split : (q : List ℕ) (f : ℕ) → lastIs q f ≡ true → (fs : List ℕ) × (q ≡ f ∷ fs)
@@ -120,7 +121,7 @@ module _ (family : ℕ) (rot : List ℕ) (k : ℕ) (w : List ℕ) (s : Trace) (g
   cursor : (b q : List ℕ) → Trailed rot r (suc k) b q → Toured p → suc k + length q ≤ n
   cursor b q t u =
       let e = waiting-count (suc k) b q t in
-      let c = ap length (stack-at rot r (g .ground .count) (g .ground .perm) (g .root-in) u (suc k) here) in
+      let c = ap length (stack-at p (g .ground .count) (g .root-in) (g .ground .perm) u (suc k) here) in
       let z = open-room p u (g .ground .count) (suc k) here
       (tops-at rot r (g .ground .count) (g .ground .perm) (g .root-in) u (suc k) here (t .tops)) in
       omega arith
@@ -217,7 +218,7 @@ module _ (family : ℕ) (rot : List ℕ) (k : ℕ) (w : List ℕ) (s : Trace) (g
       (let y = opened-few ℓ k in omega (arith, few)) (32769 + s .edges) (omega arith) (region 0 n c) round) in
       let put = puts-down family p (g .ground .count) k t₀ w₁
       (puts-same family p (g .ground .count) k t₀ w w₁ (from-drop n w w₁ over (2 * n) (omega arith)) (g .puts))
-      (omega (arith, g .ground .room)) here down is (λ u. letter-at rot r (g .ground .count) (g .ground .perm) (g .root-in) u k here ∙ is)
+      (omega (arith, g .ground .room)) here down is (λ u. letter-at p (g .ground .count) (g .root-in) (g .ground .perm) u k here ∙ is)
       (omega (arith, waiting-few)) refl
       (λ u. let z = cursor _ _ trail u in let l = length-stack (WAITING * n) (s .waiting) w′ in omega arith) in
       step-to down is w′ (next rot o) (s .edges + 1) (s .waiting) (ap length (wd .area) ∙ below .size ∙ size)
@@ -259,7 +260,7 @@ module _ (family : ℕ) (rot : List ℕ) (k : ℕ) (w : List ℕ) (s : Trace) (g
       let over : drop (2 * n) w₁ ≡ drop (2 * n) w =
       drop-set-lt (2 * n) w₀ (WAITING * n + s .waiting) (s .edges) (omega (arith, waiting-few)) ∙ drop-set-lt (2 * n) w (s .dart) v (omega (arith, dart-in)) in
       let put = puts-first family p (g .ground .count) k t₀ w₁ (puts-same family p (g .ground .count) k t₀ w w₁ over (g .puts))
-      (omega (arith, g .ground .room)) here first is (λ u. letter-at rot r (g .ground .count) (g .ground .perm) (g .root-in) u k here ∙ is)
+      (omega (arith, g .ground .room)) here first is (λ u. letter-at p (g .ground .count) (g .root-in) (g .ground .perm) u k here ∙ is)
       (omega (arith, waiting-few)) refl
       (λ u. let z = cursor _ _ trail u in let l = length-stack (WAITING * n) (s .waiting + 1) w′ in omega arith) in
       step-to first is w′ (next rot (s .dart)) (s .edges + 1) (s .waiting + 1) (ap length area ∙ below .size ∙ size)
@@ -276,16 +277,16 @@ module _ (family : ℕ) (rot : List ℕ) (k : ℕ) (w : List ℕ) (s : Trace) (g
   -- ---- what comes after an edge that ends
 
   known-letter : Toured p → letterOf p k ≡ ℓ k
-  known-letter u = letter-at rot r (g .ground .count) (g .ground .perm) (g .root-in) u k here
+  known-letter u = letter-at p (g .ground .count) (g .root-in) (g .ground .perm) u k here
 
   known-dart : Toured p → dartAt p k ≡ D k
-  known-dart u = dart-at rot r (g .ground .count) (g .ground .perm) (g .root-in) u k here
+  known-dart u = dart-at p (g .ground .count) (g .root-in) (g .ground .perm) u k here
 
   follows-next : (q : List ℕ) → Trailed rot r (suc k) marks q → (x : ℕ) → x ≡ D (suc k) → x < n → Toured p → startsSecond (drop (suc k) (word p)) ≡ follows w x
   unfolding follows
   follows-next q t x e h u =
       sym (next-second rot r (g .ground .count) (g .ground .perm) (g .root-in) u (suc k) marks q t here
-      (λ z. back-at rot r (g .ground .count) (g .ground .perm) (g .root-in) u k z))
+      (λ z. back-at p (g .ground .count) (g .root-in) (g .ground .perm) u k z))
       ∙ ap (λ (m : ℕ). cond (eqb (m / 8192) 1) 1 0)
       (ap (λ (y : ℕ). getD marks (opposite y) 0) (sym e) ∙ mark-at n w (opposite x) (cross .bound x h))
 
@@ -296,8 +297,8 @@ module _ (family : ℕ) (rot : List ℕ) (k : ℕ) (w : List ℕ) (s : Trace) (g
   edge-known : (a : Letter) (b : Began rot r turn cross (g .root-in) k a) (f : ℕ) → f ≡ opened ℓ (b .position) → Toured p → f ≡ opened (letterOf p) (mateOf p k)
   edge-known a b f e u =
       let in-walk : b .position < n = let z = b .earlier in omega arith in
-      let mate = mate-is rot r (g .ground .count) (g .ground .perm) (g .root-in) u k (b .position) here in-walk (b .across) in
-      e ∙ sym (opened-at rot r (g .ground .count) (g .ground .perm) (g .root-in) u (b .position) (le-of-lt in-walk)) ∙ ap (opened (letterOf p)) (sym mate)
+      let mate = mate-is p (g .ground .count) (g .root-in) (g .ground .perm) u k (b .position) here in-walk (b .across) in
+      e ∙ sym (opened-at p (g .ground .count) (g .root-in) (g .ground .perm) u (b .position) (le-of-lt in-walk)) ∙ ap (opened (letterOf p)) (sym mate)
 
   -- ---- up
 

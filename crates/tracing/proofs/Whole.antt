@@ -31,6 +31,7 @@ use Rattle.traversal.proofs.Marks.{zeros-at}
 use Rattle.traversal.proofs.Walk.{walk-back}
 use Rattle.traversal.proofs.Complete.{long-connected}
 use Rattle.traversal.proofs.Toured.{walk-toured}
+use Rattle.traversal.proofs.Positions.{letter-at, dart-at, opened-at, stack-at}
 use Rattle.forward.proofs.Stacked.{OnTop, stacked-planar, stacked-bracketed}
 use Rattle.forward.proofs.Tops.{open-room}
 use Rattle.forward.proofs.Bits.{bits-to}
@@ -53,7 +54,7 @@ use Rattle.tracing.specs.Tracing.{from, Tracing, Stepped, Sound, Fitting
 use Rattle.tracing.proofs.Places.{mark-at}
 use Rattle.tracing.proofs.Declining.{short-unsound, endless-unsound}
 use Rattle.tracing.proofs.Puts.{puts-none}
-use Rattle.tracing.proofs.Positions.{letter-at, dart-at, opened-at, stack-at, tops-at, ended-mark}
+use Rattle.tracing.proofs.Positions.{tops-at, ended-mark}
 
 pub record Walking (family : ℕ) (rot : List ℕ) (root : ℕ) (w₀ w : List ℕ) (s : Trace) (i : ℕ) : Type 0 where
   pub traced : Tracing family rot i w s
@@ -122,10 +123,10 @@ module _ (family : ℕ) (rot : List ℕ) (w : List ℕ) (s : Trace) (g : Tracing
   t = walk-toured p count-fits (g .root-in) perm joined
 
   letters-are : (j : ℕ) → j < N → letterOf p j ≡ letterAfter rot r j
-  letters-are = letter-at rot r count-fits perm (g .root-in) t
+  letters-are = letter-at p count-fits (g .root-in) perm t
 
   darts-are : (j : ℕ) → j < N → dartAt p j ≡ dart rot r j
-  darts-are = dart-at rot r count-fits perm (g .root-in) t
+  darts-are = dart-at p count-fits (g .root-in) perm t
 
   tops : OnTop p
   tops = tops-at rot r count-fits perm (g .root-in) t N (le-refl N) (g .trail .tops)
@@ -140,7 +141,7 @@ module _ (family : ℕ) (rot : List ℕ) (w : List ℕ) (s : Trace) (g : Tracing
   none-waits =
       let e = length-stack (WAITING * N) (s .waiting) w in
       let z = open-room p t count-fits N (le-refl N) tops in
-      let c = ap length (stack-at rot r count-fits perm (g .root-in) t N (le-refl N)) in
+      let c = ap length (stack-at p count-fits (g .root-in) perm t N (le-refl N)) in
       let ℓ = letterAfter rot r in
       let q : length (stack (WAITING * N) (s .waiting) w) ≡ length (chordStack ℓ N) = ap length (g .trail .stacked) ∙ length-map (chordStack ℓ N) (opened ℓ) in
       omega arith
@@ -153,7 +154,7 @@ module _ (family : ℕ) (rot : List ℕ) (w : List ℕ) (s : Trace) (g : Tracing
       ∙ sym (mark-at N w (dart rot r j) (subst (λ (x : ℕ). x < N) d (t .dart-bound j h)))
       ∙ g .trail .numbers j h (ap opens (sym l) ∙ o)
       ∙ ap (λ (a : Letter). markOf a + opened (letterAfter rot r) j) (sym l)
-      ∙ ap (λ (x : ℕ). markOf (letterOf p j) + x) (sym (opened-at rot r count-fits perm (g .root-in) t j (omega arith)))
+      ∙ ap (λ (x : ℕ). markOf (letterOf p j) + x) (sym (opened-at p count-fits (g .root-in) perm t j (omega arith)))
 
   ended : (j : ℕ) → j < N → opens (letterOf p j) ≡ false → 32768 ≤ getD w (dartAt p j) 0
   ended j h o =

@@ -10,3 +10,4 @@ pub mod Walk
 pub mod Ruled
 pub mod Complete
 pub mod Toured
+pub mod Positions
