@@ -22,6 +22,7 @@ use Rattle.orbits.specs.Chord.{Involution}
 use Rattle.orbits.proofs.Order.{lt-suc-split}
 use Rattle.words.specs.Brackets.{treeStack}
 use Rattle.words.specs.Position.{opened, vertexCount}
+use Rattle.words.proofs.Opened.{opened-more}
 use Rattle.traversal.specs.Steps.{dart, letterAfter}
 use Rattle.duals.proofs.Duals.{length-dual, dual-next}
 use Rattle.marks.specs.Marks.{Rounded}
@@ -29,7 +30,6 @@ use Rattle.marks.proofs.Trail.{tells-down, tells-first}
 use Rattle.marks.proofs.Walk.{unmarked-vertex}
 use Rattle.meshes.proofs.Triangles.{triangle-parts}
 use Rattle.mesh_trails.specs.Strolls.{place}
-use Rattle.mesh_trails.proofs.Strolls.{opened-more}
 use Rattle.mesh_trails.proofs.Climbs.{entered-more, entered-stays}
 use Rattle.mesh_trails.proofs.Places.{goes-down, first-down, first-leaf}
 use Rattle.mesh_tracing.specs.declared.Stroll.{Stroll}
@@ -81,7 +81,7 @@ module _ (order w : List ℕ) (y : ℕ) (s : Stroll) (a : AtFirst order w y s) w
   pub first-second : y < length order
   first-second = subst (λ (x : ℕ). x < n) (sym (a .second)) (place-in order w s (suc k) (a .us) (a .b) (a .waits) (a .ts) h k)
 
-  edge-is : s .edges ≡ suc (opened ℓ k)
+  edge-is : s .edges ≡ opened ℓ k + 1
   edge-is = h .edges ∙ opened-more ℓ k (ap opens (a .stands .is-down))
 
   face-is : s .faces ≡ suc (vertexCount ℓ k)
@@ -163,7 +163,7 @@ module _ (order w : List ℕ) (y : ℕ) (s : Stroll) (a : AtFirst order w y s) w
             count = h .count;
             perm = h .perm;
             root-in = h .root-in;
-            edges = ap (λ (x : ℕ). x + 1) (h .edges) ∙ add-one (opened ℓ (suc k)) ∙ sym (opened-more ℓ (suc k) (ap opens is));
+            edges = ap (λ (x : ℕ). x + 1) (h .edges) ∙ sym (opened-more ℓ (suc k) (ap opens is));
             faces = h .faces ∙ sym (entered-stays ℓ (suc k) first is refl);
             view = view-edge n (s .waiting) (s .halves) w (a .b) (a .waits) _ _ _ (a .ts) (h .view) (first-ranges .waiting) half-few (s .dart) (s .edges)
                 (D (suc k)) (opened ℓ (suc k)) first-in (a .here) (h .edges);
@@ -284,7 +284,7 @@ module _ (order w : List ℕ) (s : Stroll) (a : AtDown order w s) where
           count = h₂ .count;
           perm = h₂ .perm;
           root-in = h₂ .root-in;
-          edges = ap (λ (x : ℕ). x + 1) (h₂ .edges) ∙ add-one (opened ℓ₂ k₂) ∙ sym (opened-more ℓ₂ k₂ (ap opens is-down));
+          edges = ap (λ (x : ℕ). x + 1) (h₂ .edges) ∙ sym (opened-more ℓ₂ k₂ (ap opens is-down));
           faces = ap (λ (x : ℕ). x + 1) (h₂ .faces) ∙ add-one (vertexCount ℓ₂ k₂) ∙ sym (entered-more ℓ₂ k₂ is-down);
           view = subst (λ (l : List ℕ). View n₂ c f (set w₃ (s .dart) (16384 + s .edges)) l (a .waits) (map (place rot₂ r₂) (a .us)) (map (vertexCount ℓ₂) (a .us))
               (map (opened ℓ₂) (a .us)) (a .ts)) marked v₄;

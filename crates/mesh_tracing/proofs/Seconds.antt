@@ -19,6 +19,7 @@ use Rattle.model.specs.Mesh.{dualOf}
 use Rattle.words.specs.Brackets.{chordStack}
 use Rattle.words.specs.Word.{head}
 use Rattle.words.specs.Position.{opened, vertexCount}
+use Rattle.words.proofs.Opened.{opened-few, opened-more, opened-stays}
 use Rattle.traversal.specs.Steps.{dart, letterAfter}
 use Rattle.forward.proofs.Tops.{tree-opener, chord-opener}
 use Rattle.marks.proofs.Trail.{tells-first, tells-second}
@@ -27,7 +28,7 @@ use Rattle.work.specs.Map.{TYPES}
 use Rattle.work.specs.Area.{stack}
 use Rattle.work.proofs.Stacks.{stack-pop}
 use Rattle.mesh_walks.specs.Told.{toldAfter, tell}
-use Rattle.mesh_trails.proofs.Strolls.{opened-few, opened-more, opened-stays, within}
+use Rattle.mesh_trails.proofs.Strolls.{within}
 use Rattle.mesh_trails.proofs.Climbs.{tell-set, entered-stays}
 use Rattle.mesh_trails.proofs.Places.{half-away, second-down, second-first, second-second}
 use Rattle.mesh_tracing.specs.declared.Stroll.{Stroll}
@@ -165,7 +166,7 @@ module _ (order w : List ℕ) (l : Letter) (f e : ℕ) (s : Stroll) (a : AtSecon
           count = h .count;
           perm = h .perm;
           root-in = h .root-in;
-          edges = ap (λ (x : ℕ). x + 1) (h .edges) ∙ add-one (opened ℓ k) ∙ sym (opened-more ℓ k (ap opens is));
+          edges = ap (λ (x : ℕ). x + 1) (h .edges) ∙ sym (opened-more ℓ k (ap opens is));
           faces = h .faces ∙ sym (entered-stays ℓ k first is refl);
           view = view-type n (s .waiting + 1) (s .halves) (edgeArea n (s .dart) (s .edges) (s .waiting) w) _ _ _ _ _ (a .ts)
               (view-edge n (s .waiting) (s .halves) w (a .b) (a .waits) _ _ _ (a .ts) (h .view) (second-ranges .waiting) half-few (s .dart) (s .edges) (D k) (opened ℓ k)

@@ -17,13 +17,14 @@ use Rattle.orbits.proofs.Tally.{count-le}
 use Rattle.words.specs.Brackets.{treeStack, chordStack}
 use Rattle.words.specs.Entered.{isDown}
 use Rattle.words.specs.Position.{opened, vertexCount}
+use Rattle.words.proofs.Opened.{opened-few}
 use Rattle.traversal.specs.Steps.{dart, letterAfter}
 use Rattle.traversal.proofs.Steps.{dart-bound, across-bound}
 use Rattle.forward.proofs.Tops.{stacks-size}
 use Rattle.duals.proofs.Duals.{length-dual}
 use Rattle.tracing.proofs.Places.{mark-at}
 use Rattle.mesh_trails.specs.Strolls.{Strolled, place, Hung}
-use Rattle.mesh_trails.proofs.Strolls.{opened-few, within}
+use Rattle.mesh_trails.proofs.Strolls.{within}
 use Rattle.mesh_tracing.specs.declared.Stroll.{Stroll}
 use Rattle.mesh_tracing.specs.Walks.{Good, Held}
 use Rattle.mesh_tracing.proofs.Ends.{turn, cross, few}

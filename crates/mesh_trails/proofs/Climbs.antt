@@ -26,6 +26,7 @@ use Rattle.orbits.proofs.Maps.{vertex-turn}
 use Rattle.words.specs.Brackets.{treeKind, treeStack}
 use Rattle.words.specs.Entered.{isDown}
 use Rattle.words.specs.Position.{opened, vertexCount}
+use Rattle.words.proofs.Opened.{opened-few, opened-stays}
 use Rattle.traversal.specs.Steps.{at, start, dart, letterAfter, seenMark}
 use Rattle.traversal.proofs.Steps.{case, down-case, dart-step, across-bound, seen-here, seen-across}
 use Rattle.forward.proofs.Tops.{tree-opener}
@@ -33,7 +34,7 @@ use Rattle.marks.specs.Marks.{markOf}
 use Rattle.marks.proofs.Trail.{tells-up}
 use Rattle.mesh_walks.specs.Told.{toldAfter, told, tell}
 use Rattle.mesh_trails.specs.Strolls.{CrossedAt, Strolled, place, Hung, Halfway, Homing}
-use Rattle.mesh_trails.proofs.Strolls.{down≢up, opened-few, opened-stays, tree-step, within, stroll-up}
+use Rattle.mesh_trails.proofs.Strolls.{down≢up, tree-step, within, stroll-up}
 
 -- ---- letters
 

@@ -28,6 +28,7 @@ use Rattle.words.specs.Position.{opened}
 use Rattle.words.proofs.Letters.{apart}
 use Rattle.words.proofs.Positions.{dart-inj, mate-bound, mate-before, mate-letter}
 use Rattle.words.proofs.OpenEdges.{chord-whole, part-holds}
+use Rattle.words.proofs.Opened.{opened-stays}
 use Rattle.traversal.specs.Steps.{dart, letterAfter}
 use Rattle.traversal.proofs.Steps.{dart-step}
 use Rattle.traversal.proofs.Positions.{letter-at, dart-at, opened-at, stack-at, across-at}
@@ -41,7 +42,6 @@ use Rattle.meshes.proofs.Growing.{after-flat, grown}
 use Rattle.mesh_walks.specs.Place.{secondPlace}
 use Rattle.mesh_walks.proofs.Nodes.{node, node-first, node-second, node-leaf, first-leaf}
 use Rattle.mesh_trails.specs.Strolls.{place}
-use Rattle.mesh_trails.proofs.Strolls.{opened-stays}
 
 pub record Ends (rot : List ℕ) (r j k : ℕ) : Type 0 where
   pub begun : ℕ

@@ -24,6 +24,7 @@ use Rattle.orbits.proofs.Order.{lt-or-le}
 use Rattle.orbits.proofs.Tally.{count-below}
 use Rattle.words.specs.Brackets.{treeStack, chordStack}
 use Rattle.words.specs.Position.{opened, vertexCount, vertexTop, vertexNo}
+use Rattle.words.proofs.Opened.{opened-stays}
 use Rattle.traversal.specs.Steps.{dart, letterAfter}
 use Rattle.traversal.proofs.Steps.{dart-step}
 use Rattle.forward.proofs.Tops.{tree-opener, chord-opener}
@@ -31,7 +32,7 @@ use Rattle.marks.specs.Marks.{Rounded}
 use Rattle.marks.proofs.Trail.{tells-down, tells-first, tells-second}
 use Rattle.mesh_walks.specs.Told.{toldAfter, told, tell}
 use Rattle.mesh_trails.specs.Strolls.{Strolled, Hung, Entering, Entered, Halfway, Climbing, Homing}
-use Rattle.mesh_trails.proofs.Strolls.{opened-stays, tree-step, stroll-down, stroll-first, stroll-second}
+use Rattle.mesh_trails.proofs.Strolls.{tree-step, stroll-down, stroll-first, stroll-second}
 use Rattle.mesh_trails.proofs.Climbs.{told-last, tell-none, down-apart, over-in, first-vertex, second-vertex, node-good}
 
 module _ (P : ℕ → Type 0) (rot : List ℕ) (r : ℕ) (turn : Perm (length rot) (next rot)) (cross : Involution (length rot) opposite) (hr : r < length rot)

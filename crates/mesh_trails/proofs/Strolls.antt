@@ -7,11 +7,10 @@
 use Prim.Native.Nat.{ℕ, suc, _+_, _≤_, _<_}
 use native.Mathlib.Nat.{le-refl}
 use native.Mathlib.Omega.{arith}
-use mathlib.Core.Path.{_≡_, refl, sym, ap, subst, _∙_}
+use mathlib.Core.Path.{_≡_, refl, sym, ap, _∙_}
 use mathlib.Core.Logic.{_≢_}
-use mathlib.Core.Bool.{Bool, true, false}
+use mathlib.Core.Bool.{true}
 use mathlib.Core.List.{List, [], _∷_, map}
-use lib.Dec.{T}
 use lib.ListN.{length, getD, set, replicate}
 use lib.Seq.{getD-set-other}
 use Rattle.model.specs.Numbers.{count}
@@ -21,9 +20,10 @@ use Rattle.orbits.specs.Permutation.{Perm}
 use Rattle.orbits.specs.Chord.{Involution}
 use Rattle.orbits.specs.Stack.{push, stack}
 use Rattle.orbits.proofs.Order.{eq-split, lt-suc-split}
-use Rattle.orbits.proofs.Tally.{count-le, count-in, count-out, count-all, count-inj}
+use Rattle.orbits.proofs.Tally.{count-all, count-inj}
 use Rattle.words.specs.Brackets.{treeKind, chordKind, treeStack, chordStack}
 use Rattle.words.specs.Position.{opened, vertexNo}
+use Rattle.words.proofs.Opened.{opened-more, opened-stays, opened-few}
 use Rattle.traversal.specs.Steps.{dart, letterAfter}
 use Rattle.traversal.proofs.Marks.{zeros-at}
 use Rattle.traversal.proofs.Steps.{dart-bound}
@@ -41,18 +41,6 @@ first≢up e = let z : _≡_ {A = ℕ} 0 1 = cc in omega arith
 
 pub second≢up : second ≢ up
 second≢up e = let z : _≡_ {A = ℕ} 0 1 = cc in omega arith
-
-pub opened-more : (ℓ : ℕ → Letter) (k : ℕ) → opens (ℓ k) ≡ true → opened ℓ (suc k) ≡ suc (opened ℓ k)
-unfolding opened
-opened-more ℓ k e = count-in (λ j. opens (ℓ j)) k (subst (λ (b : Bool). T b) (sym e) tt)
-
-pub opened-stays : (ℓ : ℕ → Letter) (k : ℕ) → opens (ℓ k) ≡ false → opened ℓ (suc k) ≡ opened ℓ k
-unfolding opened
-opened-stays ℓ k e = count-out (λ j. opens (ℓ j)) k (λ t. subst (λ (b : Bool). T b) e t)
-
-pub opened-few : (ℓ : ℕ → Letter) (k : ℕ) → opened ℓ k ≤ k
-unfolding opened
-opened-few ℓ k = count-le (λ j. opens (ℓ j)) k
 
 module _ (ℓ : ℕ → Letter) (k : ℕ) (l : Letter) (e : ℓ k ≡ l) where
   pub tree-step : treeStack ℓ (suc k) ≡ push (treeKind l) k (treeStack ℓ k)
