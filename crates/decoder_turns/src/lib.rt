@@ -128,15 +128,16 @@ fn descend(payload: &[u8], family: u16, m: usize, w: &mut [u16], s: State, c: Cu
     let label = c.label(payload, family, m, w);
     let l = label.value;
     let d = label.cursor;
-    let bit = d.bit();
-    let b = bit.value;
-    let past = bit.cursor;
     if l == work::STAR {
         let t = leaf(w, m, s, e);
-        return Outcome::Goes(t, b, past); // b is its saved label
+        let bit = d.bit(); // its saved label
+        let past = bit.cursor;
+        return Outcome::Goes(t, bit.value, past);
     }
-    if b == 0 {
+    let bit = d.bit();
+    if bit.value == 0 {
         let t = back(w, m, s, e, l);
+        let past = bit.cursor;
         return Outcome::Goes(t, 0, past);
     }
     let t = enter(w, m, s, e, l);
