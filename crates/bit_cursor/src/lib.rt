@@ -1,5 +1,5 @@
-// A cursor on a payload of family 1 or 2, by value: "The tree bits and the labels are read in step". Tree bits come from a window of 64, labels from the payload or
-// the work area. It knows where the next bit and the next label stand, no letters and no plans.
+// A cursor on a payload of family 1 or 2: "The tree bits and the labels are read in step". It goes by value, and its methods hand back the next bit or label with
+// the cursor moved on. Bits come from a word of 64, labels from the payload or the work area. It knows no letters and no plans.
 ghost use mathlib.Core.Path.{_≡_};
 ghost use mathlib.Core.Bool.{true};
 ghost use Prim.Native.Nat.{_*_, _^_, _≤_, _<_};

@@ -8,13 +8,13 @@ use native.Mathlib.Omega.{arith}
 use mathlib.Core.Path.{_≡_, refl, sym, ap, _∙_, subst}
 use mathlib.Core.Logic.{_≢_}
 use mathlib.Core.List.{List}
-use lib.ListN.{length, getD}
+use lib.ListN.{getD}
 use Rattle.packing.specs.Unpack.{bits}
 use Rattle.packing.specs.Payload.{payloadBits}
 use Rattle.unpacker.proofs.Payload.{bit-count}
 use Rattle.bit_cursor.specs.declared.Cursor.{Cursor}
 use Rattle.bit_cursor.specs.declared.Next.{Next}
-use Rattle.bit_cursor.specs.Cursors.{Labelled, Sees, pastBit, nextBit}
+use Rattle.bit_cursor.specs.Cursors.{Labelled, Sees, nextBit}
 use Rattle.bit_cursor.proofs.Cursors.{sees-less, sees-past, sees-tree-bit}
 use Rattle.decoder_ends.specs.declared.State.{State}
 use Rattle.decoder_ends.specs.States.{stage, Fits}

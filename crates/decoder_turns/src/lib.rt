@@ -1,12 +1,9 @@
 // The turns of the machine that decodes families 1 and 2: up, or down to a leaf, into the tree or along an edge outside it, and the edges that end after each.
 // The cursor hands out tree bits and labels; as many edges have begun as labels are read.
 ghost use mathlib.Core.Path.{_≡_};
-ghost use mathlib.Core.Logic.{_≢_};
 ghost use Prim.Native.Nat.{_+_, _*_, _≤_, _<_};
-ghost use lib.ListN.{getD};
 ghost use Rattle.packing.specs.Unpack.{bits};
-ghost use Rattle.packing.specs.Payload.{payloadBits};
-ghost use Rattle.bit_cursor.specs.Cursors.{Labelled, Sees, pastBit};
+ghost use Rattle.bit_cursor.specs.Cursors.{Labelled, Sees};
 ghost use Rattle.decoder_ends.specs.States.{stage, leafStage, leafArea, backStage, backArea, enterStage, enterArea, Fits};
 ghost use Rattle.decoder_turns.specs.Turns.{Risen, Descended, Stepped};
 use bit_cursor::Cursor;

@@ -74,7 +74,7 @@ pub fn groups_fit(bytes: &[u8], inverse: &[u8], from: usize) -> bool
     true
 }
 
-// "unused low bits are 0", "the last group filled with 0", and every group's byte is the table's: a payload of kind 2.
+// A payload of kind 2 is clean: "unused low bits are 0", "the last group filled with 0", and every group's byte is the table's.
 fn groups_clean(payload: &[u8], inverse: &[u8], m: usize) -> bool
     requires { ⌜ Sized 2 m (now payload) × (length (now inverse) ≡ 256) ⌝ }
     ensures { λ r. ⌜ r ≡ payloadClean 2 m (undone (now (inverse .entry)) 2 m (now (payload .entry))) ⌝ }
@@ -126,7 +126,7 @@ fn spread_groups(payload: &[u8], inverse: &[u8], m: usize, w: &mut [u16])
     }
 }
 
-// The same for a payload that is clean; the inverse is handed down by value, and copied only here.
+// Whether a payload of kind 2 is clean, and if so, its labels in the work area. The inverse is handed down by value: it is copied only here.
 fn unpack_groups(payload: &[u8], inverse: [u8; 256], m: usize, w: &mut [u16]) -> bool
     requires { ⌜ Sized 2 m (now payload) × (32 * m ≤ length (now w)) ⌝ }
     ensures { λ r. ⌜ Unpacks 2 m inverse (now (payload .entry)) r (now (w .exit)) ⌝ }

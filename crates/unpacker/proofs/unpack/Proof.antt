@@ -1,6 +1,5 @@
 use native.Mathlib.Omega.{arith}
 use mathlib.Core.Path.{_≡_, sym, _∙_, subst}
-use mathlib.Core.Bool.{Bool}
 use Prim.Native.Nat.{ℕ}
 use Rattle.packing.proofs.Labelled.{labelled-two}
 use Rattle.unpacker.specs.Unpacked.{Unpacks}
