@@ -6,7 +6,7 @@ ghost use Rattle.unpacker.specs.Unpacked.{labels_at};
 ghost use Rattle.bit_cursor.specs.Cursors.{Sees, next_bit, next_label};
 
 // How many tree bits and how many labels are read. The next tree bit is the highest of the word.
-#[derive(Drop)]
+#[derive(Clone, Copy)]
 pub struct Cursor {
     pub word: u64,
     pub bits: usize,
@@ -14,7 +14,7 @@ pub struct Cursor {
 }
 
 // A tree bit or a label, and the cursor moved on past it.
-#[derive(Drop)]
+#[derive(Clone, Copy)]
 pub struct Next {
     pub value: u16,
     pub cursor: Cursor,

@@ -7,7 +7,7 @@ ghost use Rattle.builder.specs.Steps.{parts_at, Standing, Room, Stepped};
 
 // Where the traversal stands: vertices entered, the present one, how many tree edges and how many others are open, and the dart whose entry is the next
 // dart.
-#[derive(Drop)]
+#[derive(Clone, Copy)]
 pub struct State {
     pub n: u16,
     pub here: u16,

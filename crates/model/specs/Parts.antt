@@ -13,7 +13,7 @@ use Rattle.model.specs.Calls.{fetch_refusal, Fetched}
 use Rattle.model.specs.ShelfWalk.{first_record, record_at, place_of_record}
 
 abbrev pub begins_at : Bor (List ℕ) → ℕ → Bor (List ℕ) → Type 0
-begins_at s at t = t.ptr ≡ (s.ptr.0, s.ptr.1 + at)
+begins_at s at t = t.ref_ptr ≡ (s.ref_ptr.0, s.ref_ptr.1 + at)
 
 unfoldable pub cut_place : List ℕ → ℕ → ℕ
 cut_place bs at = cond (passes (first_record (drop at bs))) at 0

@@ -33,7 +33,7 @@ pub enum Shelved {
 
 // A group table: the byte for each group value, and the inverse: for each byte its group value, 243 if it has none.
 #[repr(C)]
-#[derive(Drop)]
+#[derive(Clone, Copy)]
 pub struct Table {
     pub bytes: [u8; 243],
     pub inverse: [u8; 256],
