@@ -55,7 +55,7 @@ module _ (f : ℕ) (other : f ≢ 3) (w : List Letter) (v : valid f w ≡ true) 
   pub encode_sized : Sized f (length w / 2) (encode_payload f w)
   encode_sized =
       let c = count_parts (length w) (valid_fits f w v) in
-      record { is_family_lem = valid_family f w v; some_edge = omega arith; few_edges = omega arith; long = λ fixed. long }
+      record { is_family = valid_family f w v; some_edge = omega arith; few_edges = omega arith; long = λ fixed. long }
 
   pub encode_short : length (encode_payload f w) ≤ 2048
   encode_short = let c = count_parts (length w) (valid_fits f w v) in rw long (payload_length_range f (length w / 2) (omega arith) (omega arith)).1

@@ -97,7 +97,7 @@ module _ (w : List Letter) (v : MeshWord w) where
   pub encode_mesh_sized : Sized 3 (length w / 2) (encode_mesh w)
   unfolding is_family elem
   encode_mesh_sized =
-      let c = size in record { is_family_lem = refl; some_edge = omega arith; few_edges = omega arith; long = λ e. absurd (true≢false e) }
+      let c = size in record { is_family = refl; some_edge = omega arith; few_edges = omega arith; long = λ e. absurd (true≢false e) }
 
   pub encode_mesh_range : (2 ≤ length (encode_mesh w)) × (length (encode_mesh w) ≤ mesh_room (length w / 2))
   unfolding encode_mesh

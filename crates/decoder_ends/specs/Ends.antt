@@ -40,4 +40,4 @@ Ended p q m w s l r w' = (e : ℕ) → Fits m w (stage e s) → (bs ls : List �
 
 pub record Finished (m : ℕ) (w : List ℕ) (s : Stage) (r : Bool) (w' : List ℕ) : Type 0 where
   pub ends : r ≡ true → (trees_to m s.below ≡ 0) × (others_to m s.opens ≡ 0) × (m ≤ s.edges) × (w' ≡ set w s.place 0)
-  pub goes_on_lem : r ≡ false → 0 < trees_to m s.below + others_to m s.opens + (m - s.edges)
+  pub goes_on : r ≡ false → 0 < trees_to m s.below + others_to m s.opens + (m - s.edges)

@@ -258,7 +258,7 @@ module _ (k : ℕ) (p : Plan) (w out : List ℕ) (r : ToLay k p w out) where
       let z = r.space in
       let h = head_length_range k in
       rw of (record {
-        is_family_lem = kind_family k kind;
+        is_family = kind_family k kind;
         other = family_not_three k kind r.other;
         spelling = word p;
         spelt = r.spelt;

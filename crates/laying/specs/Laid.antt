@@ -31,7 +31,7 @@ unfoldable pub area_payload : ℕ → ℕ → List ℕ → List ℕ
 area_payload f n w = cond (eqb f 4) (letters_payload (letters_in n w)) (value_payload f (n / 2) (work_bits n w) (work_labels n w))
 
 pub record Ready (n f at : ℕ) (w out : List ℕ) : Type 0 where
-  pub is_family_lem : is_family f ≡ true
+  pub is_family : is_family f ≡ true
   pub other : f ≢ 3
   pub spelling : List Letter
   pub spelt : Spelt n f spelling w

@@ -75,7 +75,7 @@ pub record Headed (ℓ : ℕ → Letter) (k f : ℕ) (fs : List ℕ) : Type 0 wh
   pub position : ℕ
   pub below : List ℕ
   pub on_top : chord_stack ℓ k ≡ position ∷ below
-  pub is_first_lem : ℓ position ≡ first
+  pub is_first : ℓ position ≡ first
   pub number : opened ℓ position ≡ f
   pub others : map (opened ℓ) below ≡ fs
 
@@ -86,7 +86,7 @@ headed ℓ k f fs e = go (chord_stack ℓ k) refl
     go [] q = let z = ap length (e ∙ ap (map (opened ℓ)) q) in absurd (omega arith)
     go (a ∷ s) q =
         let same = e ∙ ap (map (opened ℓ)) q in
-        record { position = a; below = s; on_top = q; is_first_lem = (chord_opener ℓ k a s q).1; number = sym (ap head same); others = sym (ap tail same) }
+        record { position = a; below = s; on_top = q; is_first = (chord_opener ℓ k a s q).1; number = sym (ap head same); others = sym (ap tail same) }
 
 stack_step : (ℓ : ℕ → Letter) (k : ℕ) (l : Letter) → ℓ k ≡ l → chord_stack ℓ (suc k) ≡ push (chord_kind l) k (chord_stack ℓ k)
 unfolding stack

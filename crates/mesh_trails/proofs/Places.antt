@@ -68,7 +68,7 @@ module _ (P : ℕ → Type 0) (rot : List ℕ) (r : ℕ) (turn : Perm (length ro
       let to = step_to k down e in
       record {
         strolled = stroll_down P rot r turn cross hr k b waits n.earlier n.strolled n.away few ts n.tells n.blank c big b' u good;
-        is_down_lem = e;
+        is_down = e;
         here = to;
         away = down_apart P rot r turn cross hr few three k e (D (suc k)) (ap (vertex_of rot) to ∙ first_vertex P rot r turn cross hr few three k);
         stacked = tree_step ℓ k down e;

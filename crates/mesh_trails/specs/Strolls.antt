@@ -50,7 +50,7 @@ pub record Entering (P : ℕ → Type 0) (rot : List ℕ) (r k : ℕ) (us b wait
 -- just gone down at k, at the first place of the vertex there
 pub record Entered (P : ℕ → Type 0) (rot : List ℕ) (r k : ℕ) (us b waits ts : List ℕ) : Type 0 where
   pub strolled : Strolled P rot r (suc k) b waits ts
-  pub is_down_lem : letter_after rot r k ≡ down
+  pub is_down : letter_after rot r k ≡ down
   pub here : dart rot r (suc k) ≡ next rot (opposite (dart rot r k))
   pub away : dart rot r (suc k) ≢ r
   pub stacked : tree_stack (letter_after rot r) (suc k) ≡ k ∷ tree_stack (letter_after rot r) k

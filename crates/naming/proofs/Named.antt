@@ -137,7 +137,7 @@ decode_named (suc k) f s g = rw (turn_named f s g) (go (turn s) (grows s) (decod
     go : (t : Turn) → Grows s t → ((r : Machine) → Names f r.n → decode k (named f r) ≡ decode k r) → follow (decode k) (turned f t) ≡ follow (decode k) t
     go done h ih = refl
     go stuck h ih = refl
-    go (goes ls r) h ih = ap (after ls) (ih r (record { rises = g.rises; goes_on_lem = λ a l. g.goes_on a (omega arith) }))
+    go (goes ls r) h ih = ap (after ls) (ih r (record { rises = g.rises; goes_on = λ a l. g.goes_on a (omega arith) }))
 
 pub run_named : (f : ℕ → ℕ) (s : Machine) → Names f s.n → run (named f s) ≡ run s
 unfolding run
@@ -167,7 +167,7 @@ module _ (n k : ℕ) (h : n ≤ k) where
         | no p ↦ (let x = high a (omega arith) in let y = high b (omega arith) in omega arith)
       ]
     ];
-    goes_on_lem = λ a l. let x = high a l in let y = high (suc a) (omega arith) in omega arith;
+    goes_on = λ a l. let x = high a l in let y = high (suc a) (omega arith) in omega arith;
   }
 
   all_low : (xs : List ℕ) → all_below n xs ≡ true → map (raised n k) xs ≡ xs

@@ -36,7 +36,7 @@ enters_at k s = record {
 
 pub record Names (f : ℕ → ℕ) (n : ℕ) : Type 0 where
   pub rises : (a b : ℕ) → a < b → f a < f b
-  pub goes_on_lem : (a : ℕ) → n ≤ a → f (suc a) ≡ suc (f a)
+  pub goes_on : (a : ℕ) → n ≤ a → f (suc a) ≡ suc (f a)
 
 pub record Low (s : Machine) : Type 0 where
   pub here_in : s.here < s.n

@@ -32,7 +32,7 @@ module _ (m : ℕ) (w : List ℕ) (s : State) (some : 3 ≤ m) (few : m ≤ 4096
         few_edges = few;
         thirds = thirds;
         room = room;
-        types_in_lem = t;
+        types_in = t;
         balance = b;
         within = omega arith;
         low = l;

@@ -102,7 +102,7 @@ pub record Standing (m c : ℕ) (w : List ℕ) (s : State) : Type 0 where
   pub few_edges : m ≤ 4096
   pub thirds : m % 3 ≡ 0
   pub room : 32 * m ≤ length w
-  pub types_in_lem : s.read ≤ type_count m
+  pub types_in : s.read ≤ type_count m
   pub balance : s.put + owed (view_at m w s).nodes + c ≡ 3 * s.read + 1
   pub within : s.put + s.depth + c + 2 ≤ 2 * m
   pub low : s.height ≤ s.put

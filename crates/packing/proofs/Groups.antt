@@ -124,7 +124,7 @@ module _ (g : ℕ → ℕ) (f m : ℕ) (ps : List ℕ) where
       ∙ sym (length-append (take n ps) (drop n ps)) ∙ ap length (take-append-drop n ps)
 
   pub groups_sized : Sized f m ps → Sized f m (on_groups g f m ps)
-  groups_sized s = record { is_family_lem = s.is_family; some_edge = s.some_edge; few_edges = s.few_edges; long = λ v. groups_length ∙ s.long v }
+  groups_sized s = record { is_family = s.is_family; some_edge = s.some_edge; few_edges = s.few_edges; long = λ v. groups_length ∙ s.long v }
 
   module _ (s : Sized f m ps) where
     front_long : length (take n ps) ≡ n

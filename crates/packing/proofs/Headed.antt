@@ -152,7 +152,7 @@ module _ (r : List ℕ) (pass : passes r ≡ true) where
       let d = length-drop (head_length (kind_of r)) r in
       let same = family_varies (kind_of r) facts.kind in
       record {
-        is_family_lem = kind_family (kind_of r) facts.kind;
+        is_family = kind_family (kind_of r) facts.kind;
         some_edge = facts.some_edge;
         few_edges = facts.few_edges;
         long = λ v. let l = facts.right_length (sym same ∙ v) in omega arith;

@@ -19,7 +19,7 @@ unfoldable pub has_labels : ℕ → Bool
 has_labels f = eqb f 1 || eqb f 2
 
 pub record Sized (f m : ℕ) (ps : List ℕ) : Type 0 where
-  pub is_family_lem : is_family f ≡ true
+  pub is_family : is_family f ≡ true
   pub some_edge : 1 ≤ m
   pub few_edges : m ≤ 4096
   pub long : length_varies f ≡ false → length ps ≡ payload_length f m
