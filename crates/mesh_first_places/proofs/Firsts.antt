@@ -235,7 +235,7 @@ module _ (order w : List ℕ) (s : Stroll) (a : AtDown order w s) where
   next_in x h = (dual_next order x h, next_below order h₂.count h₂.perm x h)
 
   is_down_lem : ℓ₂ k₂ ≡ down
-  is_down = tells_down rot₂ r₂ t₂ c₂ hr₂ k₂ a.b a.waits a.stands.strolled.trail a.stands.away a.stands.blank
+  is_down_lem = tells_down rot₂ r₂ t₂ c₂ hr₂ k₂ a.b a.waits a.stands.strolled.trail a.stands.away a.stands.blank
 
   unmarked : (z : ℕ) → z < length rot₂ → vertex_of rot₂ z ≡ vertex_of rot₂ (opposite (D₂ k₂)) → get_or a.b z 0 ≡ 0
   unmarked = unmarked_vertex rot₂ r₂ t₂ c₂ hr₂ k₂ (λ j h l. lt_suc_split l (λ e z. a.stands.away (omega arith) (ap D₂ (sym e) ∙ z))
