@@ -68,7 +68,7 @@ loop-again c =
     let at = c.before.before.before.loop in
     let x = c.before.before.before.before.before.eight in
     among_on _ _ _ _ _ _ _ _ _ _ at.invariant c.before.before.loop-test.true p.1.2 p.0.2 p.1.1 _ x.ensures _
-    c.before.pair.ensures _ c.code_of_lem.ensures
+    c.before.pair.ensures _ c.code_of.ensures
 
 same_length : tie.Need-same-length invariant_loop decreases_loop
 same_length c = c.before.loop.invariant.reading.kept
