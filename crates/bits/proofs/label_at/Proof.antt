@@ -6,13 +6,13 @@ use borrow.Author.Rules.{rules}
 use Rattle.bits.proofs.label_at.Statement.{statement}
 use Rattle.bits.proofs.label_at.Tie as tie
 
-cast-b : tie.Need-overflow-cast-b
-cast-b c = let a = c.before.before.before.args in omega (arith, c.shared-slice-known3.given (a.from + a.i / 5))
+overflow_cast-b : tie.Need-overflow_cast-b
+overflow_cast-b c = let a = c.before.before.before.args in omega (arith, c.shared_slice_known-3-1.given (a.from + a.i / 5))
 
-shared-slice-read-group : tie.Need-shared-slice-read-group
-shared-slice-read-group c =
+bounds-inverse-b : tie.Need-bounds-inverse-b
+bounds-inverse-b c =
     let st = c.before.before.before.before in
-    omega (arith, c.before.shared-slice-known3.given (st.args.from + st.args.i / 5))
+    omega (arith, c.before.shared_slice_known-3-1.given (st.args.from + st.args.i / 5))
 
 returns : tie.Need-returns
 returns c =
@@ -22,4 +22,4 @@ returns c =
 pub label_at_spec : {M : Type 1} → statement M
 label_at_spec =
     tie.close
-    (tie.spec (λ c. search rules) (λ c. search rules) cast-b shared-slice-read-group (λ c κs. search rules) returns)
+    (tie.spec (λ c. search rules) (λ c. search rules) overflow_cast-b bounds-inverse-b (λ c κs. search rules) returns)

@@ -4,20 +4,20 @@ use native.Mathlib.Omega.{arith}
 use Rattle.bits.proofs.label_in.Statement.{statement}
 use Rattle.bits.proofs.label_in.Tie as tie
 
+returns-then-j-eq0 : tie.Need-returns-then-j-eq0
+returns-then-j-eq0 c = rw c.if-j-eq0.true
+
+returns-then-j-eq1 : tie.Need-returns-then-j-eq1
+returns-then-j-eq1 c = rw c.if-j-eq1.true
+
+returns-then-j-eq2 : tie.Need-returns-then-j-eq2
+returns-then-j-eq2 c = rw c.if-j-eq2.true
+
+returns-then-j-eq3 : tie.Need-returns-then-j-eq3
+returns-then-j-eq3 c = rw c.if-j-eq3.true
+
 returns : tie.Need-returns
-returns c = rw c.if1.true
-
-returns-2 : tie.Need-returns-2
-returns-2 c = rw c.if2.true
-
-returns-3 : tie.Need-returns-3
-returns-3 c = rw c.if3.true
-
-returns-4 : tie.Need-returns-4
-returns-4 c = rw c.if4.true
-
-returns-5 : tie.Need-returns-5
-returns-5 c = let a = c.before.before.before.before.args in let e : a.j ≡ 4 = omega arith in rw (e, div-one a.group)
+returns c = let a = c.before.before.before.before.args in let e : a.j ≡ 4 = omega arith in rw (e, div-one a.group)
 
 pub label_in_spec : {M : Type 1} → statement M
-label_in_spec = tie.close (tie.spec returns returns-2 returns-3 returns-4 returns-5)
+label_in_spec = tie.close (tie.spec returns-then-j-eq0 returns-then-j-eq1 returns-then-j-eq2 returns-then-j-eq3 returns)

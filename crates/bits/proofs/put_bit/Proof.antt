@@ -5,13 +5,13 @@ use borrow.Author.Rules.{rules}
 use Rattle.bits.proofs.put_bit.Statement.{statement}
 use Rattle.bits.proofs.put_bit.Tie as tie
 
-add-s : tie.Need-overflow-add-s
-add-s c =
+overflow_add-s : tie.Need-overflow_add-s
+overflow_add-s c =
     let p = c.before.requires in
-    record { fits = bit_fits _ _ p.0 _ p.1 (omega (arith, c.slice-known.given (c.before.args.k / 8))) p.2 }
+    record { fits = bit_fits _ _ p.0 _ p.1 (omega (arith, c.slice_known-1.given (c.before.args.k / 8))) p.2 }
 
 returns : tie.Need-returns
-returns c = let p = c.before.requires in bit_put _ _ p.0 _ p.1 (omega (arith, c.slice-known.given (c.before.args.k / 8))) p.2
+returns c = let p = c.before.requires in bit_put _ _ p.0 _ p.1 (omega (arith, c.slice_known-1.given (c.before.args.k / 8))) p.2
 
 pub put_bit_spec : {M : Type 1} → statement M
 put_bit_spec =
@@ -21,7 +21,7 @@ put_bit_spec =
     (λ c. search rules)
     (λ c. search rules)
     (λ c. search rules)
-    add-s
+    overflow_add-s
     (λ c. search rules)
     (λ c. search rules)
     returns)

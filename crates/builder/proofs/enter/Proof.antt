@@ -5,11 +5,11 @@ use borrow.Author.Rules.{rules}
 use Rattle.builder.proofs.enter.Statement.{statement}
 use Rattle.builder.proofs.enter.Tie as tie
 
-slice-write-w-2 : tie.Need-slice-write-w-2
-slice-write-w-2 c = simp length-set (omega arith)
+bounds-w-m : tie.Need-bounds-w-m
+bounds-w-m c = simp length-set (omega arith)
 
-slice-write-w-3 : tie.Need-slice-write-w-3
-slice-write-w-3 c = simp length-set (omega arith)
+bounds-w-m-2 : tie.Need-bounds-w-m-2
+bounds-w-m-2 c = simp length-set (omega arith)
 
 returns : tie.Need-returns
 returns c = entering _ _ _ _ c.requires.0 c.requires.1
@@ -26,13 +26,13 @@ enter_spec =
     (λ c. search rules)
     (λ c. search rules)
     (λ c. search rules)
-    slice-write-w-2
+    bounds-w-m
     (λ c. search rules)
     (λ c. search rules)
     (λ c. search rules)
     (λ c. search rules)
     (λ c. search rules)
-    slice-write-w-3
+    bounds-w-m-2
     (λ c. search rules)
     (λ c. search rules)
     (λ c. search rules)

@@ -3,10 +3,10 @@ use borrow.Author.Rules.{rules}
 use Rattle.cases.proofs.checksum.Statement.{statement}
 use Rattle.cases.proofs.checksum.Tie as tie
 
-abbrev invariant_loop : tie.invariant-loop
+abbrev invariant_loop : tie.invariant-loop-i
 invariant_loop bytes n sum₀ i₀ sum i = sum < 65521
 
-abbrev decreases_loop : tie.decreases-loop
+abbrev decreases_loop : tie.decreases-loop-i
 decreases_loop bytes n sum₀ i₀ sum i = n - i
 
 pub checksum_spec : {M : Type 1} → statement M

@@ -3,10 +3,10 @@ use borrow.Author.Rules.{rules}
 use Rattle.cases.proofs.print_bytes.Statement.{statement}
 use Rattle.cases.proofs.print_bytes.Tie as tie
 
-abbrev invariant_loop : tie.invariant-loop
+abbrev invariant_loop : tie.invariant-loop-i
 invariant_loop bytes n i₀ i = Unit
 
-abbrev decreases_loop : tie.decreases-loop
+abbrev decreases_loop : tie.decreases-loop-i
 decreases_loop bytes n i₀ i = n - i
 
 pub print_bytes_spec : {M : Type 1} → statement M

@@ -4,14 +4,14 @@ use borrow.Author.Rules.{rules}
 use Rattle.cases.proofs.print_lengths.Statement.{statement}
 use Rattle.cases.proofs.print_lengths.Tie as tie
 
-abbrev invariant_loop : tie.invariant-loop
+abbrev invariant_loop : tie.invariant-loop-i
 invariant_loop list n i₀ t4 i = Unit
 
-abbrev decreases_loop : tie.decreases-loop
+abbrev decreases_loop : tie.decreases-loop-i
 decreases_loop list n i₀ t4 i = n - i
 
-cast-print-decimal : tie.Need-overflow-cast-print-decimal invariant_loop decreases_loop
-cast-print-decimal c = omega (arith, c.shared-slice-known2.given c.before.before.before.before.before.loop.i)
+overflow_cast-list : tie.Need-overflow_cast-list invariant_loop decreases_loop
+overflow_cast-list c = omega (arith, c.shared_slice_known-in-loop-i-1.given c.before.before.before.before.before.before.loop-i.i)
 
 pub print_lengths_spec : {M : Type 1} → statement M
 print_lengths_spec =
@@ -24,7 +24,7 @@ print_lengths_spec =
     (λ c κs. search rules)
     (λ c. search rules)
     (λ c. search rules)
-    cast-print-decimal
+    overflow_cast-list
     (λ c κs. search rules)
     (λ c. search rules)
     (λ c. search rules)

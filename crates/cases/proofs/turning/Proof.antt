@@ -5,10 +5,10 @@ use borrow.Author.Rules.{rules}
 use Rattle.cases.proofs.turning.Statement.{statement}
 use Rattle.cases.proofs.turning.Tie as tie
 
-abbrev invariant_loop : tie.invariant-loop
+abbrev invariant_loop : tie.invariant-loop-i
 invariant_loop order₀ even odd i₀ order i = (i ≤ length order₀) × (length order ≡ length order₀)
 
-abbrev decreases_loop : tie.decreases-loop
+abbrev decreases_loop : tie.decreases-loop-i
 decreases_loop order₀ even odd i₀ order i = length order₀ - i
 
 pub turning_spec : {M : Type 1} → statement M

@@ -5,11 +5,11 @@ use borrow.Author.Rules.{rules}
 use Rattle.characteristic.proofs.euler.Statement.{statement}
 use Rattle.characteristic.proofs.euler.Tie as tie
 
-sub-result : tie.Need-overflow-sub-result
-sub-result c = fits_less c.args.v c.args.e c.args.f (omega arith) (omega arith) (omega arith)
+overflow_sub-result : tie.Need-overflow_sub-result
+overflow_sub-result c = fits_less c.args.v c.args.e c.args.f (omega arith) (omega arith) (omega arith)
 
-add-result : tie.Need-overflow-add-result
-add-result c =
+overflow_add-result : tie.Need-overflow_add-result
+overflow_add-result c =
     rw (back_less c.args.v c.args.e c.args.f (omega arith) (omega arith) (omega arith), small c.args.f (omega arith))
     (fits_all c.args.v c.args.e c.args.f (omega arith) (omega arith) (omega arith))
 
@@ -20,4 +20,4 @@ returns c =
 
 pub euler_spec : {M : Type 1} → statement M
 euler_spec =
-    tie.close (tie.spec (λ c. search rules) (λ c. search rules) sub-result (λ c. search rules) add-result returns)
+    tie.close (tie.spec (λ c. search rules) (λ c. search rules) overflow_sub-result (λ c. search rules) overflow_add-result returns)

@@ -7,119 +7,119 @@ use Rattle.contour.proofs.visit.Statement.{statement}
 use Rattle.contour.proofs.visit.Tie as tie
 
 -- dart d with the other dart of its edge
-at : (c : tie.After-other) → let a = c.before.before.before in Here a.args.order.now a.args.w.now a.args.d c.other.result
+at : (c : tie.After-other-o) → let a = c.before.before.before in Here a.args.order.now a.args.w.now a.args.d c.other-o.result
 at c =
     let a = c.before.before.before in
-    here a.args.order.now a.args.w.now a.args.d c.other.result a.requires.0 a.requires.1 a.requires.2 a.requires.3 c.other.ensures
+    here a.args.order.now a.args.w.now a.args.d c.other-o.result a.requires.0 a.requires.1 a.requires.2 a.requires.3 c.other-o.ensures
 
-other-requires : tie.Need-other-requires
-other-requires c κs = let k = count_parts _ c.before.before.requires.0 in omega arith
+other-o-requires : tie.Need-other-o-requires
+other-o-requires c κs = let k = count_parts _ c.before.before.requires.0 in omega arith
 
-cast-around : tie.Need-overflow-cast-around
-cast-around c = omega (arith, c.shared-slice-known2.given c.before.before.before.before.args.d)
+overflow_cast-around : tie.Need-overflow_cast-around
+overflow_cast-around c = omega (arith, c.shared_slice_known-2-1.given c.before.before.before.before.args.d)
 
-mul-along : tie.Need-overflow-mul-along
-mul-along c = let f = at c.before in omega arith
+offset_bounds-order-o : tie.Need-offset_bounds-order-o
+offset_bounds-order-o c = let f = at c.before in omega arith
 
-shared-slice-read-along : tie.Need-shared-slice-read-along
-shared-slice-read-along c = let f = at c.before.before in omega arith
+bounds-order-o : tie.Need-bounds-order-o
+bounds-order-o c = let f = at c.before.before in omega arith
 
-cast-along : tie.Need-overflow-cast-along
-cast-along c = omega (arith, c.shared-slice-known3.given c.before.before.other.result)
+overflow_cast-along : tie.Need-overflow_cast-along
+overflow_cast-along c = omega (arith, c.shared_slice_known-3-1.given c.before.before.other-o.result)
 
-add-met : tie.Need-overflow-add-met
-add-met c = let f = at c.before.before in omega arith
+overflow_add-met : tie.Need-overflow_add-met
+overflow_add-met c = let f = at c.before.before in omega arith
 
-mul-met-2 : tie.Need-overflow-mul-met-2
-mul-met-2 c = let f = at c.before.before in omega arith
+offset_bounds-w-n : tie.Need-offset_bounds-w-n
+offset_bounds-w-n c = let f = at c.before.before in omega arith
 
-slice-read-met : tie.Need-slice-read-met
-slice-read-met c = let f = at c.before.before.before in omega arith
+bounds-w-n : tie.Need-bounds-w-n
+bounds-w-n c = let f = at c.before.before.before in omega arith
 
-mul-s-2 : tie.Need-overflow-mul-s-2
-mul-s-2 c = let f = at c.before.before.before.before in omega arith
+offset_bounds-w-o : tie.Need-offset_bounds-w-o
+offset_bounds-w-o c = let f = at c.before.before.before.before in omega arith
 
-slice-read-s : tie.Need-slice-read-s
-slice-read-s c = let f = at c.before.before.before.before.before in omega arith
+bounds-w-o : tie.Need-bounds-w-o
+bounds-w-o c = let f = at c.before.before.before.before.before in omega arith
 
-cast-s : tie.Need-overflow-cast-s
-cast-s c = let f = at c.before.before.before.before.before in omega arith
+overflow_cast-s : tie.Need-overflow_cast-s
+overflow_cast-s c = let f = at c.before.before.before.before.before in omega arith
 
-add-s : tie.Need-overflow-add-s
-add-s c = let f = at c.before.before.before.before.before in omega arith
+overflow_add-s : tie.Need-overflow_add-s
+overflow_add-s c = let f = at c.before.before.before.before.before in omega arith
 
-mul-if2 : tie.Need-overflow-mul-if2
-mul-if2 c = let f = at c.before.before.before.before.before in omega arith
+offset_bounds-w-s : tie.Need-offset_bounds-w-s
+offset_bounds-w-s c = let f = at c.before.before.before.before.before in omega arith
 
-slice-read-if2 : tie.Need-slice-read-if2
-slice-read-if2 c = let f = at c.before.before.before.before.before.before in omega arith
+bounds-w-s : tie.Need-bounds-w-s
+bounds-w-s c = let f = at c.before.before.before.before.before.before in omega arith
 
-mul-w : tie.Need-overflow-mul-w
-mul-w c = let f = at c.before.before.before.before.before.before.before in omega arith
+offset_bounds-w-s-then-w-s-eq0 : tie.Need-offset_bounds-w-s-then-w-s-eq0
+offset_bounds-w-s-then-w-s-eq0 c = let f = at c.before.before.before.before.before.before.before in omega arith
 
-slice-write-w : tie.Need-slice-write-w
-slice-write-w c = let f = at c.before.before.before.before.before.before.before in omega arith
+bounds-w-s-then-w-s-eq0 : tie.Need-bounds-w-s-then-w-s-eq0
+bounds-w-s-then-w-s-eq0 c = let f = at c.before.before.before.before.before.before.before in omega arith
 
 note-requires : tie.Need-note-requires
 note-requires c κs = let f = at c.before.before.before.before.before.before.before.before in (f.few, f.dart, simp length-set f.room)
 
-returns : tie.Need-returns
-returns c = goes_down (at c.before.before.before.before.before.before.before.before.before.before.before) c.before.before.before.before.before.before.before.if1.true c.before.before.before.before.if2.true c.before.before.note.ensures
+returns-then-w-s-eq0 : tie.Need-returns-then-w-s-eq0
+returns-then-w-s-eq0 c = goes_down (at c.before.before.before.before.before.before.before.before.before.before.before) c.before.before.before.before.before.before.before.if-met-eq0.true c.before.before.before.before.if-w-s-eq0.true c.before.before.note.ensures
 
-same_length : tie.Need-same-length
-same_length c = (returns c).kept
+shape_of-w-then-w-s-eq0 : tie.Need-shape_of-w-then-w-s-eq0
+shape_of-w-then-w-s-eq0 c = (returns-then-w-s-eq0 c).kept
+
+note-requires-then-met-eq0 : tie.Need-note-requires-then-met-eq0
+note-requires-then-met-eq0 c κs = let f = at c.before.before.before.before.before.before.before.before in (f.few, f.dart, f.room)
+
+returns-then-met-eq0 : tie.Need-returns-then-met-eq0
+returns-then-met-eq0 c = is_noted (at c.before.before.before.before.before.before.before.before.before.before.before) c.before.before.before.before.before.before.before.if-met-eq0.true c.before.before.before.before.if-w-s-eq0.false c.before.before.note-then-met-eq0.ensures
+
+note-requires-then-met-eq-DOWN : tie.Need-note-requires-then-met-eq-DOWN
+note-requires-then-met-eq-DOWN c κs = let f = at c.before.before.before.before.before.before in (f.few, f.dart, f.room)
+
+returns-then-met-eq-DOWN : tie.Need-returns-then-met-eq-DOWN
+returns-then-met-eq-DOWN c = comes_up (at c.before.before.before.before.before.before.before.before.before) c.before.before.before.before.if-met-eq-DOWN.true c.before.before.note-then-met-eq-DOWN.ensures
 
 note-requires-2 : tie.Need-note-requires-2
-note-requires-2 c κs = let f = at c.before.before.before.before.before.before.before.before in (f.few, f.dart, f.room)
+note-requires-2 c κs = let f = at c.before.before.before.before.before.before in (f.few, f.dart, f.room)
 
-returns-2 : tie.Need-returns-2
-returns-2 c = is_noted (at c.before.before.before.before.before.before.before.before.before.before.before) c.before.before.before.before.before.before.before.if1.true c.before.before.before.before.if2.false c.before.before.note2.ensures
-
-note-requires-3 : tie.Need-note-requires-3
-note-requires-3 c κs = let f = at c.before.before.before.before.before.before in (f.few, f.dart, f.room)
-
-returns-3 : tie.Need-returns-3
-returns-3 c = comes_up (at c.before.before.before.before.before.before.before.before.before) c.before.before.before.before.if3.true c.before.before.note3.ensures
-
-note-requires-4 : tie.Need-note-requires-4
-note-requires-4 c κs = let f = at c.before.before.before.before.before.before in (f.few, f.dart, f.room)
-
-returns-4 : tie.Need-returns-4
-returns-4 c = is_noted_again (at c.before.before.before.before.before.before.before.before.before) c.before.before.before.before.before.if1.false c.before.before.before.before.if3.false c.before.before.note4.ensures
+returns : tie.Need-returns
+returns c = is_noted_again (at c.before.before.before.before.before.before.before.before.before) c.before.before.before.before.before.if-met-eq0.false c.before.before.before.before.if-met-eq-DOWN.false c.before.before.note-2.ensures
 
 pub visit_spec : {M : Type 1} → statement M
 visit_spec =
     tie.close
     (tie.spec
-    other-requires
+    other-o-requires
     (λ c. search rules)
     (λ c. search rules)
-    cast-around
-    mul-along
-    shared-slice-read-along
-    cast-along
+    overflow_cast-around
+    offset_bounds-order-o
+    bounds-order-o
+    overflow_cast-along
     (λ c. search rules)
-    add-met
-    mul-met-2
-    slice-read-met
+    overflow_add-met
+    offset_bounds-w-n
+    bounds-w-n
     (λ c. search rules)
-    mul-s-2
-    slice-read-s
-    cast-s
-    add-s
-    mul-if2
-    slice-read-if2
-    mul-w
-    slice-write-w
+    offset_bounds-w-o
+    bounds-w-o
+    overflow_cast-s
+    overflow_add-s
+    offset_bounds-w-s
+    bounds-w-s
+    offset_bounds-w-s-then-w-s-eq0
+    bounds-w-s-then-w-s-eq0
     note-requires
-    same_length
-    returns
+    shape_of-w-then-w-s-eq0
+    returns-then-w-s-eq0
+    note-requires-then-met-eq0
+    (λ c. search rules)
+    returns-then-met-eq0
+    note-requires-then-met-eq-DOWN
+    (λ c. search rules)
+    returns-then-met-eq-DOWN
     note-requires-2
     (λ c. search rules)
-    returns-2
-    note-requires-3
-    (λ c. search rules)
-    returns-3
-    note-requires-4
-    (λ c. search rules)
-    returns-4)
+    returns)

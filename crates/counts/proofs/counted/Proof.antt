@@ -3,10 +3,10 @@ use borrow.Author.Rules.{rules}
 use Rattle.counts.proofs.counted.Statement.{statement}
 use Rattle.counts.proofs.counted.Tie as tie
 
-abbrev invariant_loop : tie.invariant-loop
+abbrev invariant_loop : tie.invariant-loop-x
 invariant_loop kind m size payloads n₀ x₀ n x = (n ≤ x) × (x ≤ payloads)
 
-abbrev decreases_loop : tie.decreases-loop
+abbrev decreases_loop : tie.decreases-loop-x
 decreases_loop kind m size payloads n₀ x₀ n x = payloads - x
 
 pub counted_spec : {M : Type 1} → statement M

@@ -3,10 +3,10 @@ use borrow.Author.Rules.{rules}
 use Rattle.counts.proofs.counted_outside.Statement.{statement}
 use Rattle.counts.proofs.counted_outside.Tie as tie
 
-abbrev invariant_loop : tie.invariant-loop
+abbrev invariant_loop : tie.invariant-loop-x
 invariant_loop family m size payloads n₀ x₀ n x = (n ≤ 65536 * x) × (x ≤ 2 * m + 1)
 
-abbrev decreases_loop : tie.decreases-loop
+abbrev decreases_loop : tie.decreases-loop-x
 decreases_loop family m size payloads n₀ x₀ n x = 2 * m + 1 - x
 
 pub counted_outside_spec : {M : Type 1} → statement M

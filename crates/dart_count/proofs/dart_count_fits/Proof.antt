@@ -2,14 +2,14 @@ use Rattle.dart_count.proofs.Counts.{no_darts, odd_darts, even_darts}
 use Rattle.dart_count.proofs.dart_count_fits.Statement.{statement}
 use Rattle.dart_count.proofs.dart_count_fits.Tie as tie
 
+returns-then-n-eq0 : tie.Need-returns-then-n-eq0
+returns-then-n-eq0 c = no_darts _ c.if-n-eq0.true
+
+returns-then-n-ne0 : tie.Need-returns-then-n-ne0
+returns-then-n-ne0 c = odd_darts _ c.if-n-ne0.true
+
 returns : tie.Need-returns
-returns c = no_darts _ c.if1.true
-
-returns-2 : tie.Need-returns-2
-returns-2 c = odd_darts _ c.if2.true
-
-returns-3 : tie.Need-returns-3
-returns-3 c = even_darts _ c.before.if1.false c.if2.false
+returns c = even_darts _ c.before.if-n-eq0.false c.if-n-ne0.false
 
 pub dart_count_fits_spec : {M : Type 1} → statement M
-dart_count_fits_spec = tie.close (tie.spec returns returns-2 returns-3)
+dart_count_fits_spec = tie.close (tie.spec returns-then-n-eq0 returns-then-n-ne0 returns)

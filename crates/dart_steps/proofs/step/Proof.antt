@@ -5,48 +5,48 @@ use borrow.Author.Rules.{rules}
 use Rattle.dart_steps.proofs.step.Statement.{statement}
 use Rattle.dart_steps.proofs.step.Tie as tie
 
-other-requires : tie.Need-other-requires
-other-requires c κs =
+other-o-requires : tie.Need-other-o-requires
+other-o-requires c κs =
     let st = c.before.before in
     let n = count_parts _ st.requires.0 in
     omega arith
 
-mul-result : tie.Need-overflow-mul-result
-mul-result c =
+offset_bounds-order-o : tie.Need-offset_bounds-order-o
+offset_bounds-order-o c =
     let st = c.before.before.before in
     let n = count_parts _ st.requires.0 in
     let o = opposite_bound _ _ n.1 st.requires.1 in
     omega arith
 
-shared-slice-read-result : tie.Need-shared-slice-read-result
-shared-slice-read-result c =
+bounds-order-o : tie.Need-bounds-order-o
+bounds-order-o c =
     let st = c.before.before.before.before in
     let n = count_parts _ st.requires.0 in
     let o = opposite_bound _ _ n.1 st.requires.1 in
     omega arith
 
-cast-result : tie.Need-overflow-cast-result
-cast-result c = omega (arith, c.shared-slice-known2.given c.before.other.result)
+overflow_cast-result : tie.Need-overflow_cast-result
+overflow_cast-result c = omega (arith, c.shared_slice_known-then-across-1.given c.before.other-o.result)
+
+returns-then-across : tie.Need-returns-then-across
+returns-then-across c = step_across _ _ _ _ c.before.before.if-across.true c.before.other-o.ensures
+
+overflow_cast-result-2 : tie.Need-overflow_cast-result-2
+overflow_cast-result-2 c = omega (arith, c.shared_slice_known-2-1.given c.before.before.before.args.d)
 
 returns : tie.Need-returns
-returns c = step_across _ _ _ _ c.before.before.if1.true c.before.other.ensures
-
-cast-result-2 : tie.Need-overflow-cast-result-2
-cast-result-2 c = omega (arith, c.shared-slice-known3.given c.before.before.before.args.d)
-
-returns-2 : tie.Need-returns-2
-returns-2 c = step_round _ _ _ c.before.if1.false
+returns c = step_round _ _ _ c.before.if-across.false
 
 pub step_spec : {M : Type 1} → statement M
 step_spec =
     tie.close
     (tie.spec
-    other-requires
-    mul-result
-    shared-slice-read-result
-    cast-result
-    returns
+    other-o-requires
+    offset_bounds-order-o
+    bounds-order-o
+    overflow_cast-result
+    returns-then-across
     (λ c. search rules)
     (λ c. search rules)
-    cast-result-2
-    returns-2)
+    overflow_cast-result-2
+    returns)

@@ -4,30 +4,30 @@ use borrow.Author.Rules.{rules}
 use Rattle.group_numbers.proofs.group.Statement.{statement}
 use Rattle.group_numbers.proofs.group.Tie as tie
 
-byte-of-bits-requires : tie.Need-byte-of-bits-requires
-byte-of-bits-requires c κs =
+byte_of_bits-requires : tie.Need-byte_of_bits-requires
+byte_of_bits-requires c κs =
     let st = c.before.before.before in
-    full_as st.args.w.now _ _ _ 2 8 c.before.if1.true (eqb-true _ 8 c.if2.true) st.requires
+    full_as st.args.w.now _ _ _ 2 8 c.before.if-base-eq2.true (eqb-true _ 8 c.if-width-eq8.true) st.requires
 
-returns : tie.Need-returns
-returns c = value_as _ _ _ _ 2 8 _ c.before.before.if1.true (eqb-true _ 8 c.before.if2.true) c.byte-of-bits.ensures
+returns-then-width-eq8 : tie.Need-returns-then-width-eq8
+returns-then-width-eq8 c = value_as _ _ _ _ 2 8 _ c.before.before.if-base-eq2.true (eqb-true _ 8 c.before.if-width-eq8.true) c.byte_of_bits.ensures
 
-byte-of-digits-requires : tie.Need-byte-of-digits-requires
-byte-of-digits-requires c κs =
+byte_of_digits-requires : tie.Need-byte_of_digits-requires
+byte_of_digits-requires c κs =
     let st = c.before.before.before.before in
-    full_as st.args.w.now _ _ _ 3 5 c.before.if3.true (eqb-true _ 5 c.if4.true) st.requires
+    full_as st.args.w.now _ _ _ 3 5 c.before.if-base-eq3.true (eqb-true _ 5 c.if-width-eq5.true) st.requires
 
-returns-2 : tie.Need-returns-2
-returns-2 c = value_as _ _ _ _ 3 5 _ c.before.before.if3.true (eqb-true _ 5 c.before.if4.true) c.byte-of-digits.ensures
+returns-then-width-eq5 : tie.Need-returns-then-width-eq5
+returns-then-width-eq5 c = value_as _ _ _ _ 3 5 _ c.before.before.if-base-eq3.true (eqb-true _ 5 c.before.if-width-eq5.true) c.byte_of_digits.ensures
 
 pub group_spec : {M : Type 1} → statement M
 group_spec =
     tie.close
     (tie.spec
-    byte-of-bits-requires
-    returns
-    byte-of-digits-requires
-    returns-2
+    byte_of_bits-requires
+    returns-then-width-eq8
+    byte_of_digits-requires
+    returns-then-width-eq5
     (λ c. search rules)
     (λ c κs. search rules)
     (λ c. search rules)

@@ -5,18 +5,18 @@ use borrow.Author.Rules.{rules}
 use Rattle.heads.proofs.field.Statement.{statement}
 use Rattle.heads.proofs.field.Tie as tie
 
-cast-low : tie.Need-overflow-cast-low
-cast-low c = omega (arith, c.shared-slice-known.given c.before.args.i)
+overflow_cast-low : tie.Need-overflow_cast-low
+overflow_cast-low c = omega (arith, c.shared_slice_known-1.given c.before.args.i)
 
-cast-high : tie.Need-overflow-cast-high
-cast-high c = omega (arith, c.shared-slice-known2.given (c.before.before.args.i + 1))
+overflow_cast-high : tie.Need-overflow_cast-high
+overflow_cast-high c = omega (arith, c.shared_slice_known-2-1.given (c.before.before.args.i + 1))
 
-mul-result : tie.Need-overflow-mul-result
-mul-result c = omega (arith, c.shared-slice-known2.given (c.before.before.args.i + 1))
+overflow_mul-result : tie.Need-overflow_mul-result
+overflow_mul-result c = omega (arith, c.shared_slice_known-2-1.given (c.before.before.args.i + 1))
 
-add-result : tie.Need-overflow-add-result
-add-result c = let i = c.before.before.args.i in
-    omega (arith, c.shared-slice-known2.given (i + 1), c.before.shared-slice-known.given i)
+overflow_add-result : tie.Need-overflow_add-result
+overflow_add-result c = let i = c.before.before.args.i in
+    omega (arith, c.shared_slice_known-2-1.given (i + 1), c.before.shared_slice_known-1.given i)
 
 returns : tie.Need-returns
 returns c = field_value _ _
@@ -27,9 +27,9 @@ field_spec =
     (tie.spec
     (λ c. search rules)
     (λ c. search rules)
-    cast-low
+    overflow_cast-low
     (λ c. search rules)
-    cast-high
-    mul-result
-    add-result
+    overflow_cast-high
+    overflow_mul-result
+    overflow_add-result
     returns)

@@ -4,7 +4,7 @@ use Rattle.jurnadel.proofs.jurnadel_area_lengths.Statement.{statement}
 use Rattle.jurnadel.proofs.jurnadel_area_lengths.Tie as tie
 
 returns : tie.Need-returns
-returns c = measure_out _ _ _ _ _ _ _ _ _ c.before.before.before.before.before.before.before.measure.ensures c.measured.ensures
+returns c = measure_out _ _ _ _ _ _ _ _ _ c.before.before.before.before.before.before.before.measure-answer.ensures c.measured.ensures
 
 pub jurnadel_area_lengths_spec : {M : Type 1} → statement M
 jurnadel_area_lengths_spec =

@@ -4,7 +4,7 @@ use Rattle.jurnadel.proofs.jurnadel_read.Statement.{statement}
 use Rattle.jurnadel.proofs.jurnadel_read.Tie as tie
 
 returns : tie.Need-returns
-returns c = read_out _ _ _ _ _ _ _ _ _ _ c.before.before.before.before.before.before.before.read.ensures c.read_back.ensures
+returns c = read_out _ _ _ _ _ _ _ _ _ _ c.before.before.before.before.before.before.before.read-answer.ensures c.read_back.ensures
 
 pub jurnadel_read_spec : {M : Type 1} → statement M
 jurnadel_read_spec =

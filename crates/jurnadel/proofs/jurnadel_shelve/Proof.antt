@@ -4,7 +4,7 @@ use Rattle.jurnadel.proofs.jurnadel_shelve.Statement.{statement}
 use Rattle.jurnadel.proofs.jurnadel_shelve.Tie as tie
 
 returns : tie.Need-returns
-returns c = shelve_out _ _ _ _ _ _ _ _ _ _ _ c.before.before.before.before.before.before.before.shelve.ensures c.shelved.ensures
+returns c = shelve_out _ _ _ _ _ _ _ _ _ _ _ c.before.before.before.before.before.before.before.shelve-answer.ensures c.shelved.ensures
 
 pub jurnadel_shelve_spec : {M : Type 1} → statement M
 jurnadel_shelve_spec =

@@ -4,7 +4,7 @@ use Rattle.jurnadel.proofs.jurnadel_write.Statement.{statement}
 use Rattle.jurnadel.proofs.jurnadel_write.Tie as tie
 
 returns : tie.Need-returns
-returns c = write_out _ _ _ _ _ _ _ _ _ _ _ c.before.before.before.before.before.before.before.write.ensures c.written.ensures
+returns c = write_out _ _ _ _ _ _ _ _ _ _ _ c.before.before.before.before.before.before.before.write-answer.ensures c.written.ensures
 
 pub jurnadel_write_spec : {M : Type 1} → statement M
 jurnadel_write_spec =

@@ -5,48 +5,48 @@ use borrow.Author.Rules.{rules}
 use Rattle.laying.proofs.laid_out.Statement.{statement}
 use Rattle.laying.proofs.laid_out.Tie as tie
 
-cast-m : tie.Need-overflow-cast-m
-cast-m c = let s = small _ _ _ _ c.before.before.before.before.requires.1 in omega arith
+overflow_cast-m : tie.Need-overflow_cast-m
+overflow_cast-m c = let s = small _ _ _ _ c.before.before.before.before.requires.1 in omega arith
 
-stored-requires : tie.Need-stored-requires
-stored-requires c κs = c.before.before.before.before.requires.1.marks
+stored-x-requires : tie.Need-stored-x-requires
+stored-x-requires c κs = c.before.before.before.before.requires.1.marks
 
-record-length-requires : tie.Need-record-length-requires
-record-length-requires c κs = search rules
+record_length-length-requires : tie.Need-record_length-length-requires
+record_length-length-requires c κs = search rules
 
-cast-length : tie.Need-overflow-cast-length
+overflow_cast-length : tie.Need-overflow_cast-length
 unfolding edges
-cast-length c = let s = small _ _ _ _ c.before.before.before.before.before.before.requires.1 in omega (arith, c.record_length.ensures)
+overflow_cast-length c = let s = small _ _ _ _ c.before.before.before.before.before.before.requires.1 in omega (arith, c.record_length-length.ensures)
 
-put-head-requires : tie.Need-put-head-requires
-put-head-requires c κs = head_room _ _ _ _ c.before.before.before.before.before.before.before.requires.1
+put_head-at-requires : tie.Need-put_head-at-requires
+put_head-at-requires c κs = head_room _ _ _ _ c.before.before.before.before.before.before.before.requires.1
 
 family-requires : tie.Need-family-requires
 family-requires c κs = search rules
 
-put-payload-requires : tie.Need-put-payload-requires
-put-payload-requires c κs =
+put_payload-requires : tie.Need-put_payload-requires
+put_payload-requires c κs =
     let st = c.before.before.before.before.before.before.before.before.before.before.before.before in
-    let h = c.before.before.before.before.put-head in
+    let h = c.before.before.before.before.put_head-at in
     (st.requires.0, payload_asked _ _ _ _ st.requires.1 _ _ _ c.before.family.ensures h.ensures.begins h.auto.0)
 
-same_length : tie.Need-same-length
-same_length c = search rules
+shape_of-out : tie.Need-shape_of-out
+shape_of-out c = search rules
 
 returns : tie.Need-returns
 unfolding edges
-returns c = λ t same. recorded _ _ _ _ c.before.before.before.before.before.before.before.before.before.before.before.before.before.before.before.requires.1 _ c.before.before.before.before.before.before.before.before.before.before.stored.ensures t _ same _ _ _ _ _ c.before.before.before.before.before.before.before.before.before.record_length.ensures c.before.before.before.before.family.ensures c.before.before.before.before.before.before.before.put-head.ensures c.before.before.put_payload.ensures
+returns c = λ t same. recorded _ _ _ _ c.before.before.before.before.before.before.before.before.before.before.before.before.before.before.before.requires.1 _ c.before.before.before.before.before.before.before.before.before.before.stored-x.ensures t _ same _ _ _ _ _ c.before.before.before.before.before.before.before.before.before.record_length-length.ensures c.before.before.before.before.family.ensures c.before.before.before.before.before.before.before.put_head-at.ensures c.before.before.put_payload.ensures
 
 pub laid_out_spec : {M : Type 1} → statement M
 laid_out_spec =
     tie.close
     (tie.spec
-    cast-m
-    stored-requires
-    record-length-requires
-    cast-length
-    put-head-requires
+    overflow_cast-m
+    stored-x-requires
+    record_length-length-requires
+    overflow_cast-length
+    put_head-at-requires
     family-requires
-    put-payload-requires
-    same_length
+    put_payload-requires
+    shape_of-out
     returns)

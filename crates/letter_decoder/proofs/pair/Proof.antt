@@ -10,32 +10,32 @@ use borrow.Author.Rules.{rules}
 use Rattle.letter_decoder.proofs.pair.Statement.{statement}
 use Rattle.letter_decoder.proofs.pair.Tie as tie
 
-abbrev invariant_loop : tie.invariant-loop
+abbrev invariant_loop : tie.invariant-loop-n
 invariant_loop w₀ m e x t₀ k₀ rest₀ n₀ w t k rest n = Moved (letters_of 2 x) (letters_of n rest) m w₀ t₀ k₀ t k w × (rest < 256)
 
-abbrev decreases_loop : tie.decreases-loop
+abbrev decreases_loop : tie.decreases-loop-n
 decreases_loop w₀ m e x t₀ k₀ rest₀ n₀ w t k rest n = n
 
-loop-holds : tie.Need-loop-init invariant_loop decreases_loop
-loop-holds c = (moved_none _ _ _ _ _ c.before.requires, search rules)
+loop-n-init : tie.Need-loop-n-init invariant_loop decreases_loop
+loop-n-init c = (moved_none _ _ _ _ _ c.before.requires, search rules)
 
 step-requires : tie.Need-step-requires invariant_loop decreases_loop
-step-requires c κs = (c.before.before.loop.invariant.0.fits, let h = c.before.before.loop.invariant.1 in omega arith)
+step-requires c κs = (c.before.before.loop-n.invariant.0.fits, let h = c.before.before.loop-n.invariant.1 in omega arith)
+
+returns-in-Stuck : tie.Need-returns-in-Stuck invariant_loop decreases_loop
+returns-in-Stuck c =
+    let v = c.before.before.before.before.step in
+    let i = c.before.before.before.before.before.before.before.loop-n.invariant.0 in
+    stuck_on _ _ _ _ _ _ _ _ _ i _ v.result _ v.ensures _ (letters_left _ _ (omega arith)) c.enum_told-1.given.1
+
+loop-n-preserved : tie.Need-loop-n-preserved invariant_loop decreases_loop
+loop-n-preserved c =
+    let v = c.before.before.before.before.before.step in
+    let i = c.before.before.before.before.before.before.before.before.loop-n.invariant.0 in
+    (goes_on_lem _ _ _ _ _ _ _ _ _ i _ v.result _ v.ensures _ (letters_left _ _ (omega arith)) _ _ c.before.u-1.given.1, omega arith)
 
 returns : tie.Need-returns invariant_loop decreases_loop
-returns c =
-    let v = c.before.before.before.before.step in
-    let i = c.before.before.before.before.before.before.before.loop.invariant.0 in
-    stuck_on _ _ _ _ _ _ _ _ _ i _ v.result _ v.ensures _ (letters_left _ _ (omega arith)) c.enum_told.given.1
-
-loop-again : tie.Need-loop-preserved invariant_loop decreases_loop
-loop-again c =
-    let v = c.before.before.before.before.before.step in
-    let i = c.before.before.before.before.before.before.before.before.loop.invariant.0 in
-    (goes_on_lem _ _ _ _ _ _ _ _ _ i _ v.result _ v.ensures _ (letters_left _ _ (omega arith)) _ _ c.before.u.given.1, omega arith)
-
-returns-2 : tie.Need-returns-2 invariant_loop decreases_loop
-returns-2 c = goes _ _ _ _ _ _ _ _ (moved_end _ _ _ _ _ _ _ _ _ (letters_none _ _ (omega arith)) c.before.loop.invariant.0)
+returns c = goes _ _ _ _ _ _ _ _ (moved_end _ _ _ _ _ _ _ _ _ (letters_none _ _ (omega arith)) c.before.loop-n.invariant.0)
 
 pub pair_spec : {M : Type 1} → statement M
 pair_spec =
@@ -43,14 +43,14 @@ pair_spec =
     (tie.spec
     invariant_loop
     decreases_loop
-    loop-holds
+    loop-n-init
     step-requires
     (λ c. search rules)
     (λ c. search rules)
     (λ c. search rules)
-    returns
+    returns-in-Stuck
     (λ c. search rules)
     (λ c. search rules)
-    loop-again
+    loop-n-preserved
     (λ c. search rules)
-    returns-2)
+    returns)

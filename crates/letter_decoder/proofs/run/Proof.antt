@@ -15,47 +15,47 @@ use borrow.Author.Rules.{rules}
 use Rattle.letter_decoder.proofs.run.Statement.{statement}
 use Rattle.letter_decoder.proofs.run.Tie as tie
 
-abbrev invariant_loop : tie.invariant-loop
+abbrev invariant_loop : tie.invariant-loop-i
 invariant_loop payload m w₀ s₀ e₀ i₀ w s e i = let v = payload_letters m payload in Moved v (drop (2 * i) v) m w₀ first_state 0 s e w
 
-abbrev decreases_loop : tie.decreases-loop
+abbrev decreases_loop : tie.decreases-loop-i
 decreases_loop payload m w₀ s₀ e₀ i₀ w s e i = m - i
 
 -- the letters that are read are the next
-next : (c : tie.After-half invariant_loop decreases_loop) →
+next : (c : tie.After-half-x invariant_loop decreases_loop) →
     let a = c.before.before.before.before.before.args in
-    let i = c.before.before.loop.i in
+    let i = c.before.before.loop-i.i in
     let v = payload_letters a.m a.payload.now in
-    drop (2 * i) v ≡ letters_of 2 c.half.result ++ drop (2 * (i + 1)) v
+    drop (2 * i) v ≡ letters_of 2 c.half-x.result ++ drop (2 * (i + 1)) v
 next c =
     let st = c.before.before.before.before.before in
-    rw c.half.ensures (letters_next st.args.payload.now st.args.m st.requires.0.2 c.before.before.loop.i c.before.loop-test.true)
+    rw c.half-x.ensures (letters_next st.args.payload.now st.args.m st.requires.0.2 c.before.before.loop-i.i c.before.loop-i-test.true)
 
-loop-holds : tie.Need-loop-init invariant_loop decreases_loop
-loop-holds c = let p = c.before.before.requires in moved_none _ _ _ _ _ (fits_start _ _ p.0.0 p.0.1 p.1.0)
+loop-i-init : tie.Need-loop-i-init invariant_loop decreases_loop
+loop-i-init c = let p = c.before.before.requires in moved_none _ _ _ _ _ (fits_start _ _ p.0.0 p.0.1 p.1.0)
 
 pair-requires : tie.Need-pair-requires invariant_loop decreases_loop
-pair-requires c κs = c.before.before.before.loop.invariant.fits
+pair-requires c κs = c.before.before.before.loop-i.invariant.fits
+
+returns-in-Stuck : tie.Need-returns-in-Stuck invariant_loop decreases_loop
+returns-in-Stuck c =
+    let st = c.before.before.before.before.before.before.before.before.before.before.before in
+    let v = c.before.before.before.before.pair in
+    let i = c.before.before.before.before.before.before.before.before.loop-i.invariant in
+    let q = next c.before.before.before.before.before.before in
+    answer_stuck _ _ _ (letters_count _ _ st.requires.0.2) _ (stuck_on _ _ _ _ _ _ _ _ _ i _ v.result _ v.ensures _ q c.enum_told-1.given.1)
+
+loop-i-preserved : tie.Need-loop-i-preserved invariant_loop decreases_loop
+loop-i-preserved c =
+    let v = c.before.before.before.before.before.pair in
+    let i = c.before.before.before.before.before.before.before.before.before.loop-i.invariant in
+    let q = next c.before.before.before.before.before.before.before in
+    goes_on_lem _ _ _ _ _ _ _ _ _ i _ v.result _ v.ensures _ q _ _ c.before.t-1.given.1
 
 returns : tie.Need-returns invariant_loop decreases_loop
 returns c =
-    let st = c.before.before.before.before.before.before.before.before.before.before.before in
-    let v = c.before.before.before.before.pair in
-    let i = c.before.before.before.before.before.before.before.before.loop.invariant in
-    let q = next c.before.before.before.before.before.before in
-    answer_stuck _ _ _ (letters_count _ _ st.requires.0.2) _ (stuck_on _ _ _ _ _ _ _ _ _ i _ v.result _ v.ensures _ q c.enum_told.given.1)
-
-loop-again : tie.Need-loop-preserved invariant_loop decreases_loop
-loop-again c =
-    let v = c.before.before.before.before.before.pair in
-    let i = c.before.before.before.before.before.before.before.before.before.loop.invariant in
-    let q = next c.before.before.before.before.before.before.before in
-    goes_on_lem _ _ _ _ _ _ _ _ _ i _ v.result _ v.ensures _ q _ _ c.before.t.given.1
-
-returns-2 : tie.Need-returns-2 invariant_loop decreases_loop
-returns-2 c =
     let p = c.before.before.before.before.requires in
-    answer_end _ _ _ (letters_count _ _ p.0.2) p.1.1 _ _ (2 * c.before.loop.i) _ c.before.loop.invariant (omega arith)
+    answer_end _ _ _ (letters_count _ _ p.0.2) p.1.1 _ _ (2 * c.before.loop-i.i) _ c.before.loop-i.invariant (omega arith)
 
 pub run_spec : {M : Type 1} → statement M
 run_spec =
@@ -63,17 +63,17 @@ run_spec =
     (tie.spec
     invariant_loop
     decreases_loop
-    loop-holds
+    loop-i-init
     (λ c κs. search rules)
     pair-requires
     (λ c. search rules)
     (λ c. search rules)
     (λ c. search rules)
-    returns
+    returns-in-Stuck
     (λ c. search rules)
     (λ c. search rules)
-    loop-again
+    loop-i-preserved
     (λ c. search rules)
     (λ c. search rules)
     (λ c. search rules)
-    returns-2)
+    returns)

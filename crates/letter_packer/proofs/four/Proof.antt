@@ -11,26 +11,26 @@ small : (c : tie.Start) → let w = c.args.w.now in let at = LETTERS * c.args.n 
     (get_or w at 0 ≤ 4) × (get_or w (at + 1) 0 ≤ 4) × (get_or w (at + 2) 0 ≤ 4) × (get_or w (at + 3) 0 ≤ 4)
 small c = let p = c.requires in four_small _ _ p.1 p.2 _ p.3
 
-mul-result-2 : tie.Need-overflow-mul-result-2
-mul-result-2 c = let s = small c.before in omega arith
+overflow_mul-result : tie.Need-overflow_mul-result
+overflow_mul-result c = let s = small c.before in omega arith
 
-mul-result-4 : tie.Need-overflow-mul-result-4
-mul-result-4 c = let s = small c.before.before in omega arith
+overflow_mul-result-2 : tie.Need-overflow_mul-result-2
+overflow_mul-result-2 c = let s = small c.before.before in omega arith
 
-add-result-2 : tie.Need-overflow-add-result-2
-add-result-2 c = let s = small c.before.before in omega arith
+overflow_add-result-2 : tie.Need-overflow_add-result-2
+overflow_add-result-2 c = let s = small c.before.before in omega arith
 
-mul-result-6 : tie.Need-overflow-mul-result-6
-mul-result-6 c = let s = small c.before.before.before in omega arith
+overflow_mul-result-3 : tie.Need-overflow_mul-result-3
+overflow_mul-result-3 c = let s = small c.before.before.before in omega arith
 
-add-result-4 : tie.Need-overflow-add-result-4
-add-result-4 c = let s = small c.before.before.before in omega arith
+overflow_add-result-4 : tie.Need-overflow_add-result-4
+overflow_add-result-4 c = let s = small c.before.before.before in omega arith
 
-add-result-6 : tie.Need-overflow-add-result-6
-add-result-6 c = let s = small c.before.before.before.before in omega arith
+overflow_add-result-6 : tie.Need-overflow_add-result-6
+overflow_add-result-6 c = let s = small c.before.before.before.before in omega arith
 
-sub-result : tie.Need-overflow-sub-result
-sub-result c = let p = c.before.before.before.before.requires in let b = four_is _ _ p.1 p.2 _ p.3 in omega arith
+overflow_sub-result : tie.Need-overflow_sub-result
+overflow_sub-result c = let p = c.before.before.before.before.requires in let b = four_is _ _ p.1 p.2 _ p.3 in omega arith
 
 returns : tie.Need-returns
 returns c = let p = c.before.before.before.before.requires in let b = four_is _ _ p.1 p.2 _ p.3 in (b.2, omega arith)
@@ -43,20 +43,20 @@ four_spec =
     (λ c. search rules)
     (λ c. search rules)
     (λ c. search rules)
-    mul-result-2
+    overflow_mul-result
     (λ c. search rules)
     (λ c. search rules)
     (λ c. search rules)
-    mul-result-4
-    add-result-2
+    overflow_mul-result-2
+    overflow_add-result-2
     (λ c. search rules)
     (λ c. search rules)
     (λ c. search rules)
-    mul-result-6
-    add-result-4
+    overflow_mul-result-3
+    overflow_add-result-4
     (λ c. search rules)
     (λ c. search rules)
     (λ c. search rules)
-    add-result-6
-    sub-result
+    overflow_add-result-6
+    overflow_sub-result
     returns)

@@ -11,17 +11,17 @@ small : (c : tie.Start) → let w = c.args.w.now in let at = LETTERS * c.args.n 
     (get_or w at 0 ≤ 4) × (get_or w (at + 1) 0 ≤ 4)
 small c = let p = c.requires in two_small _ _ p.1 p.2 _ (omega arith)
 
-mul-result-2 : tie.Need-overflow-mul-result-2
-mul-result-2 c = let s = small c.before in omega arith
+overflow_mul-result : tie.Need-overflow_mul-result
+overflow_mul-result c = let s = small c.before in omega arith
 
-mul-result-4 : tie.Need-overflow-mul-result-4
-mul-result-4 c = let s = small c.before.before in omega arith
+overflow_mul-result-2 : tie.Need-overflow_mul-result-2
+overflow_mul-result-2 c = let s = small c.before.before in omega arith
 
-add-result-2 : tie.Need-overflow-add-result-2
-add-result-2 c = let s = small c.before.before in omega arith
+overflow_add-result-2 : tie.Need-overflow_add-result-2
+overflow_add-result-2 c = let s = small c.before.before in omega arith
 
-sub-result : tie.Need-overflow-sub-result
-sub-result c = let p = c.before.before.requires in let b = two_is _ _ p.1 p.2 _ p.3 in omega arith
+overflow_sub-result : tie.Need-overflow_sub-result
+overflow_sub-result c = let p = c.before.before.requires in let b = two_is _ _ p.1 p.2 _ p.3 in omega arith
 
 returns : tie.Need-returns
 returns c = let p = c.before.before.requires in let b = two_is _ _ p.1 p.2 _ p.3 in (b.2, omega arith)
@@ -34,11 +34,11 @@ two_spec =
     (λ c. search rules)
     (λ c. search rules)
     (λ c. search rules)
-    mul-result-2
+    overflow_mul-result
     (λ c. search rules)
     (λ c. search rules)
     (λ c. search rules)
-    mul-result-4
-    add-result-2
-    sub-result
+    overflow_mul-result-2
+    overflow_add-result-2
+    overflow_sub-result
     returns)

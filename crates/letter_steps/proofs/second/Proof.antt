@@ -7,28 +7,28 @@ use borrow.Author.Rules.{rules}
 use Rattle.letter_steps.proofs.second.Statement.{statement}
 use Rattle.letter_steps.proofs.second.Tie as tie
 
+returns-then-opens-eq0 : tie.Need-returns-then-opens-eq0
+returns-then-opens-eq0 c = none_second _ _ _ _ _ c.if-opens-eq0.true
+
+returns-then-begun-here : tie.Need-returns-then-begun-here
+returns-then-begun-here c = let b = c.before.last_begun-begun.ensures in low_second _ _ _ _ _ (omega arith)
+
 returns : tie.Need-returns
-returns c = none_second _ _ _ _ _ c.if1.true
-
-returns-2 : tie.Need-returns-2
-returns-2 c = let b = c.before.last-begun.ensures in low_second _ _ _ _ _ (omega arith)
-
-returns-3 : tie.Need-returns-3
-returns-3 c =
+returns c =
     let st = c.before.before.before.before.before.before.before.before.before.before.before in
-    let b = c.before.before.before.before.before.before.before.last-begun.ensures in
-    let y = c.before.before.before.before.last-open.ensures in
-    goes _ _ _ _ _ _ _ _ (moved _ _ _ _ st.requires second _ _ _ _ (omega arith, omega arith) y.0 y.1 refl c.before.before.close.ensures)
+    let b = c.before.before.before.before.before.before.last_begun-begun.ensures in
+    let y = c.before.before.before.before.last_open-edge.ensures in
+    goes _ _ _ _ _ _ _ _ (moved _ _ _ _ st.requires second _ _ _ _ (omega arith, omega arith) y.0 y.1 refl c.before.before.close-t.ensures)
 
 pub second_spec : {M : Type 1} → statement M
 second_spec =
     tie.close
     (tie.spec
-    returns
+    returns-then-opens-eq0
     (λ c κs. search rules)
     (λ c. search rules)
-    returns-2
+    returns-then-begun-here
     (λ c κs. search rules)
     (λ c κs. search rules)
     (λ c. search rules)
-    returns-3)
+    returns)

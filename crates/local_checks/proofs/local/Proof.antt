@@ -6,33 +6,33 @@ use borrow.Author.Rules.{rules}
 use Rattle.local_checks.proofs.local.Statement.{statement}
 use Rattle.local_checks.proofs.local.Tie as tie
 
-none : (c : tie.Else1) → loop_refused c.before.before.args.family c.before.before.args.order.now ≡ false
-none c = sym c.before.before.requires.3 ∙ c.if1.false
+none : (c : tie.Else-looped) → loop_refused c.before.before.args.family c.before.before.args.order.now ≡ false
+none c = sym c.before.before.requires.3 ∙ c.if-looped.false
 
-returns : tie.Need-returns
-returns c = looped _ _ (sym c.before.before.requires.3 ∙ c.if1.true)
+returns-then-looped : tie.Need-returns-then-looped
+returns-then-looped c = looped _ _ (sym c.before.before.requires.3 ∙ c.if-looped.true)
 
-has-other-face-requires : tie.Need-has-other-face-requires
-has-other-face-requires c κs = let p = c.before.before.before.requires in (p.0, p.1)
+has_other_face-requires : tie.Need-has_other_face-requires
+has_other_face-requires c κs = let p = c.before.before.before.requires in (p.0, p.1)
 
-returns-2 : tie.Need-returns-2
-returns-2 c = other_face _ _ (none c.before.before.before) c.before.before.if2.true (sym c.before.has-other-face.ensures ∙ c.if3.true)
+returns-then-has_other_face : tie.Need-returns-then-has_other_face
+returns-then-has_other_face c = other_face _ _ (none c.before.before.before) c.before.before.if-family-eq3.true (sym c.before.has_other_face.ensures ∙ c.if-has_other_face.true)
 
-returns-3 : tie.Need-returns-3
-returns-3 c = triangles_only _ _ (none c.before.before.before) c.before.before.if2.true (sym c.before.has-other-face.ensures ∙ c.if3.false)
+returns-then-family-eq3 : tie.Need-returns-then-family-eq3
+returns-then-family-eq3 c = triangles_only _ _ (none c.before.before.before) c.before.before.if-family-eq3.true (sym c.before.has_other_face.ensures ∙ c.if-has_other_face.false)
 
-returns-4 : tie.Need-returns-4
-returns-4 c =
-    dead_end _ _ (none c.before.before.before.before) c.before.before.if4.true (sym c.before.has-dead-end.ensures ∙ c.if5.true)
+returns-then-has_dead_end : tie.Need-returns-then-has_dead_end
+returns-then-has_dead_end c =
+    dead_end _ _ (none c.before.before.before.before) c.before.before.if-family-eq1.true (sym c.before.has_dead_end.ensures ∙ c.if-has_dead_end.true)
 
-returns-5 : tie.Need-returns-5
-returns-5 c =
-    no_dead_end _ _ (none c.before.before.before.before) c.before.before.if4.true (sym c.before.has-dead-end.ensures ∙ c.if5.false)
+returns-else-has_dead_end : tie.Need-returns-else-has_dead_end
+returns-else-has_dead_end c =
+    no_dead_end _ _ (none c.before.before.before.before) c.before.before.if-family-eq1.true (sym c.before.has_dead_end.ensures ∙ c.if-has_dead_end.false)
 
-returns-6 : tie.Need-returns-6
-returns-6 c = other_kind _ _ (none c.before.before) c.before.if2.false c.if4.false
+returns-else-family-eq1 : tie.Need-returns-else-family-eq1
+returns-else-family-eq1 c = other_kind _ _ (none c.before.before) c.before.if-family-eq3.false c.if-family-eq1.false
 
 pub local_spec : {M : Type 1} → statement M
 local_spec =
     tie.close
-    (tie.spec returns has-other-face-requires returns-2 returns-3 (λ c κs. search rules) returns-4 returns-5 returns-6)
+    (tie.spec returns-then-looped has_other_face-requires returns-then-has_other_face returns-then-family-eq3 (λ c κs. search rules) returns-then-has_dead_end returns-else-has_dead_end returns-else-family-eq1)

@@ -9,24 +9,24 @@ use borrow.Author.Rules.{rules}
 use Rattle.measure_checks.proofs.copied.Statement.{statement}
 use Rattle.measure_checks.proofs.copied.Tie as tie
 
-returns : tie.Need-returns
-returns c = let short = lt-ltb _ _ c.if1.true in record { answered = rw short; filled = rw short }
+returns-then-list-faces : tie.Need-returns-then-list-faces
+returns-then-list-faces c = let short = lt-ltb _ _ c.if-list-faces.true in record { answered = rw short; filled = rw short }
 
-returns-2 : tie.Need-returns-2
+returns : tie.Need-returns
 unfolding region
-returns-2 c =
+returns c =
     let s = c.before.before.before.before.before.before.before.before in
-    let long = le-ltb _ _ c.before.before.before.before.before.if1.false in
+    let long = le-ltb _ _ c.before.before.before.before.before.if-list-faces.false in
     record {
       answered = rw long;
-      filled = rw long (c.before.before.copy-front.ensures ∙ ap (λ (r : List ℕ). front r s.args.list.now) (copied_part _ _ _ s.requires));
+      filled = rw long (c.before.before.copy_front.ensures ∙ ap (λ (r : List ℕ). front r s.args.list.now) (copied_part _ _ _ s.requires));
     }
 
 pub copied_spec : {M : Type 1} → statement M
 copied_spec =
     tie.close
     (tie.spec
-    returns
+    returns-then-list-faces
     (λ c. search rules)
     (λ c. search rules)
     (λ c. search rules)
@@ -35,4 +35,4 @@ copied_spec =
     (λ c κs. search rules)
     (λ c. search rules)
     (λ c. search rules)
-    returns-2)
+    returns)

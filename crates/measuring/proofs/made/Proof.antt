@@ -10,49 +10,49 @@ use Rattle.measuring.proofs.made.Statement.{statement}
 use Rattle.measuring.proofs.made.Tie as tie
 
 -- the plan is judged
-told : (c : tie.After-judge) → let a = c.before.before.before.before.before.before.before in
-    Told a.args.order.now a.args.w.now c.judge.result c.judge.new.1.1.1.0
-told c = record { passed = sym c.before.before.before.early.ensures ∙ c.before.before.if1.false; judged = c.judge.ensures }
+told : (c : tie.After-judge-v) → let a = c.before.before.before.before.before.before.before in
+    Told a.args.order.now a.args.w.now c.judge-v.result c.judge-v.new.w
+told c = record { passed = sym c.before.before.before.early-r.ensures ∙ c.before.before.if-r-ne0.false; judged = c.judge-v.ensures }
 
-returns : tie.Need-returns
-returns c = turned_away c.before.early.ensures c.if1.true
+returns-then-r-ne0 : tie.Need-returns-then-r-ne0
+returns-then-r-ne0 c = turned_away c.before.early-r.ensures c.if-r-ne0.true
 
-judge-requires : tie.Need-judge-requires
-judge-requires c κs =
-    let q = early_parts _ _ (sym c.before.before.early.ensures ∙ c.before.if1.false) in
+judge-v-requires : tie.Need-judge-v-requires
+judge-v-requires c κs =
+    let q = early_parts _ _ (sym c.before.before.early-r.ensures ∙ c.before.if-r-ne0.false) in
     (q.count, q.entries, (count_parts _ q.count).0, q.room)
 
 copied-requires : tie.Need-copied-requires
-copied-requires c κs = to_copy (told c.before.before.before.before.before.before.before) c.before.before.before.v3.given.1
+copied-requires c κs = to_copy (told c.before.before.before.before.before.before) c.before.before.v-in-Fits-1.given.1
 
-returns-2 : tie.Need-returns-2
-returns-2 c = judged_refused (told c.before.before.before.before.before) c.before.v.given.1
+returns-in-Refused : tie.Need-returns-in-Refused
+returns-in-Refused c = judged_refused (told c.before.before.before.before.before) c.before.v-1.given.1
 
-returns-3 : tie.Need-returns-3
-returns-3 c =
-    let fits : SFits w32 c.before.v2.given.0.0 = record { sfits = c.known-told2.given.0.1 } in
-    rw (to_z-of_z fits) (judged_curved (told c.before.before.before.before.before) c.before.v2.given.1)
+returns-in-NotPlanar : tie.Need-returns-in-NotPlanar
+returns-in-NotPlanar c =
+    let fits : SFits w32 c.before.v-in-NotPlanar-1.given.0.0 = record { sfits = c.known_told-in-NotPlanar-1.given.0.1 } in
+    rw (to_z-of_z fits) (judged_curved (told c.before.before.before.before.before) c.before.v-in-NotPlanar-1.given.1)
 
-returns-4 : tie.Need-returns-4
-returns-4 c =
+returns-in-Fits : tie.Need-returns-in-Fits
+returns-in-Fits c =
     let v = c.before.before.before.before.before.before in
-    made (told v.before.before.before.before) v.v3.given.1 _ c.before.before.copied.ensures
+    made (told v.before.before.before) v.v3.given.1 _ c.before.before.copied.ensures
 
 pub made_spec : {M : Type 1} → statement M
 made_spec =
     tie.close
     (tie.spec
     (λ c κs. search rules)
-    returns
-    judge-requires
+    returns-then-r-ne0
+    judge-v-requires
     (λ c. search rules)
     (λ c. search rules)
     (λ c. search rules)
     copied-requires
     (λ c. search rules)
-    returns-2
+    returns-in-Refused
     (λ c. search rules)
-    returns-3
+    returns-in-NotPlanar
     (λ c. search rules)
     (λ c. search rules)
-    returns-4)
+    returns-in-Fits)

@@ -9,7 +9,7 @@ use Rattle.measuring.proofs.measure.Tie as tie
 returns : tie.Need-returns
 unfolding zeros
 returns c =
-    let m = c.before.before.before.before.before.before.before.before.made in
+    let m = c.before.before.before.before.before.before.before.before.made-r in
     record {
       answered = m.ensures.answered;
       filled = m.ensures.filled;

@@ -14,47 +14,47 @@ use Rattle.mesh_codewords.proofs.codeword.Tie as tie
 many : (c : tie.Start) → length (bits c.args.payload.now) ≡ 8 * length c.args.payload.now
 many c = length_bits c.args.payload.now
 
-returns : tie.Need-returns
-returns c = let n = many c.before.before in sym (head_none (bits c.before.before.args.payload.now) c.before.before.args.c (omega arith))
+returns-then-c-end : tie.Need-returns-then-c-end
+returns-then-c-end c = let n = many c.before.before in sym (head_none (bits c.before.before.args.payload.now) c.before.before.args.c (omega arith))
 
-returns-2 : tie.Need-returns-2
-returns-2 c =
+returns-then-a-ne0 : tie.Need-returns-then-a-ne0
+returns-then-a-ne0 c =
     let n = many c.before.before.before.before in
-    sym (head_one (bits c.before.before.before.before.args.payload.now) _ (omega arith) (λ z. c.if2.true (c.before.bit_at.ensures ∙ z)))
+    sym (head_one (bits c.before.before.before.before.args.payload.now) _ (omega arith) (λ z. c.if-a-ne0.true (c.before.bit_at-a.ensures ∙ z)))
 
-returns-3 : tie.Need-returns-3
-returns-3 c =
+returns-then-c-end-2 : tie.Need-returns-then-c-end-2
+returns-then-c-end-2 c =
     let n = many c.before.before.before.before.before in
     sym (head_last (bits c.before.before.before.before.before.args.payload.now) _ (omega arith)
-    (sym c.before.before.bit_at.ensures ∙ c.before.if2.false) (omega arith))
+    (sym c.before.before.bit_at-a.ensures ∙ c.before.if-a-ne0.false) (omega arith))
 
-add-result : tie.Need-overflow-add-result
-add-result c =
+overflow_add-result : tie.Need-overflow_add-result
+overflow_add-result c =
     let ps = c.before.before.before.before.before.before.args.payload.now in
     let n = many c.before.before.before.before.before.before in
     let k = c.before.before.before.before.before.before.args.c in
     let b = below_all 2 (bits ps) (bits_below ps) (k + 1) (omega arith) in
-    let e = c.bit-at2.ensures in
+    let e = c.bit_at-b.ensures in
     omega arith
 
-returns-4 : tie.Need-returns-4
-returns-4 c =
+returns : tie.Need-returns
+returns c =
     let st = c.before.before.before.before.before.before in
     let n = many st in
-    ap (λ (b : ℕ). b + 1) c.bit-at2.ensures
-    ∙ sym (head_two (bits st.args.payload.now) _ (omega arith) (sym c.before.before.before.bit_at.ensures ∙ c.before.before.if2.false) (omega arith))
+    ap (λ (b : ℕ). b + 1) c.bit_at-b.ensures
+    ∙ sym (head_two (bits st.args.payload.now) _ (omega arith) (sym c.before.before.before.bit_at-a.ensures ∙ c.before.before.if-a-ne0.false) (omega arith))
 
 pub codeword_spec : {M : Type 1} → statement M
 codeword_spec =
     tie.close
     (tie.spec
     (λ c. search rules)
-    returns
+    returns-then-c-end
     (λ c κs. search rules)
-    returns-2
+    returns-then-a-ne0
     (λ c. search rules)
-    returns-3
+    returns-then-c-end-2
     (λ c. search rules)
     (λ c κs. search rules)
-    add-result
-    returns-4)
+    overflow_add-result
+    returns)

@@ -8,54 +8,54 @@ use Rattle.mesh_codewords.proofs.Codes.{reading_start, reading_from}
 use Rattle.mesh_codewords.proofs.read_windows.Statement.{statement}
 use Rattle.mesh_codewords.proofs.read_windows.Tie as tie
 
-abbrev invariant_loop : tie.invariant-loop
+abbrev invariant_loop : tie.invariant-loop-s
 invariant_loop payload n at w₀ s₀ w s = Reading (bits payload) n at w₀ w s.bits s.digits s.read
 
-abbrev decreases_loop : tie.decreases-loop
+abbrev decreases_loop : tie.decreases-loop-s
 decreases_loop payload n at w₀ s₀ w s = n - s.read
 
-loop-holds : tie.Need-loop-init invariant_loop decreases_loop
-loop-holds c = reading_start _ _ _ _
+loop-s-init : tie.Need-loop-s-init invariant_loop decreases_loop
+loop-s-init c = reading_start _ _ _ _
 
-add-if1 : tie.Need-overflow-add-if1 invariant_loop decreases_loop
-add-if1 c = let p = c.before.before.before.before.requires in omega (arith, c.before.loop.invariant.some, p.1)
+overflow_add-s : tie.Need-overflow_add-s invariant_loop decreases_loop
+overflow_add-s c = let p = c.before.before.before.before.requires in omega (arith, c.before.loop-s.invariant.some, p.1)
 
-add-if2 : tie.Need-overflow-add-if2 invariant_loop decreases_loop
-add-if2 c =
+overflow_add-s-in-loop-s : tie.Need-overflow_add-s-in-loop-s invariant_loop decreases_loop
+overflow_add-s-in-loop-s c =
     let st = c.before.before.before.before.before.before in
     let e = length_bits st.args.payload.now in
-    omega (arith, e, c.before.before.before.loop.invariant.fits, st.requires.0)
+    omega (arith, e, c.before.before.before.loop-s.invariant.fits, st.requires.0)
 
-same_length : tie.Need-same-length invariant_loop decreases_loop
-same_length c = c.before.before.before.before.loop.invariant.kept
+shape_of-w-then-s-payload : tie.Need-shape_of-w-then-s-payload invariant_loop decreases_loop
+shape_of-w-then-s-payload c = c.before.before.before.before.loop-s.invariant.kept
 
-returns : tie.Need-returns invariant_loop decreases_loop
-returns c = c.before.before.before.before.loop.invariant
+returns-then-s-payload : tie.Need-returns-then-s-payload invariant_loop decreases_loop
+returns-then-s-payload c = c.before.before.before.before.loop-s.invariant
 
-read-many-requires : tie.Need-read-many-requires invariant_loop decreases_loop
-read-many-requires c κs =
+read_many-s-requires : tie.Need-read_many-s-requires invariant_loop decreases_loop
+read_many-s-requires c κs =
     let p = c.before.before.before.before.before.before.before.before.requires in
-    let r = c.before.before.before.before.before.loop.invariant in
-    let more = c.before.before.before.if1.true in
-    let room = c.before.if2.false in
+    let r = c.before.before.before.before.before.loop-s.invariant in
+    let more = c.before.before.before.loop-s-test.true in
+    let room = c.before.if-s-payload.false in
     ((p.0, p.1, omega (arith, p.2, r.kept)), (reading_from _ _ _ _ _ _ _ _ r _ refl, omega arith, omega arith))
 
-loop-less : tie.Need-loop-smaller invariant_loop decreases_loop
-loop-less c =
-    let more = c.before.before.before.before.before.before.if1.true in
-    omega (arith, c.before.before.read-many.ensures.1)
+loop-s-smaller : tie.Need-loop-s-smaller invariant_loop decreases_loop
+loop-s-smaller c =
+    let more = c.before.before.before.before.before.before.loop-s-test.true in
+    omega (arith, c.before.before.read_many-s.ensures.1)
 
-loop-again : tie.Need-loop-preserved invariant_loop decreases_loop
-loop-again c =
-    let r = c.before.before.before.before.before.before.before.before.loop.invariant in
-    let v = c.before.before.read-many.ensures.0 in
+loop-s-preserved : tie.Need-loop-s-preserved invariant_loop decreases_loop
+loop-s-preserved c =
+    let r = c.before.before.before.before.before.before.before.before.loop-s.invariant in
+    let v = c.before.before.read_many-s.ensures.0 in
     reading_from _ _ _ _ _ _ _ _ v _ (v.kept ∙ r.kept)
 
-same-length-2 : tie.Need-same-length-2 invariant_loop decreases_loop
-same-length-2 c = c.before.before.loop.invariant.kept
+shape_of-w : tie.Need-shape_of-w invariant_loop decreases_loop
+shape_of-w c = c.before.before.loop-s.invariant.kept
 
-returns-2 : tie.Need-returns-2 invariant_loop decreases_loop
-returns-2 c = c.before.before.loop.invariant
+returns : tie.Need-returns invariant_loop decreases_loop
+returns c = c.before.before.loop-s.invariant
 
 pub read_windows_spec : {M : Type 1} → statement M
 read_windows_spec =
@@ -63,13 +63,13 @@ read_windows_spec =
     (tie.spec
     invariant_loop
     decreases_loop
-    loop-holds
-    add-if1
-    add-if2
-    same_length
-    returns
-    read-many-requires
-    loop-less
-    loop-again
-    same-length-2
-    returns-2)
+    loop-s-init
+    overflow_add-s
+    overflow_add-s-in-loop-s
+    shape_of-w-then-s-payload
+    returns-then-s-payload
+    read_many-s-requires
+    loop-s-smaller
+    loop-s-preserved
+    shape_of-w
+    returns)

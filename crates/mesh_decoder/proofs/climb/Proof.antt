@@ -5,55 +5,55 @@ use borrow.Author.Rules.{rules}
 use Rattle.mesh_decoder.proofs.climb.Statement.{statement}
 use Rattle.mesh_decoder.proofs.climb.Tie as tie
 
-abbrev invariant_loop : tie.invariant-loop
+abbrev invariant_loop : tie.invariant-loop-t
 invariant_loop w₀ m t₀ w t = Climbed m w₀ t₀ w t
 
-abbrev decreases_loop : tie.decreases-loop
+abbrev decreases_loop : tie.decreases-loop-t
 decreases_loop w₀ m t₀ w t = t.depth
 
-loop-holds : tie.Need-loop-init invariant_loop decreases_loop
-loop-holds c = climbed_none _ _ _ c.before.requires
+loop-t-init : tie.Need-loop-t-init invariant_loop decreases_loop
+loop-t-init c = climbed_none _ _ _ c.before.requires
 
 ascend-requires : tie.Need-ascend-requires invariant_loop decreases_loop
-ascend-requires c κs = (c.before.before.before.loop.invariant.standing, omega arith)
+ascend-requires c κs = (c.before.before.before.loop-t.invariant.standing, omega arith)
 
-loop-less : tie.Need-loop-smaller invariant_loop decreases_loop
-loop-less c =
+loop-t-smaller : tie.Need-loop-t-smaller invariant_loop decreases_loop
+loop-t-smaller c =
     let v = c.before.before.before.before.before.ascend in
-    let i = c.before.before.before.before.before.before.before.before.before.loop in
-    (climbed_on _ _ _ _ _ i.invariant _ v.result _ v.ensures _ c.before.u.given.1).1
+    let i = c.before.before.before.before.before.before.before.before.before.loop-t in
+    (climbed_on _ _ _ _ _ i.invariant _ v.result _ v.ensures _ c.before.u-1.given.1).1
 
-loop-again : tie.Need-loop-preserved invariant_loop decreases_loop
-loop-again c =
+loop-t-preserved : tie.Need-loop-t-preserved invariant_loop decreases_loop
+loop-t-preserved c =
     let v = c.before.before.before.before.before.ascend in
-    let i = c.before.before.before.before.before.before.before.before.before.loop in
-    (climbed_on _ _ _ _ _ i.invariant _ v.result _ v.ensures _ c.before.u.given.1).0
+    let i = c.before.before.before.before.before.before.before.before.before.loop-t in
+    (climbed_on _ _ _ _ _ i.invariant _ v.result _ v.ensures _ c.before.u-1.given.1).0
+
+returns-in-Reads : tie.Need-returns-in-Reads invariant_loop decreases_loop
+returns-in-Reads c =
+    let v = c.before.before.before.before.before.ascend in
+    let i = c.before.before.before.before.before.before.before.before.before.loop-t in
+    climbed_out _ _ _ _ _ i.invariant _ v.result _ 0 v.ensures _ c.before.u-in-Reads-1.given.1 (reads_any _ _ _ _ _ _)
+
+returns-in-Whole : tie.Need-returns-in-Whole invariant_loop decreases_loop
+returns-in-Whole c =
+    let v = c.before.before.before.before.ascend in
+    let i = c.before.before.before.before.before.before.before.before.loop-t in
+    climbed_out _ _ _ _ _ i.invariant _ v.result _ 0 v.ensures _ c.enum_told-1.given.1 (whole_any _ _ _ _ _)
+
+returns-in-Stuck : tie.Need-returns-in-Stuck invariant_loop decreases_loop
+returns-in-Stuck c =
+    let v = c.before.before.before.before.ascend in
+    let i = c.before.before.before.before.before.before.before.before.loop-t in
+    climbed_out _ _ _ _ _ i.invariant _ v.result _ 0 v.ensures _ c.enum_told-in-Stuck-1.given.1 (stuck_any _ _ _ _ _)
+
+finish-requires : tie.Need-finish-requires invariant_loop decreases_loop
+finish-requires c κs = (c.before.before.before.loop-t.invariant.standing, omega arith)
 
 returns : tie.Need-returns invariant_loop decreases_loop
 returns c =
-    let v = c.before.before.before.before.before.ascend in
-    let i = c.before.before.before.before.before.before.before.before.before.loop in
-    climbed_out _ _ _ _ _ i.invariant _ v.result _ 0 v.ensures _ c.before.u2.given.1 (reads_any _ _ _ _ _ _)
-
-returns-2 : tie.Need-returns-2 invariant_loop decreases_loop
-returns-2 c =
-    let v = c.before.before.before.before.ascend in
-    let i = c.before.before.before.before.before.before.before.before.loop in
-    climbed_out _ _ _ _ _ i.invariant _ v.result _ 0 v.ensures _ c.enum_told.given.1 (whole_any _ _ _ _ _)
-
-returns-3 : tie.Need-returns-3 invariant_loop decreases_loop
-returns-3 c =
-    let v = c.before.before.before.before.ascend in
-    let i = c.before.before.before.before.before.before.before.before.loop in
-    climbed_out _ _ _ _ _ i.invariant _ v.result _ 0 v.ensures _ c.enum-told2.given.1 (stuck_any _ _ _ _ _)
-
-finish-requires : tie.Need-finish-requires invariant_loop decreases_loop
-finish-requires c κs = (c.before.before.before.loop.invariant.standing, omega arith)
-
-returns-4 : tie.Need-returns-4 invariant_loop decreases_loop
-returns-4 c =
     let v = c.before.before.finish in
-    let i = c.before.before.before.before.before.before.loop in
+    let i = c.before.before.before.before.before.before.loop-t in
     climbed_out _ _ _ _ _ i.invariant _ v.result _ 0 v.ensures _ refl (λ x. x)
 
 pub climb_spec : {M : Type 1} → statement M
@@ -62,20 +62,20 @@ climb_spec =
     (tie.spec
     invariant_loop
     decreases_loop
-    loop-holds
+    loop-t-init
     ascend-requires
     (λ c. search rules)
-    loop-less
-    loop-again
+    loop-t-smaller
+    loop-t-preserved
     (λ c. search rules)
     (λ c. search rules)
-    returns
+    returns-in-Reads
     (λ c. search rules)
     (λ c. search rules)
-    returns-2
+    returns-in-Whole
     (λ c. search rules)
     (λ c. search rules)
-    returns-3
+    returns-in-Stuck
     finish-requires
     (λ c. search rules)
-    returns-4)
+    returns)

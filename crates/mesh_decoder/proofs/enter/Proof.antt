@@ -5,13 +5,13 @@ use borrow.Author.Rules.{rules}
 use Rattle.mesh_decoder.proofs.enter.Statement.{statement}
 use Rattle.mesh_decoder.proofs.enter.Tie as tie
 
+returns-then-kind-eq0 : tie.Need-returns-then-kind-eq0
+returns-then-kind-eq0 c =
+    let st = c.before.before.before.before in
+    none_turn _ _ _ _ (record { standing = st.requires.0; more = st.requires.1; next = refl }) c.if-kind-eq0.true
+
 returns : tie.Need-returns
 returns c =
-    let st = c.before.before.before.before in
-    none_turn _ _ _ _ (record { standing = st.requires.0; more = st.requires.1; next = refl }) c.if1.true
-
-returns-5 : tie.Need-returns-5
-returns-5 c =
     let st = c.before.before.before.before.before.before.before in
     big_turn _ _ _ _ (record { standing = st.requires.0; more = st.requires.1; next = refl }) (omega arith)
 
@@ -24,7 +24,7 @@ enter_spec =
     (λ c. search rules)
     (λ c. search rules)
     (λ c. search rules)
-    returns
+    returns-then-kind-eq0
     (λ c κs. search rules)
     (λ c. search rules)
     (λ c. search rules)
@@ -34,4 +34,4 @@ enter_spec =
     (λ c κs. search rules)
     (λ c. search rules)
     (λ c. search rules)
-    returns-5)
+    returns)

@@ -5,11 +5,11 @@ use borrow.Author.Rules.{rules}
 use Rattle.mesh_decoder.proofs.node.Statement.{statement}
 use Rattle.mesh_decoder.proofs.node.Tie as tie
 
-slice-write-w-2 : tie.Need-slice-write-w-2
-slice-write-w-2 c = let g = c.before.requires.0.standing in let u = g.within in let r = g.room in simp length-set (omega arith)
+bounds-w-m-2 : tie.Need-bounds-w-m-2
+bounds-w-m-2 c = let g = c.before.requires.0.standing in let u = g.within in let r = g.room in simp length-set (omega arith)
 
-slice-write-w-3 : tie.Need-slice-write-w-3
-slice-write-w-3 c = let g = c.before.requires.0.standing in let u = g.within in let r = g.room in simp length-set (omega arith)
+bounds-w-m-3 : tie.Need-bounds-w-m-3
+bounds-w-m-3 c = let g = c.before.requires.0.standing in let u = g.within in let r = g.room in simp length-set (omega arith)
 
 returns : tie.Need-returns
 returns c = let st = c.before in node_turn _ _ _ _ st.requires.0 st.requires.1 st.requires.2
@@ -29,12 +29,12 @@ node_spec =
     (λ c. search rules)
     (λ c. search rules)
     (λ c. search rules)
-    slice-write-w-2
+    bounds-w-m-2
     (λ c. search rules)
     (λ c. search rules)
     (λ c. search rules)
     (λ c. search rules)
-    slice-write-w-3
+    bounds-w-m-3
     (λ c. search rules)
     (λ c. search rules)
     (λ c. search rules)

@@ -6,14 +6,14 @@ use borrow.Author.Rules.{rules}
 use Rattle.mesh_decoder.proofs.soon.Statement.{statement}
 use Rattle.mesh_decoder.proofs.soon.Tie as tie
 
-slice-write-w-2 : tie.Need-slice-write-w-2
-slice-write-w-2 c = let g = c.before.requires.standing in let u = g.within in let r = g.room in simp length-set (omega arith)
+bounds-w-m-2 : tie.Need-bounds-w-m-2
+bounds-w-m-2 c = let g = c.before.requires.standing in let u = g.within in let r = g.room in simp length-set (omega arith)
 
-slice-write-w-3 : tie.Need-slice-write-w-3
-slice-write-w-3 c = let g = c.before.requires.standing in let u = g.within in let r = g.room in simp length-set (omega arith)
+bounds-w-m-3 : tie.Need-bounds-w-m-3
+bounds-w-m-3 c = let g = c.before.requires.standing in let u = g.within in let r = g.room in simp length-set (omega arith)
 
-slice-write-w-4 : tie.Need-slice-write-w-4
-slice-write-w-4 c = let g = c.before.requires.standing in let u = g.within in let r = g.room in simp length-set (omega arith)
+bounds-w-m-4 : tie.Need-bounds-w-m-4
+bounds-w-m-4 c = let g = c.before.requires.standing in let u = g.within in let r = g.room in simp length-set (omega arith)
 
 returns : tie.Need-returns
 returns c = soon_turn _ _ _ _ c.before.requires refl
@@ -33,18 +33,18 @@ soon_spec =
     (λ c. search rules)
     (λ c. search rules)
     (λ c. search rules)
-    slice-write-w-2
+    bounds-w-m-2
     (λ c. search rules)
     (λ c. search rules)
     (λ c. search rules)
     (λ c. search rules)
     (λ c. search rules)
-    slice-write-w-3
+    bounds-w-m-3
     (λ c. search rules)
     (λ c. search rules)
     (λ c. search rules)
     (λ c. search rules)
-    slice-write-w-4
+    bounds-w-m-4
     (λ c. search rules)
     (λ c. search rules)
     (λ c. search rules)

@@ -7,71 +7,71 @@ use borrow.Author.Rules.{rules}
 use Rattle.mesh_decoder.proofs.spell.Statement.{statement}
 use Rattle.mesh_decoder.proofs.spell.Tie as tie
 
-abbrev invariant_loop : tie.invariant-loop
+abbrev invariant_loop : tie.invariant-loop-s
 invariant_loop w₀ m s₀ w s = Spelling m w₀ w s
 
-abbrev decreases_loop : tie.decreases-loop
+abbrev decreases_loop : tie.decreases-loop-s
 decreases_loop w₀ m s₀ w s = type_count m - s.read
 
-loop-holds : tie.Need-loop-init invariant_loop decreases_loop
-loop-holds c = let p = c.before.requires in spelling_first _ _ p.0 p.1 p.2 p.3
+loop-s-init : tie.Need-loop-s-init invariant_loop decreases_loop
+loop-s-init c = let p = c.before.requires in spelling_first _ _ p.0 p.1 p.2 p.3
 
 enter-requires : tie.Need-enter-requires invariant_loop decreases_loop
-enter-requires c κs = (c.before.before.before.loop.invariant.standing, omega arith)
+enter-requires c κs = (c.before.before.before.loop-s.invariant.standing, omega arith)
 
-loop-less : tie.Need-loop-smaller invariant_loop decreases_loop
-loop-less c =
+loop-s-smaller : tie.Need-loop-s-smaller invariant_loop decreases_loop
+loop-s-smaller c =
     let v = c.before.before.before.before.before.enter in
-    let i = c.before.before.before.before.before.before.before.before.before.loop in
-    let n = (spelling_on _ _ _ _ i.invariant _ v.result v.ensures _ c.before.t.given.1).1 in omega arith
+    let i = c.before.before.before.before.before.before.before.before.before.loop-s in
+    let n = (spelling_on _ _ _ _ i.invariant _ v.result v.ensures _ c.before.t-1.given.1).1 in omega arith
 
-loop-again : tie.Need-loop-preserved invariant_loop decreases_loop
-loop-again c =
+loop-s-preserved : tie.Need-loop-s-preserved invariant_loop decreases_loop
+loop-s-preserved c =
     let v = c.before.before.before.before.before.enter in
-    let i = c.before.before.before.before.before.before.before.before.before.loop in
-    (spelling_on _ _ _ _ i.invariant _ v.result v.ensures _ c.before.t.given.1).0
+    let i = c.before.before.before.before.before.before.before.before.before.loop-s in
+    (spelling_on _ _ _ _ i.invariant _ v.result v.ensures _ c.before.t-1.given.1).0
 
-same_length : tie.Need-same-length invariant_loop decreases_loop
-same_length c =
+shape_of-w-in-Climbs : tie.Need-shape_of-w-in-Climbs invariant_loop decreases_loop
+shape_of-w-in-Climbs c =
     let v = c.before.before.before.before.enter in
-    let i = c.before.before.before.before.before.before.before.before.loop in
+    let i = c.before.before.before.before.before.before.before.before.loop-s in
     v.auto.0 ∙ i.invariant.same_length
+
+returns-in-Climbs : tie.Need-returns-in-Climbs invariant_loop decreases_loop
+returns-in-Climbs c =
+    let v = c.before.before.before.before.enter in
+    let i = c.before.before.before.before.before.before.before.before.loop-s in
+    climbs_spelled _ _ _ _ i.invariant _ v.result v.ensures _ c.enum_told-1.given.1
+
+shape_of-w-in-Whole : tie.Need-shape_of-w-in-Whole invariant_loop decreases_loop
+shape_of-w-in-Whole c =
+    let v = c.before.before.before.before.enter in
+    let i = c.before.before.before.before.before.before.before.before.loop-s in
+    v.auto.0 ∙ i.invariant.same_length
+
+returns-in-Whole : tie.Need-returns-in-Whole invariant_loop decreases_loop
+returns-in-Whole c =
+    let v = c.before.before.before.before.enter in
+    let i = c.before.before.before.before.before.before.before.before.loop-s in
+    whole_spelled _ _ _ _ i.invariant _ v.result v.ensures c.enum_told-in-Whole-1.given.1
+
+shape_of-w-in-Stuck : tie.Need-shape_of-w-in-Stuck invariant_loop decreases_loop
+shape_of-w-in-Stuck c =
+    let v = c.before.before.before.before.enter in
+    let i = c.before.before.before.before.before.before.before.before.loop-s in
+    v.auto.0 ∙ i.invariant.same_length
+
+returns-in-Stuck : tie.Need-returns-in-Stuck invariant_loop decreases_loop
+returns-in-Stuck c =
+    let v = c.before.before.before.before.enter in
+    let i = c.before.before.before.before.before.before.before.before.loop-s in
+    stuck_spelled _ _ _ _ i.invariant _ v.result v.ensures c.enum_told-in-Stuck-1.given.1
+
+shape_of-w : tie.Need-shape_of-w invariant_loop decreases_loop
+shape_of-w c = c.before.before.loop-s.invariant.same_length
 
 returns : tie.Need-returns invariant_loop decreases_loop
-returns c =
-    let v = c.before.before.before.before.enter in
-    let i = c.before.before.before.before.before.before.before.before.loop in
-    climbs_spelled _ _ _ _ i.invariant _ v.result v.ensures _ c.enum_told.given.1
-
-same-length-2 : tie.Need-same-length-2 invariant_loop decreases_loop
-same-length-2 c =
-    let v = c.before.before.before.before.enter in
-    let i = c.before.before.before.before.before.before.before.before.loop in
-    v.auto.0 ∙ i.invariant.same_length
-
-returns-2 : tie.Need-returns-2 invariant_loop decreases_loop
-returns-2 c =
-    let v = c.before.before.before.before.enter in
-    let i = c.before.before.before.before.before.before.before.before.loop in
-    whole_spelled _ _ _ _ i.invariant _ v.result v.ensures c.enum-told2.given.1
-
-same-length-3 : tie.Need-same-length-3 invariant_loop decreases_loop
-same-length-3 c =
-    let v = c.before.before.before.before.enter in
-    let i = c.before.before.before.before.before.before.before.before.loop in
-    v.auto.0 ∙ i.invariant.same_length
-
-returns-3 : tie.Need-returns-3 invariant_loop decreases_loop
-returns-3 c =
-    let v = c.before.before.before.before.enter in
-    let i = c.before.before.before.before.before.before.before.before.loop in
-    stuck_spelled _ _ _ _ i.invariant _ v.result v.ensures c.enum-told3.given.1
-
-same-length-4 : tie.Need-same-length-4 invariant_loop decreases_loop
-same-length-4 c = c.before.before.loop.invariant.same_length
-
-returns-4 : tie.Need-returns-4 invariant_loop decreases_loop
-returns-4 c = short_spelled _ _ _ _ c.before.before.loop.invariant (omega arith)
+returns c = short_spelled _ _ _ _ c.before.before.loop-s.invariant (omega arith)
 
 pub spell_spec : {M : Type 1} → statement M
 spell_spec =
@@ -79,21 +79,21 @@ spell_spec =
     (tie.spec
     invariant_loop
     decreases_loop
-    loop-holds
+    loop-s-init
     (λ c. search rules)
     (λ c. search rules)
     enter-requires
     (λ c. search rules)
-    loop-less
-    loop-again
+    loop-s-smaller
+    loop-s-preserved
     (λ c. search rules)
-    same_length
-    returns
+    shape_of-w-in-Climbs
+    returns-in-Climbs
     (λ c. search rules)
-    same-length-2
-    returns-2
+    shape_of-w-in-Whole
+    returns-in-Whole
     (λ c. search rules)
-    same-length-3
-    returns-3
-    same-length-4
-    returns-4)
+    shape_of-w-in-Stuck
+    returns-in-Stuck
+    shape_of-w
+    returns)

@@ -7,20 +7,20 @@ use borrow.Author.Rules.{rules}
 use Rattle.mesh_decoder.proofs.tips.Statement.{statement}
 use Rattle.mesh_decoder.proofs.tips.Tie as tie
 
-slice-write-w-2 : tie.Need-slice-write-w-2
-slice-write-w-2 c = let g = c.before.requires.standing in let u = g.within in let r = g.room in simp length-set (omega arith)
+bounds-w-m-2 : tie.Need-bounds-w-m-2
+bounds-w-m-2 c = let g = c.before.requires.standing in let u = g.within in let r = g.room in simp length-set (omega arith)
 
-slice-write-w-3 : tie.Need-slice-write-w-3
-slice-write-w-3 c = let g = c.before.requires.standing in let u = g.within in let r = g.room in simp length-set (omega arith)
+bounds-w-m-3 : tie.Need-bounds-w-m-3
+bounds-w-m-3 c = let g = c.before.requires.standing in let u = g.within in let r = g.room in simp length-set (omega arith)
 
-slice-write-w-4 : tie.Need-slice-write-w-4
-slice-write-w-4 c = let g = c.before.requires.standing in let u = g.within in let r = g.room in simp length-set (omega arith)
+bounds-w-m-4 : tie.Need-bounds-w-m-4
+bounds-w-m-4 c = let g = c.before.requires.standing in let u = g.within in let r = g.room in simp length-set (omega arith)
 
 climb-requires : tie.Need-climb-requires
 climb-requires c κs = tips_stand _ _ _ _ c.before.before.before.before.requires
 
-same_length : tie.Need-same-length
-same_length c = c.before.before.climb.auto.0 ∙ tips_kept _ _ _ _ c.before.before.before.before.before.before.before.requires
+shape_of-w : tie.Need-shape_of-w
+shape_of-w c = c.before.before.climb.auto.w ∙ tips_kept _ _ _ _ c.before.before.before.before.before.before.before.requires
 
 returns : tie.Need-returns
 returns c =
@@ -41,22 +41,22 @@ tips_spec =
     (λ c. search rules)
     (λ c. search rules)
     (λ c. search rules)
-    slice-write-w-2
+    bounds-w-m-2
     (λ c. search rules)
     (λ c. search rules)
     (λ c. search rules)
     (λ c. search rules)
     (λ c. search rules)
-    slice-write-w-3
+    bounds-w-m-3
     (λ c. search rules)
     (λ c. search rules)
     (λ c. search rules)
     (λ c. search rules)
     (λ c. search rules)
-    slice-write-w-4
+    bounds-w-m-4
     (λ c. search rules)
     (λ c. search rules)
     (λ c. search rules)
     climb-requires
-    same_length
+    shape_of-w
     returns)

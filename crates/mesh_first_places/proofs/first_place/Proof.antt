@@ -8,52 +8,52 @@ use Rattle.mesh_first_places.proofs.first_place.Tie as tie
 other-requires : tie.Need-other-requires
 other-requires c κs = let s = c.before.before in let a = s.requires in let r = first_ranges _ _ _ _ a in let m = a.held.view.room in let l = first_in _ _ _ _ a in omega (arith, r.few_darts)
 
-mul-if1 : tie.Need-overflow-mul-if1
-mul-if1 c = let s = c.before.before.before in let a = s.requires in let r = first_ranges _ _ _ _ a in let m = a.held.view.room in let l = first_over _ _ _ _ a in let e = c.other.ensures in omega (arith, r.few_darts)
+offset_bounds-w-other : tie.Need-offset_bounds-w-other
+offset_bounds-w-other c = let s = c.before.before.before in let a = s.requires in let r = first_ranges _ _ _ _ a in let m = a.held.view.room in let l = first_over _ _ _ _ a in let e = c.other.ensures in omega (arith, r.few_darts)
 
-slice-read-if1 : tie.Need-slice-read-if1
-slice-read-if1 c = let s = c.before.before.before.before in let a = s.requires in let r = first_ranges _ _ _ _ a in let m = a.held.view.room in let l = first_over _ _ _ _ a in let e = c.before.other.ensures in omega arith
+bounds-w-other : tie.Need-bounds-w-other
+bounds-w-other c = let s = c.before.before.before.before in let a = s.requires in let r = first_ranges _ _ _ _ a in let m = a.held.view.room in let l = first_over _ _ _ _ a in let e = c.before.other.ensures in omega arith
 
 leaf-requires : tie.Need-leaf-requires
-leaf-requires c κs = let s = c.before.before.before.before.before.before in (s.requires, marked s.args.w.now _ _ c.before.before.before.other.ensures c.before.if1.true)
+leaf-requires c κs = let s = c.before.before.before.before.before.before in (s.requires, marked s.args.w.now _ _ c.before.before.before.other.ensures c.before.if-w-other-ne0.true)
 
-same_length : tie.Need-same-length
-same_length c = c.before.before.leaf.auto.1.0
+shape_of-w-then-w-other-ne0 : tie.Need-shape_of-w-then-w-other-ne0
+shape_of-w-then-w-other-ne0 c = c.before.before.leaf.auto.w
+
+returns-then-w-other-ne0 : tie.Need-returns-then-w-other-ne0
+returns-then-w-other-ne0 c = c.before.before.leaf.ensures
+
+overflow_sub-faces : tie.Need-overflow_sub-faces
+overflow_sub-faces c = let s = c.before.before.before.before.before.before in let a = s.requires in let r = first_ranges _ _ _ _ a in let m = a.held.view.room in omega (arith, r.some_face)
+
+overflow_sub-edges : tie.Need-overflow_sub-edges
+overflow_sub-edges c = let s = c.before.before.before.before.before.before in let a = s.requires in let r = first_ranges _ _ _ _ a in let m = a.held.view.room in let l = first_edge _ _ _ _ a in omega arith
+
+put_half-requires : tie.Need-put_half-requires
+put_half-requires c κs = let s = c.before.before.before.before.before.before in let a = s.requires in let r = first_ranges _ _ _ _ a in let m = a.held.view.room in (r.few_darts, m, first_second _ _ _ _ a, omega (arith, r.faces), omega (arith, r.edges), r.halves)
+
+overflow_add-result : tie.Need-overflow_add-result
+overflow_add-result c = let s = c.before.before.before.before.before.before.before.before.before in let a = s.requires in let r = first_ranges _ _ _ _ a in let m = a.held.view.room in omega (arith, r.few_darts, r.halves)
+
+shape_of-w : tie.Need-shape_of-w
+shape_of-w c = c.before.before.put_half.auto.w
 
 returns : tie.Need-returns
-returns c = c.before.before.leaf.ensures
-
-sub-put-half : tie.Need-overflow-sub-put-half
-sub-put-half c = let s = c.before.before.before.before.before.before in let a = s.requires in let r = first_ranges _ _ _ _ a in let m = a.held.view.room in omega (arith, r.some_face)
-
-sub-put-half-2 : tie.Need-overflow-sub-put-half-2
-sub-put-half-2 c = let s = c.before.before.before.before.before.before in let a = s.requires in let r = first_ranges _ _ _ _ a in let m = a.held.view.room in let l = first_edge _ _ _ _ a in omega arith
-
-put-half-requires : tie.Need-put-half-requires
-put-half-requires c κs = let s = c.before.before.before.before.before.before in let a = s.requires in let r = first_ranges _ _ _ _ a in let m = a.held.view.room in (r.few_darts, m, first_second _ _ _ _ a, omega (arith, r.faces), omega (arith, r.edges), r.halves)
-
-add-t12 : tie.Need-overflow-add-t12
-add-t12 c = let s = c.before.before.before.before.before.before.before.before.before in let a = s.requires in let r = first_ranges _ _ _ _ a in let m = a.held.view.room in omega (arith, r.few_darts, r.halves)
-
-same-length-2 : tie.Need-same-length-2
-same-length-2 c = c.before.before.put-half.auto.0
-
-returns-2 : tie.Need-returns-2
-returns-2 c = let s = c.before.before.before.before.before.before.before.before.before in let a = s.requires in let r = first_ranges _ _ _ _ a in let m = a.held.view.room in first_goes_down _ _ _ _ a _ c.before.before.before.before.before.before.other.ensures _ c.before.before.put-half.auto.0 c.before.before.before.before.if1.false c.before.before.put-half.ensures
+returns c = let s = c.before.before.before.before.before.before.before.before.before in let a = s.requires in let r = first_ranges _ _ _ _ a in let m = a.held.view.room in first_goes_down _ _ _ _ a _ c.before.before.before.before.before.before.other.ensures _ c.before.before.put_half.auto.w c.before.before.before.before.if-w-other-ne0.false c.before.before.put_half.ensures
 
 pub first_place_spec : {M : Type 1} → statement M
 first_place_spec =
     tie.close
     (tie.spec
     other-requires
-    mul-if1
-    slice-read-if1
+    offset_bounds-w-other
+    bounds-w-other
     leaf-requires
-    same_length
-    returns
-    sub-put-half
-    sub-put-half-2
-    put-half-requires
-    add-t12
-    same-length-2
-    returns-2)
+    shape_of-w-then-w-other-ne0
+    returns-then-w-other-ne0
+    overflow_sub-faces
+    overflow_sub-edges
+    put_half-requires
+    overflow_add-result
+    shape_of-w
+    returns)

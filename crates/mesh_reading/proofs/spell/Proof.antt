@@ -5,24 +5,24 @@ use borrow.Author.Rules.{rules}
 use Rattle.mesh_reading.proofs.spell.Statement.{statement}
 use Rattle.mesh_reading.proofs.spell.Tie as tie
 
-returns : tie.Need-returns
+returns-then-not-typed : tie.Need-returns-then-not-typed
 unfolding decode_mesh
-returns c = untyped_spelt _ _ _ _ _ c.before.before.before.types.ensures (not-true _ c.if1.true)
+returns-then-not-typed c = untyped_spelt _ _ _ _ _ c.before.before.before.types-typed.ensures (not-true _ c.if-not-typed.true)
 
 spell-requires : tie.Need-spell-requires
 spell-requires c κs =
     let k = c.before.before.before.before in
     let p = k.before.before.before.before.before.requires in
-    spell_asked _ _ _ _ _ k.types.ensures (not-false _ c.before.if1.false) p.1 p.2 p.4
+    spell_asked _ _ _ _ _ k.types-typed.ensures (not-false _ c.before.if-not-typed.false) p.1 p.2 p.4
 
-returns-2 : tie.Need-returns-2
+returns : tie.Need-returns
 unfolding decode_mesh
-returns-2 c =
+returns c =
     let u = c.before.before in
     let k = u.before.before.before.before.before in
     let p = k.before.before.before.before.before.requires in
-    typed_spelt _ _ _ _ _ k.types.ensures (not-false _ u.before.before.if1.false) p.2 p.1 _ _ u.spell.ensures
+    typed_spelt _ _ _ _ _ k.types-typed.ensures (not-false _ u.before.before.if-not-typed.false) p.2 p.1 _ _ u.spell.ensures
 
 pub spell_spec : {M : Type 1} → statement M
 spell_spec =
-    tie.close (tie.spec (λ c κs. search rules) (λ c. search rules) returns spell-requires (λ c. search rules) returns-2)
+    tie.close (tie.spec (λ c κs. search rules) (λ c. search rules) returns-then-not-typed spell-requires (λ c. search rules) returns)

@@ -4,8 +4,8 @@ use borrow.Author.Rules.{rules}
 use Rattle.mesh_reading.proofs.turn.Statement.{statement}
 use Rattle.mesh_reading.proofs.turn.Tie as tie
 
-slice-aggregate-walk : tie.Need-slice-aggregate-walk
-slice-aggregate-walk c = let st = c.before.before.before in let p = st.requires in sym (order_long _ st.args.w.now _ p.0 p.1 p.2 p.3)
+slice_bounds-walk-end-2 : tie.Need-slice_bounds-walk-end-2
+slice_bounds-walk-end-2 c = let st = c.before.before.before in let p = st.requires in sym (order_long _ st.args.w.now _ p.0 p.1 p.2 p.3)
 
 walk-requires : tie.Need-walk-requires
 walk-requires c κs = let st = c.before.before.before.before in let p = st.requires in mesh_asked _ st.args.w.now _ p.0 p.1 p.2 p.3
@@ -13,8 +13,8 @@ walk-requires c κs = let st = c.before.before.before.before in let p = st.requi
 returns : tie.Need-returns
 returns c =
     let k = c.before.before.before.before.before.before.before.before in
-    let p = k.before.before.before.before.before.requires in
-    turned _ _ _ p.0 p.1 p.2 p.3 _ k.walk.ensures _ c.before.before.copy-front.ensures
+    let p = k.before.before.before.requires in
+    turned _ _ _ p.0 p.1 p.2 p.3 _ k.walk.ensures _ c.before.before.copy_front.ensures
 
 pub turn_spec : {M : Type 1} → statement M
 turn_spec =
@@ -22,7 +22,7 @@ turn_spec =
     (tie.spec
     (λ c. search rules)
     (λ c. search rules)
-    slice-aggregate-walk
+    slice_bounds-walk-end-2
     walk-requires
     (λ c. search rules)
     (λ c. search rules)

@@ -12,45 +12,45 @@ use native.Mathlib.Omega.{arith}
 use Rattle.mesh_tracing.proofs.at_end.Statement.{statement}
 use Rattle.mesh_tracing.proofs.at_end.Tie as tie
 
-step-requires : tie.Need-step-requires
-step-requires c κs = let a = c.before.before.requires in let n = (count_parts _ a.held.count).2 in let two = count_even _ a.held.count in let some = count_positive _ a.held.count in let k = a.held.root_in in let x = next_below _ a.held.count a.held.perm _ k in let y = next_below _ a.held.count a.held.perm _ x in (a.held.count, k)
+step-x-requires : tie.Need-step-x-requires
+step-x-requires c κs = let a = c.before.before.requires in let n = (count_parts _ a.held.count).2 in let two = count_even _ a.held.count in let some = count_positive _ a.held.count in let k = a.held.root_in in let x = next_below _ a.held.count a.held.perm _ k in let y = next_below _ a.held.count a.held.perm _ x in (a.held.count, k)
 
-step-requires-2 : tie.Need-step-requires-2
-step-requires-2 c κs = let a = c.before.before.before.requires in let n = (count_parts _ a.held.count).2 in let two = count_even _ a.held.count in let some = count_positive _ a.held.count in let k = a.held.root_in in let x = next_below _ a.held.count a.held.perm _ k in let y = next_below _ a.held.count a.held.perm _ x in let e = c.step.ensures in (a.held.count, omega arith)
+step-y-requires : tie.Need-step-y-requires
+step-y-requires c κs = let a = c.before.before.before.requires in let n = (count_parts _ a.held.count).2 in let two = count_even _ a.held.count in let some = count_positive _ a.held.count in let k = a.held.root_in in let x = next_below _ a.held.count a.held.perm _ k in let y = next_below _ a.held.count a.held.perm _ x in let e = c.step-x.ensures in (a.held.count, omega arith)
 
-returns : tie.Need-returns
-returns c = home_unfit _ _ _ c.before.before.before.before.before.before.requires (⊎_elim (λ u. inl u.taken) (λ u. inr (eqb-false _ _ (not-true _ u.2.taken))) c.if1.branch)
+returns-then-s-ne2 : tie.Need-returns-then-s-ne2
+returns-then-s-ne2 c = home_unfit _ _ _ c.before.before.before.before.before.before.requires (⊎_elim (λ u. inl u.taken) (λ u. inr (eqb-false _ _ (not-true _ u.2.taken))) c.then-s-ne2.branch)
 
 other-requires : tie.Need-other-requires
-other-requires c κs = let a = c.before.before.before.before.before.before.before.before.requires in let n = (count_parts _ a.held.count).2 in let two = count_even _ a.held.count in let some = count_positive _ a.held.count in let k = a.held.root_in in let x = next_below _ a.held.count a.held.perm _ k in let y = next_below _ a.held.count a.held.perm _ x in let e = c.before.before.before.before.before.step.ensures in omega arith
+other-requires c κs = let a = c.before.before.before.before.before.before.before.before.requires in let n = (count_parts _ a.held.count).2 in let two = count_even _ a.held.count in let some = count_positive _ a.held.count in let k = a.held.root_in in let x = next_below _ a.held.count a.held.perm _ k in let y = next_below _ a.held.count a.held.perm _ x in let e = c.before.before.before.before.before.step-x.ensures in omega arith
 
-is-end-requires : tie.Need-is-end-requires
-is-end-requires c κs = let a = c.before.before.before.before.before.before.before.before.before.requires in let n = (count_parts _ a.held.count).2 in let two = count_even _ a.held.count in let some = count_positive _ a.held.count in let k = a.held.root_in in let x = next_below _ a.held.count a.held.perm _ k in let y = next_below _ a.held.count a.held.perm _ x in let e = c.before.before.before.before.before.before.step.ensures in let o = c.other.ensures in let l = opposite_bound _ _ two x in (n, a.held.view.room, subst (λ (i : ℕ). i < length c.before.before.before.before.before.before.before.before.before.args.order.now) (sym (o ∙ ap opposite e)) l, omega arith)
+is_end-requires : tie.Need-is_end-requires
+is_end-requires c κs = let a = c.before.before.before.before.before.before.before.before.before.requires in let n = (count_parts _ a.held.count).2 in let two = count_even _ a.held.count in let some = count_positive _ a.held.count in let k = a.held.root_in in let x = next_below _ a.held.count a.held.perm _ k in let y = next_below _ a.held.count a.held.perm _ x in let e = c.before.before.before.before.before.before.step-x.ensures in let o = c.other.ensures in let l = opposite_bound _ _ two x in (n, a.held.view.room, subst (λ (i : ℕ). i < length c.before.before.before.before.before.before.before.before.before.args.order.now) (sym (o ∙ ap opposite e)) l, omega arith)
 
-returns-2 : tie.Need-returns-2
-returns-2 c = mark_unfit _ _ _ c.before.before.before.before.before.before.before.before.before.before.before.requires _ _ c.before.before.before.before.before.before.before.before.step.ensures c.before.before.other.ensures _ c.before.is_end.ensures (not-true _ c.if3.true)
+returns-then-not-is_end : tie.Need-returns-then-not-is_end
+returns-then-not-is_end c = mark_unfit _ _ _ c.before.before.before.before.before.before.before.before.before.before.before.requires _ _ c.before.before.before.before.before.before.before.before.step-x.ensures c.before.before.other.ensures _ c.before.is_end.ensures (not-true _ c.if-not-is_end.true)
 
 other-requires-2 : tie.Need-other-requires-2
-other-requires-2 c κs = let a = c.before.before.before.before.before.before.before.before.before.before.before.requires in let n = (count_parts _ a.held.count).2 in let two = count_even _ a.held.count in let some = count_positive _ a.held.count in let k = a.held.root_in in let x = next_below _ a.held.count a.held.perm _ k in let y = next_below _ a.held.count a.held.perm _ x in let e = c.before.before.before.before.before.before.before.before.step.ensures in let f = c.before.before.before.before.before.before.before.step2.ensures ∙ ap (face_next _) e in omega arith
+other-requires-2 c κs = let a = c.before.before.before.before.before.before.before.before.before.before.before.requires in let n = (count_parts _ a.held.count).2 in let two = count_even _ a.held.count in let some = count_positive _ a.held.count in let k = a.held.root_in in let x = next_below _ a.held.count a.held.perm _ k in let y = next_below _ a.held.count a.held.perm _ x in let e = c.before.before.before.before.before.before.before.before.step-x.ensures in let f = c.before.before.before.before.before.before.before.step-y.ensures ∙ ap (face_next _) e in omega arith
 
-is-end-requires-2 : tie.Need-is-end-requires-2
-is-end-requires-2 c κs = let a = c.before.before.before.before.before.before.before.before.before.before.before.before.requires in let n = (count_parts _ a.held.count).2 in let two = count_even _ a.held.count in let some = count_positive _ a.held.count in let k = a.held.root_in in let x = next_below _ a.held.count a.held.perm _ k in let y = next_below _ a.held.count a.held.perm _ x in let e = c.before.before.before.before.before.before.before.before.before.step.ensures in let f = c.before.before.before.before.before.before.before.before.step2.ensures ∙ ap (face_next _) e in let o = c.other2.ensures in let l = opposite_bound _ _ two y in (n, a.held.view.room, subst (λ (i : ℕ). i < length c.before.before.before.before.before.before.before.before.before.before.before.before.args.order.now) (sym (o ∙ ap opposite f)) l, omega arith)
+is_end-requires-2 : tie.Need-is_end-requires-2
+is_end-requires-2 c κs = let a = c.before.before.before.before.before.before.before.before.before.before.before.before.requires in let n = (count_parts _ a.held.count).2 in let two = count_even _ a.held.count in let some = count_positive _ a.held.count in let k = a.held.root_in in let x = next_below _ a.held.count a.held.perm _ k in let y = next_below _ a.held.count a.held.perm _ x in let e = c.before.before.before.before.before.before.before.before.before.step-x.ensures in let f = c.before.before.before.before.before.before.before.before.step-y.ensures ∙ ap (face_next _) e in let o = c.other-2.ensures in let l = opposite_bound _ _ two y in (n, a.held.view.room, subst (λ (i : ℕ). i < length c.before.before.before.before.before.before.before.before.before.before.before.before.args.order.now) (sym (o ∙ ap opposite f)) l, omega arith)
 
-returns-3 : tie.Need-returns-3
-returns-3 c =
-    is_meshed _ _ _ c.before.before.before.before.before.before.before.before.before.before.before.before.before.requires _ _ c.before.before.before.before.before.before.before.before.before.before.step.ensures c.before.before.before.before.other.ensures _ c.before.before.before.is_end.ensures c.before.before.before.before.before.before.before.if1.false
-    (eqb-true _ _ (not-false _ c.before.before.before.before.before.if2.false)) (not-false _ c.before.before.if3.false) _ _ c.before.before.before.before.before.before.before.before.before.step2.ensures c.before.other2.ensures _ c.is-end2.ensures
+returns : tie.Need-returns
+returns c =
+    is_meshed _ _ _ c.before.before.before.before.before.before.before.before.before.before.before.before.before.requires _ _ c.before.before.before.before.before.before.before.before.before.before.step-x.ensures c.before.before.before.before.other.ensures _ c.before.before.before.is_end.ensures c.before.before.before.before.before.before.before.if-s-ne2.false
+    (eqb-true _ _ (not-false _ c.before.before.before.before.before.if-s-n.false)) (not-false _ c.before.before.if-not-is_end.false) _ _ c.before.before.before.before.before.before.before.before.before.step-y.ensures c.before.other-2.ensures _ c.is_end-2.ensures
 
 pub at_end_spec : {M : Type 1} → statement M
 at_end_spec =
     tie.close
     (tie.spec
-    step-requires
-    step-requires-2
-    returns
+    step-x-requires
+    step-y-requires
+    returns-then-s-ne2
     other-requires
-    is-end-requires
-    returns-2
+    is_end-requires
+    returns-then-not-is_end
     other-requires-2
-    is-end-requires-2
-    returns-3)
+    is_end-requires-2
+    returns)

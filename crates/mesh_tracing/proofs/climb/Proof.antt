@@ -5,50 +5,50 @@ use borrow.Author.Rules.{rules}
 use Rattle.mesh_tracing.proofs.climb.Statement.{statement}
 use Rattle.mesh_tracing.proofs.climb.Tie as tie
 
-abbrev invariant_loop : tie.invariant-loop
+abbrev invariant_loop : tie.invariant-loop-t
 invariant_loop order w₀ t₀ w t = Going order w₀ w t₀ t
 
-abbrev decreases_loop : tie.decreases-loop
+abbrev decreases_loop : tie.decreases-loop-t
 decreases_loop order w₀ t₀ w t = t.halves
 
-loop-holds : tie.Need-loop-init invariant_loop decreases_loop
-loop-holds c = going_start _ _ _ c.before.before.requires
+loop-t-init : tie.Need-loop-t-init invariant_loop decreases_loop
+loop-t-init c = going_start _ _ _ c.before.before.requires
 
 back-requires : tie.Need-back-requires invariant_loop decreases_loop
-back-requires c κs = (c.before.before.before.loop.invariant.at, c.before.if1.true)
+back-requires c κs = (c.before.before.before.loop-t.invariant.at, c.before.loop-t-test.true)
 
-enum-known-u : tie.Need-enum-known-u invariant_loop decreases_loop
-enum-known-u c = search rules
+enum_known-u : tie.Need-enum_known-u invariant_loop decreases_loop
+enum_known-u c = search rules
 
-loop-less : tie.Need-loop-smaller invariant_loop decreases_loop
-loop-less c = let v = c.before.before.before.before.before.back in let g = c.before.before.before.before.before.before.before.before.before.loop.invariant in let t = c.before.before.before.before.before.before.before.if1.true in let l = going_lower _ _ _ _ _ g _ _ _ v.ensures _ c.before.u.given.1 in omega arith
+loop-t-smaller : tie.Need-loop-t-smaller invariant_loop decreases_loop
+loop-t-smaller c = let v = c.before.before.before.before.before.back in let g = c.before.before.before.before.before.before.before.before.before.loop-t.invariant in let t = c.before.before.before.before.before.before.before.loop-t-test.true in let l = going_lower _ _ _ _ _ g _ _ _ v.ensures _ c.before.u-1.given.1 in omega arith
 
-loop-again : tie.Need-loop-preserved invariant_loop decreases_loop
-loop-again c = let v = c.before.before.before.before.before.back in let g = c.before.before.before.before.before.before.before.before.before.loop.invariant in going_up _ _ _ _ _ g _ _ _ v.ensures _ c.before.u.given.1
+loop-t-preserved : tie.Need-loop-t-preserved invariant_loop decreases_loop
+loop-t-preserved c = let v = c.before.before.before.before.before.back in let g = c.before.before.before.before.before.before.before.before.before.loop-t.invariant in going_up _ _ _ _ _ g _ _ _ v.ensures _ c.before.u-1.given.1
 
-enum-known-u-2 : tie.Need-enum-known-u-2 invariant_loop decreases_loop
-enum-known-u-2 c = search rules
+enum_known-u-in-Down-1 : tie.Need-enum_known-u-in-Down-1 invariant_loop decreases_loop
+enum_known-u-in-Down-1 c = search rules
 
-same_length : tie.Need-same-length invariant_loop decreases_loop
-same_length c = let v = c.before.before.before.before.before.back in let g = c.before.before.before.before.before.before.before.before.before.loop.invariant in v.auto.1.0 ∙ g.on.kept
+shape_of-w-in-Down : tie.Need-shape_of-w-in-Down invariant_loop decreases_loop
+shape_of-w-in-Down c = let v = c.before.before.before.before.before.back in let g = c.before.before.before.before.before.before.before.before.before.loop-t.invariant in v.auto.1.0 ∙ g.on.kept
+
+returns-in-Down : tie.Need-returns-in-Down invariant_loop decreases_loop
+returns-in-Down c = let v = c.before.before.before.before.before.back in let g = c.before.before.before.before.before.before.before.before.before.loop-t.invariant in gone_down _ _ _ _ _ g _ _ _ v.ensures _ c.before.u-in-Down-1.given.1
+
+enum_told-1 : tie.Need-enum_told-1 invariant_loop decreases_loop
+enum_told-1 c = search rules
+
+shape_of-w-in-Unfit : tie.Need-shape_of-w-in-Unfit invariant_loop decreases_loop
+shape_of-w-in-Unfit c = let v = c.before.before.before.before.back in let g = c.before.before.before.before.before.before.before.before.loop-t.invariant in v.auto.1.0 ∙ g.on.kept
+
+returns-in-Unfit : tie.Need-returns-in-Unfit invariant_loop decreases_loop
+returns-in-Unfit c = let v = c.before.before.before.before.back in let g = c.before.before.before.before.before.before.before.before.loop-t.invariant in gone_unfit _ _ _ _ _ g _ _ _ v.ensures c.enum_told-1.given.1
+
+shape_of-w : tie.Need-shape_of-w invariant_loop decreases_loop
+shape_of-w c = c.before.before.loop-t.invariant.on.kept
 
 returns : tie.Need-returns invariant_loop decreases_loop
-returns c = let v = c.before.before.before.before.before.back in let g = c.before.before.before.before.before.before.before.before.before.loop.invariant in gone_down _ _ _ _ _ g _ _ _ v.ensures _ c.before.u2.given.1
-
-enum_told : tie.Need-enum-told invariant_loop decreases_loop
-enum_told c = search rules
-
-same-length-2 : tie.Need-same-length-2 invariant_loop decreases_loop
-same-length-2 c = let v = c.before.before.before.before.back in let g = c.before.before.before.before.before.before.before.before.loop.invariant in v.auto.1.0 ∙ g.on.kept
-
-returns-2 : tie.Need-returns-2 invariant_loop decreases_loop
-returns-2 c = let v = c.before.before.before.before.back in let g = c.before.before.before.before.before.before.before.before.loop.invariant in gone_unfit _ _ _ _ _ g _ _ _ v.ensures c.enum_told.given.1
-
-same-length-3 : tie.Need-same-length-3 invariant_loop decreases_loop
-same-length-3 c = c.before.before.loop.invariant.on.kept
-
-returns-3 : tie.Need-returns-3 invariant_loop decreases_loop
-returns-3 c = let g = c.before.before.loop.invariant in let z = c.if1.false in gone_home _ _ _ _ _ g (omega arith)
+returns c = let g = c.before.before.loop-t.invariant in let z = c.loop-t-test.false in gone_home _ _ _ _ _ g (omega arith)
 
 pub climb_spec : {M : Type 1} → statement M
 climb_spec =
@@ -56,16 +56,16 @@ climb_spec =
     (tie.spec
     invariant_loop
     decreases_loop
-    loop-holds
+    loop-t-init
     back-requires
-    enum-known-u
-    loop-less
-    loop-again
-    enum-known-u-2
-    same_length
-    returns
-    enum_told
-    same-length-2
-    returns-2
-    same-length-3
-    returns-3)
+    enum_known-u
+    loop-t-smaller
+    loop-t-preserved
+    enum_known-u-in-Down-1
+    shape_of-w-in-Down
+    returns-in-Down
+    enum_told-1
+    shape_of-w-in-Unfit
+    returns-in-Unfit
+    shape_of-w
+    returns)

@@ -3,39 +3,39 @@ use borrow.Author.Rules.{rules}
 use Rattle.mesh_tracing.proofs.is_end.Statement.{statement}
 use Rattle.mesh_tracing.proofs.is_end.Tie as tie
 
-mul-mark : tie.Need-overflow-mul-mark
-mul-mark c = search rules
+offset_bounds-w-o : tie.Need-offset_bounds-w-o
+offset_bounds-w-o c = search rules
 
-shared-slice-read-mark : tie.Need-shared-slice-read-mark
-shared-slice-read-mark c = search rules
+bounds-w-o : tie.Need-bounds-w-o
+bounds-w-o c = search rules
+
+returns-then-mark-lt-FIRST : tie.Need-returns-then-mark-lt-FIRST
+returns-then-mark-lt-FIRST c = no_end _ _ c.if-mark-lt-FIRST.true
+
+overflow_mul-result : tie.Need-overflow_mul-result
+overflow_mul-result c = search rules
+
+overflow_add-result : tie.Need-overflow_add-result
+overflow_add-result c = search rules
+
+offset_bounds-w-n : tie.Need-offset_bounds-w-n
+offset_bounds-w-n c = search rules
+
+bounds-w-n : tie.Need-bounds-w-n
+bounds-w-n c = search rules
 
 returns : tie.Need-returns
-returns c = no_end _ _ c.if1.true
-
-mul-result : tie.Need-overflow-mul-result
-mul-result c = search rules
-
-add-result : tie.Need-overflow-add-result
-add-result c = search rules
-
-mul-result-2 : tie.Need-overflow-mul-result-2
-mul-result-2 c = search rules
-
-shared-slice-read-result : tie.Need-shared-slice-read-result
-shared-slice-read-result c = search rules
-
-returns-2 : tie.Need-returns-2
-returns-2 c = is_end _ _ c.before.if1.false
+returns c = is_end _ _ c.before.if-mark-lt-FIRST.false
 
 pub is_end_spec : {M : Type 1} → statement M
 is_end_spec =
     tie.close
     (tie.spec
-    mul-mark
-    shared-slice-read-mark
-    returns
-    mul-result
-    add-result
-    mul-result-2
-    shared-slice-read-result
-    returns-2)
+    offset_bounds-w-o
+    bounds-w-o
+    returns-then-mark-lt-FIRST
+    overflow_mul-result
+    overflow_add-result
+    offset_bounds-w-n
+    bounds-w-n
+    returns)

@@ -7,48 +7,48 @@ use Rattle.mesh_tracing.proofs.turn.Tie as tie
 enter-requires : tie.Need-enter-requires
 enter-requires c κs = search rules
 
-enum-known-t : tie.Need-enum-known-t
-enum-known-t c = search rules
+enum_known-t : tie.Need-enum_known-t
+enum_known-t c = search rules
 
 climb-requires : tie.Need-climb-requires
-climb-requires c κs = turned_at _ _ _ _ _ _ _ c.before.before.before.before.before.before.enter.ensures _ c.before.before.t.given.1
+climb-requires c κs = turned_at _ _ _ _ _ _ _ c.before.before.before.before.before.before.enter.ensures _ c.before.before.t-1.given.1
 
-same_length : tie.Need-same-length
-same_length c = c.before.before.climb.auto.1.0 ∙ c.before.before.before.before.before.before.before.before.before.enter.auto.1.0
+shape_of-w-in-Up : tie.Need-shape_of-w-in-Up
+shape_of-w-in-Up c = c.before.before.climb.auto.w ∙ c.before.before.before.before.before.before.before.before.before.enter.auto.w
 
-returns : tie.Need-returns
-returns c = turned_up _ _ _ _ _ _ _ c.before.before.before.before.before.before.before.before.before.enter.ensures _ c.before.before.before.before.before.t.given.1 _ _ c.before.before.climb.ensures
+returns-in-Up : tie.Need-returns-in-Up
+returns-in-Up c = turned_up _ _ _ _ _ _ _ c.before.before.before.before.before.before.before.before.before.enter.ensures _ c.before.before.before.before.before.t-1.given.1 _ _ c.before.before.climb.ensures
 
-enum-known-t-2 : tie.Need-enum-known-t-2
-enum-known-t-2 c = search rules
+enum_known-t-in-Down-1 : tie.Need-enum_known-t-in-Down-1
+enum_known-t-in-Down-1 c = search rules
 
-same-length-2 : tie.Need-same-length-2
-same-length-2 c = c.before.before.before.before.before.enter.auto.1.0
+shape_of-w-in-Down : tie.Need-shape_of-w-in-Down
+shape_of-w-in-Down c = c.before.before.before.before.before.enter.auto.w
 
-returns-2 : tie.Need-returns-2
-returns-2 c = turned_down _ _ _ _ _ _ _ c.before.before.before.before.before.enter.ensures _ c.before.t2.given.1
+returns-in-Down : tie.Need-returns-in-Down
+returns-in-Down c = turned_down _ _ _ _ _ _ _ c.before.before.before.before.before.enter.ensures _ c.before.t-in-Down-1.given.1
 
-enum_told : tie.Need-enum-told
-enum_told c = search rules
+enum_told-1 : tie.Need-enum_told-1
+enum_told-1 c = search rules
 
-same-length-3 : tie.Need-same-length-3
-same-length-3 c = c.before.before.before.before.enter.auto.1.0
+shape_of-w-in-Unfit : tie.Need-shape_of-w-in-Unfit
+shape_of-w-in-Unfit c = c.before.before.before.before.enter.auto.w
 
-returns-3 : tie.Need-returns-3
-returns-3 c = turned_unfit _ _ _ _ _ _ _ c.before.before.before.before.enter.ensures c.enum_told.given.1
+returns-in-Unfit : tie.Need-returns-in-Unfit
+returns-in-Unfit c = turned_unfit _ _ _ _ _ _ _ c.before.before.before.before.enter.ensures c.enum_told-1.given.1
 
 pub turn_spec : {M : Type 1} → statement M
 turn_spec =
     tie.close
     (tie.spec
     enter-requires
-    enum-known-t
+    enum_known-t
     climb-requires
-    same_length
-    returns
-    enum-known-t-2
-    same-length-2
-    returns-2
-    enum_told
-    same-length-3
-    returns-3)
+    shape_of-w-in-Up
+    returns-in-Up
+    enum_known-t-in-Down-1
+    shape_of-w-in-Down
+    returns-in-Down
+    enum_told-1
+    shape_of-w-in-Unfit
+    returns-in-Unfit)

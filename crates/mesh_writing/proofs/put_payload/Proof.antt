@@ -8,14 +8,14 @@ apply-requires c κs =
     let g = c.before in
     let st = g.before.before.before.before.before.before.before.before.before in
     table_asked _ _ _ st.requires.1 _ _ st.requires.2 st.requires.3 _ g.before.before.before.before.put_payload.ensures _ _
-    g.before.groups.ensures g.groups2.ensures st.args.bytes.now st.requires.0
+    g.before.groups-before.ensures g.groups-count.ensures st.args.bytes.now st.requires.0
 
 returns : tie.Need-returns
 returns c =
     let g = c.before.before.before.before in
     let st = g.before.before.before.before.before.before.before.before.before in
     tabled _ _ _ st.requires.1 _ _ st.requires.2 st.requires.3 _ g.before.before.before.before.put_payload.ensures _ _
-    g.before.groups.ensures g.groups2.ensures _ _ c.before.before.apply.ensures
+    g.before.groups-before.ensures g.groups-count.ensures _ _ c.before.before.apply.ensures
 
 pub put_payload_spec : {M : Type 1} → statement M
 put_payload_spec =

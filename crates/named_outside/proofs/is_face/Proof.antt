@@ -8,25 +8,25 @@ use Rattle.named_outside.proofs.Faces.{face_zero_is, face_past, face_told, lowes
 use Rattle.named_outside.proofs.is_face.Statement.{statement}
 use Rattle.named_outside.proofs.is_face.Tie as tie
 
-returns : tie.Need-returns
-returns c = face_zero_is _ _ _ c.before.before.requires.0 c.if1.true
+returns-then-x-eq0 : tie.Need-returns-then-x-eq0
+returns-then-x-eq0 c = face_zero_is _ _ _ c.before.before.requires.0 c.if-x-eq0.true
 
-returns-2 : tie.Need-returns-2
-returns-2 c = face_past _ _ _ c.if2.true
+returns-then-x-n : tie.Need-returns-then-x-n
+returns-then-x-n c = face_past _ _ _ c.if-x-n.true
 
-slice-aggregate-is-lowest : tie.Need-slice-aggregate-is-lowest
-slice-aggregate-is-lowest c = let st = c.before.before.before.before in sym (length-take-le _ _ st.requires.1)
+slice_bounds-is_lowest-end : tie.Need-slice_bounds-is_lowest-end
+slice_bounds-is_lowest-end c = let st = c.before.before.before.before in sym (length-take-le _ _ st.requires.1)
 
-is-lowest-requires : tie.Need-is-lowest-requires
-is-lowest-requires c κs =
+is_lowest-requires : tie.Need-is_lowest-requires
+is_lowest-requires c κs =
     let st = c.before.before.before.before in
-    lowest_asked _ _ _ st.requires.0 st.requires.1 st.requires.2 c.before.if2.false
+    lowest_asked _ _ _ st.requires.0 st.requires.1 st.requires.2 c.if-x-n.false
 
-returns-3 : tie.Need-returns-3
-returns-3 c =
-    let a = c.before.before.before.before.before.args in
-    face_told _ _ _ c.before.before.if2.false _
-    (c.is-lowest.ensures ∙ ap (λ (rot : List ℕ). eqb (face_of rot a.x) a.x) (taken a.n a.w.now))
+returns : tie.Need-returns
+returns c =
+    let a = c.before.before.before.before.args in
+    face_told _ _ _ c.before.if-x-n.false _
+    (c.is_lowest.ensures ∙ ap (λ (rot : List ℕ). eqb (face_of rot a.x) a.x) (taken a.n a.w.now))
 
 pub is_face_spec : {M : Type 1} → statement M
-is_face_spec = tie.close (tie.spec returns returns-2 slice-aggregate-is-lowest is-lowest-requires returns-3)
+is_face_spec = tie.close (tie.spec returns-then-x-eq0 returns-then-x-n slice_bounds-is_lowest-end is_lowest-requires returns)

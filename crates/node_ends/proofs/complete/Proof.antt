@@ -5,13 +5,13 @@ use borrow.Author.Rules.{rules}
 use Rattle.node_ends.proofs.complete.Statement.{statement}
 use Rattle.node_ends.proofs.complete.Tie as tie
 
-returns : tie.Need-returns
-returns c =
+returns-then-height-base : tie.Need-returns-then-height-base
+returns-then-height-base c =
     let a = c.before.before.args in
     not_ended a.m a.w.now (popped a.s a.put a.height) a.base a.s.depth (omega arith)
 
-returns-2 : tie.Need-returns-2
-returns-2 c =
+returns : tie.Need-returns
+returns c =
     let st = c.before.before in
     let a = st.args in
     ended a.m a.w.now (popped a.s a.put a.height) a.base a.s.depth st.requires.0 (omega arith) (omega arith)
@@ -21,7 +21,7 @@ complete_spec =
     tie.close
     (tie.spec
     (λ c. search rules)
-    returns
+    returns-then-height-base
     (λ c. search rules)
     (λ c. search rules)
     (λ c. search rules)
@@ -29,4 +29,4 @@ complete_spec =
     (λ c. search rules)
     (λ c. search rules)
     (λ c. search rules)
-    returns-2)
+    returns)

@@ -5,25 +5,25 @@ use borrow.Author.Rules.{rules}
 use Rattle.node_ends.proofs.finish.Statement.{statement}
 use Rattle.node_ends.proofs.finish.Tie as tie
 
-returns : tie.Need-returns
-returns c =
+returns-then-read-m : tie.Need-returns-then-read-m
+returns-then-read-m c =
     let st = c.before in
     early st.args.m st.args.w.now st.args.s st.requires.0 st.requires.1 (omega arith)
 
-slice-write-w-2 : tie.Need-slice-write-w-2
-slice-write-w-2 c =
+bounds-w-m-then-height-eq2 : tie.Need-bounds-w-m-then-height-eq2
+bounds-w-m-then-height-eq2 c =
     let p = c.before.before.requires.0 in
     let u = p.within in let r = p.room in simp length-set (omega arith)
 
-returns-2 : tie.Need-returns-2
-returns-2 c =
+returns-then-height-eq2 : tie.Need-returns-then-height-eq2
+returns-then-height-eq2 c =
     let st = c.before.before in
-    finished st.args.m st.args.w.now st.args.s st.requires.0 st.requires.1 (omega arith) c.if2.true
+    finished st.args.m st.args.w.now st.args.s st.requires.0 st.requires.1 (omega arith) c.if-height-eq2.true
 
-returns-3 : tie.Need-returns-3
-returns-3 c =
+returns : tie.Need-returns
+returns c =
     let st = c.before.before in
-    other_height st.args.m st.args.w.now st.args.s st.requires.0 st.requires.1 (omega arith) c.if2.false
+    other_height st.args.m st.args.w.now st.args.s st.requires.0 st.requires.1 (omega arith) c.if-height-eq2.false
 
 pub finish_spec : {M : Type 1} → statement M
 finish_spec =
@@ -31,7 +31,7 @@ finish_spec =
     (tie.spec
     (λ c. search rules)
     (λ c. search rules)
-    returns
+    returns-then-read-m
     (λ c. search rules)
     (λ c. search rules)
     (λ c. search rules)
@@ -42,7 +42,7 @@ finish_spec =
     (λ c. search rules)
     (λ c. search rules)
     (λ c. search rules)
-    slice-write-w-2
+    bounds-w-m-then-height-eq2
     (λ c. search rules)
-    returns-2
-    returns-3)
+    returns-then-height-eq2
+    returns)

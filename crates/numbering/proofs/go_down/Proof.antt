@@ -11,36 +11,36 @@ use Rattle.numbering.proofs.go_down.Lts as lts
 use Rattle.trace_steps.proofs.round.Reads as round-reads
 
 -- src/lib.rt:29:16
-mul_next : tie.Need-overflow-mul-next
-mul_next c = search rules
+offset_bounds-order-o : tie.Need-offset_bounds-order-o
+offset_bounds-order-o c = search rules
 
 -- src/lib.rt:29:16
-shared-slice-read-next : tie.Need-shared-slice-read-next
-shared-slice-read-next c = search rules
+bounds-order-o : tie.Need-bounds-order-o
+bounds-order-o c = search rules
 
 -- src/lib.rt:29:16
-cast-next : tie.Need-overflow-cast-next
-cast-next c = omega (arith, c.shared-slice-known2.given c.before.before.before.args.o)
+overflow_cast-next : tie.Need-overflow_cast-next
+overflow_cast-next c = omega (arith, c.shared_slice_known-2-1.given c.before.before.before.args.o)
 
 -- src/lib.rt:30:17
-mul-w : tie.Need-overflow-mul-w
-mul-w c = search rules
+overflow_mul-w : tie.Need-overflow_mul-w
+overflow_mul-w c = search rules
 
 -- src/lib.rt:30:16
-cast-w : tie.Need-overflow-cast-w
-cast-w c = search rules
+overflow_cast-w : tie.Need-overflow_cast-w
+overflow_cast-w c = search rules
 
 -- src/lib.rt:30:7
-add-w : tie.Need-overflow-add-w
-add-w c = search rules
+overflow_add-w : tie.Need-overflow_add-w
+overflow_add-w c = search rules
 
 -- src/lib.rt:30:5
-mul-w-2 : tie.Need-overflow-mul-w-2
-mul-w-2 c = search rules
+offset_bounds-w-n : tie.Need-offset_bounds-w-n
+offset_bounds-w-n c = search rules
 
 -- src/lib.rt:30:5
-slice-write-w : tie.Need-slice-write-w
-slice-write-w c = search rules
+bounds-w-n : tie.Need-bounds-w-n
+bounds-w-n c = search rules
 
 -- src/lib.rt:31:5
 round-requires : tie.Need-round-requires
@@ -50,40 +50,40 @@ round-requires c κs =
     (store_ground _ _ _ _ p.0, p.2, omega arith, λ z h e. store_below a.args.order.now a.args.w.now _ _ z h ∙ p.3 z h e)
 
 -- src/lib.rt:32:32
-cast-w-2 : tie.Need-overflow-cast-w-2
-cast-w-2 c = search rules
+overflow_cast-w-2 : tie.Need-overflow_cast-w-2
+overflow_cast-w-2 c = search rules
 
 -- src/lib.rt:32:12
-add-w-2 : tie.Need-overflow-add-w-2
-add-w-2 c = search rules
+overflow_add-w-2 : tie.Need-overflow_add-w-2
+overflow_add-w-2 c = search rules
 
 -- src/lib.rt:32:5
-mul-w-3 : tie.Need-overflow-mul-w-3
-mul-w-3 c = search rules
+offset_bounds-w-d : tie.Need-offset_bounds-w-d
+offset_bounds-w-d c = search rules
 
 -- src/lib.rt:32:5
-slice-write-w-2 : tie.Need-slice-write-w-2
-slice-write-w-2 c =
-    let r = c.before.before.round.auto.1.0 in
+bounds-w-d : tie.Need-bounds-w-d
+bounds-w-d c =
+    let r = c.before.before.round.auto.w in
     let l = simp length-set at r in
     let p = c.before.before.before.before.before.before.before.requires in
     omega (arith, p.0.room, p.1.dart)
 
 -- src/lib.rt:35:16
-add-t14 : tie.Need-overflow-add-t14
-add-t14 c = search rules
+overflow_add-result : tie.Need-overflow_add-result
+overflow_add-result c = search rules
 
 -- src/lib.rt:36:16
-mul-t10 : tie.Need-overflow-mul-t10
-mul-t10 c = search rules
+overflow_mul-result : tie.Need-overflow_mul-result
+overflow_mul-result c = search rules
 
 -- src/lib.rt:36:16
-add-t13 : tie.Need-overflow-add-t13
-add-t13 c = search rules
+overflow_add-result-2 : tie.Need-overflow_add-result-2
+overflow_add-result-2 c = search rules
 
 -- src/lib.rt:20:1
-same_length : tie.Need-same-length
-same_length c = simp length-set (simp length-set at c.before.before.round.auto.1.0)
+shape_of-w : tie.Need-shape_of-w
+shape_of-w c = simp length-set (simp length-set at c.before.before.round.auto.w)
 
 -- src/lib.rt:20:1
 returns : tie.Need-returns
@@ -91,7 +91,7 @@ unfolding next
 returns c =
     record {
       stands = refl;
-      circled = c.before.before.round.new.1.0;
+      circled = c.before.before.round.new.w;
       round = c.before.before.round.ensures;
       area = refl;
     }
@@ -100,21 +100,21 @@ pub go_down_spec : {M : Type 1} → statement M
 go_down_spec =
     tie.close
     (tie.spec
-    mul_next
-    shared-slice-read-next
-    cast-next
-    mul-w
-    cast-w
-    add-w
-    mul-w-2
-    slice-write-w
+    offset_bounds-order-o
+    bounds-order-o
+    overflow_cast-next
+    overflow_mul-w
+    overflow_cast-w
+    overflow_add-w
+    offset_bounds-w-n
+    bounds-w-n
     round-requires
-    cast-w-2
-    add-w-2
-    mul-w-3
-    slice-write-w-2
-    add-t14
-    mul-t10
-    add-t13
-    same_length
+    overflow_cast-w-2
+    overflow_add-w-2
+    offset_bounds-w-d
+    bounds-w-d
+    overflow_add-result
+    overflow_mul-result
+    overflow_add-result-2
+    shape_of-w
     returns)

@@ -9,64 +9,64 @@ use Rattle.numbering.proofs.go_first.Reads as reads
 use Rattle.numbering.proofs.go_first.Lts as lts
 
 -- src/lib.rt:49:16
-mul_next : tie.Need-overflow-mul-next
-mul_next c = search rules
+offset_bounds-order-d : tie.Need-offset_bounds-order-d
+offset_bounds-order-d c = search rules
 
 -- src/lib.rt:49:16
-shared-slice-read-next : tie.Need-shared-slice-read-next
-shared-slice-read-next c = search rules
+bounds-order-d : tie.Need-bounds-order-d
+bounds-order-d c = search rules
 
 -- src/lib.rt:49:16
-cast-next : tie.Need-overflow-cast-next
-cast-next c = omega (arith, c.shared-slice-known.given c.before.args.s.dart)
+overflow_cast-next : tie.Need-overflow_cast-next
+overflow_cast-next c = omega (arith, c.shared_slice_known-1.given c.before.args.s.dart)
 
 -- src/lib.rt:50:17
-mul-w : tie.Need-overflow-mul-w
-mul-w c = search rules
+overflow_mul-w : tie.Need-overflow_mul-w
+overflow_mul-w c = search rules
 
 -- src/lib.rt:50:16
-cast-w : tie.Need-overflow-cast-w
-cast-w c = search rules
+overflow_cast-w : tie.Need-overflow_cast-w
+overflow_cast-w c = search rules
 
 -- src/lib.rt:50:7
-add-w : tie.Need-overflow-add-w
-add-w c = search rules
+overflow_add-w : tie.Need-overflow_add-w
+overflow_add-w c = search rules
 
 -- src/lib.rt:50:5
-mul-w-2 : tie.Need-overflow-mul-w-2
-mul-w-2 c = search rules
+offset_bounds-w-n : tie.Need-offset_bounds-w-n
+offset_bounds-w-n c = search rules
 
 -- src/lib.rt:50:5
-slice-write-w : tie.Need-slice-write-w
-slice-write-w c = search rules
+bounds-w-n : tie.Need-bounds-w-n
+bounds-w-n c = search rules
 
 -- src/lib.rt:51:33
-cast-w-2 : tie.Need-overflow-cast-w-2
-cast-w-2 c = search rules
+overflow_cast-w-2 : tie.Need-overflow_cast-w-2
+overflow_cast-w-2 c = search rules
 
 -- src/lib.rt:51:12
-add-w-2 : tie.Need-overflow-add-w-2
-add-w-2 c = search rules
+overflow_add-w-2 : tie.Need-overflow_add-w-2
+overflow_add-w-2 c = search rules
 
 -- src/lib.rt:51:5
-mul-w-3 : tie.Need-overflow-mul-w-3
-mul-w-3 c = search rules
+offset_bounds-w-d : tie.Need-offset_bounds-w-d
+offset_bounds-w-d c = search rules
 
 -- src/lib.rt:51:5
-slice-write-w-2 : tie.Need-slice-write-w-2
-slice-write-w-2 c = simp length-set (omega arith)
+bounds-w-d : tie.Need-bounds-w-d
+bounds-w-d c = simp length-set (omega arith)
 
 -- src/lib.rt:54:16
-add-t12 : tie.Need-overflow-add-t12
-add-t12 c = search rules
+overflow_add-result : tie.Need-overflow_add-result
+overflow_add-result c = search rules
 
 -- src/lib.rt:55:16
-mul-t9 : tie.Need-overflow-mul-t9
-mul-t9 c = search rules
+overflow_mul-result : tie.Need-overflow_mul-result
+overflow_mul-result c = search rules
 
 -- src/lib.rt:41:1
-same_length : tie.Need-same-length
-same_length c = search rules
+shape_of-w : tie.Need-shape_of-w
+shape_of-w c = search rules
 
 -- src/lib.rt:41:1
 returns : tie.Need-returns
@@ -77,19 +77,19 @@ pub go_first_spec : {M : Type 1} → statement M
 go_first_spec =
     tie.close
     (tie.spec
-    mul_next
-    shared-slice-read-next
-    cast-next
-    mul-w
-    cast-w
-    add-w
-    mul-w-2
-    slice-write-w
-    cast-w-2
-    add-w-2
-    mul-w-3
-    slice-write-w-2
-    add-t12
-    mul-t9
-    same_length
+    offset_bounds-order-d
+    bounds-order-d
+    overflow_cast-next
+    overflow_mul-w
+    overflow_cast-w
+    overflow_add-w
+    offset_bounds-w-n
+    bounds-w-n
+    overflow_cast-w-2
+    overflow_add-w-2
+    offset_bounds-w-d
+    bounds-w-d
+    overflow_add-result
+    overflow_mul-result
+    shape_of-w
     returns)

@@ -8,44 +8,44 @@ use Rattle.numbering.proofs.go_up.Reads as reads
 use Rattle.numbering.proofs.go_up.Lts as lts
 
 -- src/lib.rt:67:16
-mul_next : tie.Need-overflow-mul-next
-mul_next c = search rules
+offset_bounds-order-o : tie.Need-offset_bounds-order-o
+offset_bounds-order-o c = search rules
 
 -- src/lib.rt:67:16
-shared-slice-read-next : tie.Need-shared-slice-read-next
-shared-slice-read-next c = search rules
+bounds-order-o : tie.Need-bounds-order-o
+bounds-order-o c = search rules
 
 -- src/lib.rt:67:16
-cast-next : tie.Need-overflow-cast-next
-cast-next c = omega (arith, c.shared-slice-known.given c.before.args.o)
+overflow_cast-next : tie.Need-overflow_cast-next
+overflow_cast-next c = omega (arith, c.shared_slice_known-1.given c.before.args.o)
 
 -- src/lib.rt:68:17
-mul-place : tie.Need-overflow-mul-place
-mul-place c = search rules
+overflow_mul-place : tie.Need-overflow_mul-place
+overflow_mul-place c = search rules
 
 -- src/lib.rt:69:17
-add-w : tie.Need-overflow-add-w
-add-w c = search rules
+overflow_add-w : tie.Need-overflow_add-w
+overflow_add-w c = search rules
 
 -- src/lib.rt:69:16
-cast-w : tie.Need-overflow-cast-w
-cast-w c = search rules
+overflow_cast-w : tie.Need-overflow_cast-w
+overflow_cast-w c = search rules
 
 -- src/lib.rt:69:7
-add-w-2 : tie.Need-overflow-add-w-2
-add-w-2 c = search rules
+overflow_add-w-2 : tie.Need-overflow_add-w-2
+overflow_add-w-2 c = search rules
 
 -- src/lib.rt:69:5
-mul-w : tie.Need-overflow-mul-w
-mul-w c = search rules
+offset_bounds-w-n : tie.Need-offset_bounds-w-n
+offset_bounds-w-n c = search rules
 
 -- src/lib.rt:69:5
-slice-write-w : tie.Need-slice-write-w
-slice-write-w c = search rules
+bounds-w-n : tie.Need-bounds-w-n
+bounds-w-n c = search rules
 
 -- src/lib.rt:60:1
-same_length : tie.Need-same-length
-same_length c = search rules
+shape_of-w : tie.Need-shape_of-w
+shape_of-w c = search rules
 
 -- src/lib.rt:60:1
 returns : tie.Need-returns
@@ -56,14 +56,14 @@ pub go_up_spec : {M : Type 1} → statement M
 go_up_spec =
     tie.close
     (tie.spec
-    mul_next
-    shared-slice-read-next
-    cast-next
-    mul-place
-    add-w
-    cast-w
-    add-w-2
-    mul-w
-    slice-write-w
-    same_length
+    offset_bounds-order-o
+    bounds-order-o
+    overflow_cast-next
+    overflow_mul-place
+    overflow_add-w
+    overflow_cast-w
+    overflow_add-w-2
+    offset_bounds-w-n
+    bounds-w-n
+    shape_of-w
     returns)

@@ -10,10 +10,10 @@ use borrow.Author.Rules.{rules}
 use Rattle.numbering.proofs.walk.Statement.{statement}
 use Rattle.numbering.proofs.walk.Tie as tie
 
-abbrev invariant_loop : tie.invariant-loop
+abbrev invariant_loop : tie.invariant-loop-i
 invariant_loop order root w₀ n s₀ i₀ w s i = Numbering order root i w s × (i ≤ length order) × (length w ≡ length w₀)
 
-abbrev decreases_loop : tie.decreases-loop
+abbrev decreases_loop : tie.decreases-loop-i
 decreases_loop order root w₀ n s₀ i₀ w s i = length order - i
 
 round-requires : tie.Need-round-requires invariant_loop decreases_loop
@@ -23,47 +23,47 @@ round-requires c κs =
     let f = c.before.before.before.fill.ensures in
     (clear_ground st.args.order.now _ p.0 p.1 p.4 _ f, p.2, omega arith, λ z h e. clear_marks st.args.order.now _ p.0 p.1 p.4 _ f z h)
 
-loop-holds : tie.Need-loop-init invariant_loop decreases_loop
-loop-holds c =
+loop-i-init : tie.Need-loop-i-init invariant_loop decreases_loop
+loop-i-init c =
     let p = c.before.before.before.before.before.before.before.before.before.before.requires in
     let f = c.before.before.before.before.before.before.fill.ensures in
     (walking_start _ _ p.0 p.1 p.4 _ f _ p.2 p.3 _ c.before.before.round.ensures, omega arith, refl)
 
-visit-requires : tie.Need-visit-requires invariant_loop decreases_loop
-visit-requires c κs = (c.before.before.loop.invariant.0, c.before.loop-test.true)
+visit-s-requires : tie.Need-visit-s-requires invariant_loop decreases_loop
+visit-s-requires c κs = (c.before.before.loop-i.invariant.0, c.before.loop-i-test.true)
 
-add-i : tie.Need-overflow-add-i invariant_loop decreases_loop
-add-i c =
-    let at = c.before.before.before.before.before.loop in
-    let t = c.before.before.before.before.loop-test.true in
+overflow_add-i : tie.Need-overflow_add-i invariant_loop decreases_loop
+overflow_add-i c =
+    let at = c.before.before.before.before.before.loop-i in
+    let t = c.before.before.before.before.loop-i-test.true in
     let f = few at.invariant.0.ground in
     omega arith
 
-loop-less : tie.Need-loop-smaller invariant_loop decreases_loop
-loop-less c = let t = c.before.before.before.before.loop-test.true in omega arith
+loop-i-smaller : tie.Need-loop-i-smaller invariant_loop decreases_loop
+loop-i-smaller c = let t = c.before.before.before.before.loop-i-test.true in omega arith
 
-loop-again : tie.Need-loop-preserved invariant_loop decreases_loop
-loop-again c =
-    let at = c.before.before.before.before.before.loop in
-    let t = c.before.before.before.before.loop-test.true in
-    let v = c.before.before.visit in
+loop-i-preserved : tie.Need-loop-i-preserved invariant_loop decreases_loop
+loop-i-preserved c =
+    let at = c.before.before.before.before.before.loop-i in
+    let t = c.before.before.before.before.loop-i-test.true in
+    let v = c.before.before.visit-s in
     (rw add-one v.ensures, omega arith, v.auto.1.1.0 ∙ at.invariant.2)
 
-slice-write-w : tie.Need-slice-write-w invariant_loop decreases_loop
-slice-write-w c = let g = c.before.loop.invariant.0 in omega (arith, g.ground.room, g.place_in)
+bounds-w-n : tie.Need-bounds-w-n invariant_loop decreases_loop
+bounds-w-n c = let g = c.before.loop-i.invariant.0 in omega (arith, g.ground.room, g.place_in)
 
-same_length : tie.Need-same-length invariant_loop decreases_loop
-same_length c =
-    let r = c.before.before.before.before.round.auto.1.0 in
-    let f = c.before.before.before.before.before.before.before.before.fill.auto.0 in
-    simp length-set (c.before.loop.invariant.2 ∙ r ∙ f)
+shape_of-w : tie.Need-shape_of-w invariant_loop decreases_loop
+shape_of-w c =
+    let r = c.before.before.before.before.round.auto.w in
+    let f = c.before.before.before.before.before.before.before.before.fill.auto.w in
+    simp length-set (c.before.loop-i.invariant.2 ∙ r ∙ f)
 
 returns : tie.Need-returns invariant_loop decreases_loop
 returns c =
-    let at = c.before.loop in
-    let left = c.loop-test.false in
+    let at = c.before.loop-i in
+    let left = c.loop-i-test.false in
     let low = at.invariant.1 in
-    record { rotation = finished _ _ _ _ _ at.invariant.0 (omega arith); kept = same_length c }
+    record { rotation = finished _ _ _ _ _ at.invariant.0 (omega arith); kept = shape_of-w c }
 
 pub walk_spec : {M : Type 1} → statement M
 walk_spec =
@@ -73,13 +73,13 @@ walk_spec =
     decreases_loop
     (λ c κs. search rules)
     round-requires
-    loop-holds
-    visit-requires
-    add-i
-    loop-less
-    loop-again
+    loop-i-init
+    visit-s-requires
+    overflow_add-i
+    loop-i-smaller
+    loop-i-preserved
     (λ c. search rules)
     (λ c. search rules)
-    slice-write-w
-    same_length
+    bounds-w-n
+    shape_of-w
     returns)

@@ -7,10 +7,10 @@ use borrow.Author.Rules.{rules}
 use Rattle.outcomes.proofs.measured.Statement.{statement}
 use Rattle.outcomes.proofs.measured.Tie as tie
 
-returns-3 : tie.Need-returns-3
-returns-3 c =
-    let answer = c.before.answer3 in
-    let fits : SFits w32 answer.given.0.0 = record { sfits = c.known-told3.given.0.1 } in
+returns-in-NotPlanar : tie.Need-returns-in-NotPlanar
+returns-in-NotPlanar c =
+    let answer = c.before.answer-in-NotPlanar-1 in
+    let fits : SFits w32 answer.given.0.0 = record { sfits = c.known_told-in-NotPlanar-1.given.0.1 } in
     (search rules, search rules, to_z-of_z fits ∙ ap characteristic_of_measured (sym answer.given.1))
 
 pub measured_spec : {M : Type 1} → statement M
@@ -22,4 +22,4 @@ measured_spec =
     (λ c. search rules)
     (λ c. search rules)
     (λ c. search rules)
-    returns-3)
+    returns-in-NotPlanar)

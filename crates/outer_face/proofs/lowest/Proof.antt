@@ -10,76 +10,76 @@ use Rattle.outer_face.proofs.Outer.{count_fits, few, inside, along_faces, marks_
 use Rattle.outer_face.proofs.lowest.Statement.{statement}
 use Rattle.outer_face.proofs.lowest.Tie as tie
 
-abbrev invariant_loop : tie.invariant-loop
+abbrev invariant_loop : tie.invariant-loop-x
 invariant_loop order root outside w least₀ x₀ steps₀ least x steps = (x < length order) × Along (face_next order) (number_by w) outside steps x least
 
-abbrev decreases_loop : tie.decreases-loop
+abbrev decreases_loop : tie.decreases-loop-x
 decreases_loop order root outside w least₀ x₀ steps₀ least x steps = length order - steps
 
-standard-requires : tie.Need-standard-requires invariant_loop decreases_loop
-standard-requires c κs = let m = c.before.before.requires in marks_there m _ (inside m)
+standard-least-requires : tie.Need-standard-least-requires invariant_loop decreases_loop
+standard-least-requires c κs = let m = c.before.before.requires in marks_there m _ (inside m)
 
-step-requires : tie.Need-step-requires invariant_loop decreases_loop
-step-requires c κs = let m = c.before.before.before.requires in (count_fits m, inside m)
+step-x-requires : tie.Need-step-x-requires invariant_loop decreases_loop
+step-x-requires c κs = let m = c.before.before.before.requires in (count_fits m, inside m)
 
-loop-holds : tie.Need-loop-init invariant_loop decreases_loop
-loop-holds c =
+loop-x-init : tie.Need-loop-x-init invariant_loop decreases_loop
+loop-x-init c =
     let st = c.before.before.before.before in
-    rw (c.step.ensures, c.before.standard.ensures) ((along_faces st.requires).bound st.args.outside (inside st.requires), along_start _ _ _)
+    rw (c.step-x.ensures, c.before.standard-least.ensures) ((along_faces st.requires).bound st.args.outside (inside st.requires), along_start _ _ _)
 
-returns : tie.Need-returns invariant_loop decreases_loop
-returns c =
+returns-then-least-eq0 : tie.Need-returns-then-least-eq0 invariant_loop decreases_loop
+returns-then-least-eq0 c =
     let m = c.before.before.before.before.before.before.before.requires in
-    let at = c.before.before.loop.invariant.1 in
-    found m (λ j. omega arith) (at.met.0, sym c.if1.true ∙ at.met.1)
+    let at = c.before.before.loop-x.invariant.1 in
+    found m (λ j. omega arith) (at.met.0, sym c.if-least-eq0.true ∙ at.met.1)
 
-standard-requires-2 : tie.Need-standard-requires-2 invariant_loop decreases_loop
-standard-requires-2 c κs =
+standard-e-requires : tie.Need-standard-e-requires invariant_loop decreases_loop
+standard-e-requires c κs =
     let m = c.before.before.before.before.before.before.before.requires in
-    marks_there m _ c.before.before.loop.invariant.0
+    marks_there m _ c.before.before.loop-x.invariant.0
 
-step-requires-2 : tie.Need-step-requires-2 invariant_loop decreases_loop
-step-requires-2 c κs =
+step-x-requires-in-loop-x : tie.Need-step-x-requires-in-loop-x invariant_loop decreases_loop
+step-x-requires-in-loop-x c κs =
     let m = c.before.before.before.before.before.before.before.before.before.requires in
-    (count_fits m, c.before.before.before.before.loop.invariant.0)
+    (count_fits m, c.before.before.before.before.loop-x.invariant.0)
 
 -- the walk goes on
-fewer : (c : tie.After-step2 invariant_loop decreases_loop) → c.before.before.before.before.before.loop.steps
+fewer : (c : tie.After-step-x-in-loop-x invariant_loop decreases_loop) → c.before.before.before.before.before.loop-x.steps
     < length c.before.before.before.before.before.before.before.before.before.before.args.order.now
 fewer c =
     let m = c.before.before.before.before.before.before.before.before.before.before.requires in
-    along_few _ _ _ c.before.before.before.before.before.loop.invariant.1 _ (along_faces m) (inside m)
-    c.before.before.before.before.loop-test.true
+    along_few _ _ _ c.before.before.before.before.before.loop-x.invariant.1 _ (along_faces m) (inside m)
+    c.before.before.before.before.loop-x-test.true
 
-add-steps : tie.Need-overflow-add-steps invariant_loop decreases_loop
-add-steps c =
+overflow_add-steps : tie.Need-overflow_add-steps invariant_loop decreases_loop
+overflow_add-steps c =
     let m = c.before.before.before.before.before.before.before.before.before.before.requires in
     let k = few m in
     let l = fewer c in
     omega arith
 
-loop-less : tie.Need-loop-smaller invariant_loop decreases_loop
-loop-less c = let l = fewer c in omega arith
+loop-x-smaller : tie.Need-loop-x-smaller invariant_loop decreases_loop
+loop-x-smaller c = let l = fewer c in omega arith
 
-loop-again : tie.Need-loop-preserved invariant_loop decreases_loop
-loop-again c =
+loop-x-preserved : tie.Need-loop-x-preserved invariant_loop decreases_loop
+loop-x-preserved c =
     let m = c.before.before.before.before.before.before.before.before.before.before.requires in
-    let at = c.before.before.before.before.before.loop in
-    let away = c.before.before.before.before.loop-test.true in
-    let e = c.before.before.standard2.ensures in
-    rw c.step2.ensures (
+    let at = c.before.before.before.before.before.loop-x in
+    let away = c.before.before.before.before.loop-x-test.true in
+    let e = c.before.before.standard-e.ensures in
+    rw c.step-x-in-loop-x.ensures (
       (along_faces m).bound at.x at.invariant.0,
       ⊎_elim
           (λ u. rw (u.1, e) (along_low _ _ _ at.invariant.1 away (omega (arith, e, u.0.taken))))
           (λ u. rw u.1 (along_keep _ _ _ at.invariant.1 away (omega (arith, e, u.0.left))))
-          c.before.if2.branch,
+          c.before.if-e-least.branch,
     )
 
-returns-2 : tie.Need-returns-2 invariant_loop decreases_loop
-returns-2 c =
+returns : tie.Need-returns invariant_loop decreases_loop
+returns c =
     let m = c.before.before.before.before.before.before.requires in
-    let at = c.before.loop.invariant.1 in
-    found m (along_end _ _ _ at c.loop-test.false) at.met
+    let at = c.before.loop-x.invariant.1 in
+    found m (along_end _ _ _ at c.loop-x-test.false) at.met
 
 pub lowest_spec : {M : Type 1} → statement M
 lowest_spec =
@@ -87,13 +87,13 @@ lowest_spec =
     (tie.spec
     invariant_loop
     decreases_loop
-    standard-requires
-    step-requires
-    loop-holds
-    returns
-    standard-requires-2
-    step-requires-2
-    add-steps
-    loop-less
-    loop-again
-    returns-2)
+    standard-least-requires
+    step-x-requires
+    loop-x-init
+    returns-then-least-eq0
+    standard-e-requires
+    step-x-requires-in-loop-x
+    overflow_add-steps
+    loop-x-smaller
+    loop-x-preserved
+    returns)

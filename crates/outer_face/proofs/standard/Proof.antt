@@ -4,13 +4,13 @@ use borrow.Author.Rules.{rules}
 use Rattle.outer_face.proofs.standard.Statement.{statement}
 use Rattle.outer_face.proofs.standard.Tie as tie
 
+returns-then-own-lt-SECOND : tie.Need-returns-then-own-lt-SECOND
+unfolding number_by
+returns-then-own-lt-SECOND c = rw (lt-ltb _ _ c.if-own-lt-SECOND.true)
+
 returns : tie.Need-returns
 unfolding number_by
-returns c = rw (lt-ltb _ _ c.if1.true)
-
-returns-2 : tie.Need-returns-2
-unfolding number_by
-returns-2 c = let o = c.before.before.other.ensures in rw (← o, le-ltb _ _ c.if1.false)
+returns c = let o = c.before.before.other-o.ensures in rw (← o, le-ltb _ _ c.if-own-lt-SECOND.false)
 
 pub standard_spec : {M : Type 1} → statement M
 standard_spec =
@@ -22,7 +22,7 @@ standard_spec =
     (λ c. search rules)
     (λ c. search rules)
     (λ c. search rules)
-    returns
+    returns-then-own-lt-SECOND
     (λ c. search rules)
     (λ c. search rules)
-    returns-2)
+    returns)

@@ -5,8 +5,8 @@ use borrow.Author.Rules.{rules}
 use Rattle.packer.proofs.put16.Statement.{statement}
 use Rattle.packer.proofs.put16.Tie as tie
 
-slice-write-out-2 : tie.Need-slice-write-out-2
-slice-write-out-2 c = simp length-set (omega arith)
+bounds-out-at-2 : tie.Need-bounds-out-at-2
+bounds-out-at-2 c = simp length-set (omega arith)
 
 returns : tie.Need-returns
 returns c = two_bytes _ _ _ c.requires.0
@@ -19,6 +19,6 @@ put16_spec =
     (λ c. search rules)
     (λ c. search rules)
     (λ c. search rules)
-    slice-write-out-2
+    bounds-out-at-2
     (λ c. search rules)
     returns)

@@ -8,7 +8,7 @@ returns : tie.Need-returns
 returns c =
     let b = c.before.before.before.before.before.before in
     fields_placed _ _ _ _ _ _ _ (omega (arith, b.before.before.before.before.before.before.before.requires))
-    b.before.before.before.before.put16.ensures b.put162.ensures c.before.before.put163.ensures
+    b.before.before.before.before.put16.ensures b.put16-2.ensures c.before.before.put16-3.ensures
 
 pub put_fields_spec : {M : Type 1} → statement M
 put_fields_spec =

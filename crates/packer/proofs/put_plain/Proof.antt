@@ -6,10 +6,10 @@ use borrow.Author.Rules.{rules}
 use Rattle.packer.proofs.put_plain.Statement.{statement}
 use Rattle.packer.proofs.put_plain.Tie as tie
 
-put-groups-requires : tie.Need-put-groups-requires
-put-groups-requires c κs =
+put_groups-requires : tie.Need-put_groups-requires
+put_groups-requires c κs =
     let pre = c.before.before.before.before.requires in
-    let g = c.before.groups.ensures in (
+    let g = c.before.groups-count.ensures in (
       omega (arith, pre),
       omega (arith, pre),
       lit≤ tt,
@@ -21,7 +21,7 @@ put-groups-requires c κs =
     )
 
 returns : tie.Need-returns
-returns c = plain_placed _ _ _ _ _ _ c.before.before.before.before.groups.ensures c.before.before.put-groups.ensures
+returns c = plain_placed _ _ _ _ _ _ c.before.before.before.before.groups-count.ensures c.before.before.put_groups.ensures
 
 pub put_plain_spec : {M : Type 1} → statement M
 put_plain_spec =
@@ -33,6 +33,6 @@ put_plain_spec =
     (λ c. search rules)
     (λ c κs. search rules)
     (λ c. search rules)
-    put-groups-requires
+    put_groups-requires
     (λ c. search rules)
     returns)

@@ -5,28 +5,28 @@ use borrow.Author.Rules.{rules}
 use Rattle.packer.proofs.put_starred.Statement.{statement}
 use Rattle.packer.proofs.put_starred.Tie as tie
 
-put-groups-requires : tie.Need-put-groups-requires
-put-groups-requires c κs =
+put_groups-requires : tie.Need-put_groups-requires
+put_groups-requires c κs =
     let pre = c.before.before.before.before.before.requires in
-    let g = c.before.before.groups.ensures in
+    let g = c.before.before.groups-bytes.ensures in
     (omega (arith, pre), omega (arith, pre), lit≤ tt, lit≤ tt, rw (bits_run _ _) pre.4, omega (arith, pre), omega (arith, pre), omega (arith, pre))
 
-put-groups-requires-2 : tie.Need-put-groups-requires-2
-put-groups-requires-2 c κs =
+put_groups-requires-2 : tie.Need-put_groups-requires-2
+put_groups-requires-2 c κs =
     let st = c.before.before.before.before.before.before.before.before.before in
     let pre = st.requires in
-    let g = c.before.before.before.before.before.before.groups.ensures in
-    let h = c.before.before.before.before.before.groups2.ensures in
-    let k = c.before.before.before.put-groups.auto.1.1.1.1.1.0 in
+    let g = c.before.before.before.before.before.before.groups-bytes.ensures in
+    let h = c.before.before.before.before.before.groups-count.ensures in
+    let k = c.before.before.before.put_groups.auto.out in
     (omega (arith, pre), omega (arith, pre), lit≤ tt, lit≤ tt, rw (labels_run _ _) pre.5, omega (arith, pre), omega (arith, pre), omega (arith, pre))
 
 returns : tie.Need-returns
 returns c =
     let b = c.before.before.before.before.before.before in
-    let g = b.before.before.before.groups.ensures in
-    let h = b.before.before.groups2.ensures in
+    let g = b.before.before.before.groups-bytes.ensures in
+    let h = b.before.before.groups-count.ensures in
     let st = b.before.before.before.before.before.before in
-    starred_placed st.args.m _ _ _ _ _ _ _ g h (omega (arith, st.requires)) b.put-groups.ensures c.before.before.put-groups2.ensures
+    starred_placed st.args.m _ _ _ _ _ _ _ g h (omega (arith, st.requires)) b.put_groups.ensures c.before.before.put_groups-2.ensures
 
 pub put_starred_spec : {M : Type 1} → statement M
 put_starred_spec =
@@ -38,9 +38,9 @@ put_starred_spec =
     (λ c κs. search rules)
     (λ c κs. search rules)
     (λ c. search rules)
-    put-groups-requires
+    put_groups-requires
     (λ c. search rules)
     (λ c. search rules)
-    put-groups-requires-2
+    put_groups-requires-2
     (λ c. search rules)
     returns)

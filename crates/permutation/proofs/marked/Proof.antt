@@ -9,41 +9,41 @@ use borrow.Author.Rules.{rules}
 use Rattle.permutation.proofs.marked.Statement.{statement}
 use Rattle.permutation.proofs.marked.Tie as tie
 
-abbrev invariant_loop : tie.invariant-loop
+abbrev invariant_loop : tie.invariant-loop-i
 invariant_loop order marks₀ i₀ marks i =
     (i ≤ length order) × (run (length order) (drop i order) (bits marks) ≡ is_permutation order) × (length marks ≡ length marks₀)
 
-abbrev decreases_loop : tie.decreases-loop
+abbrev decreases_loop : tie.decreases-loop-i
 decreases_loop order marks₀ i₀ marks i = length order - i
 
-loop-holds : tie.Need-loop-init invariant_loop decreases_loop
-loop-holds c = (omega arith, rw c.before.before.requires.1 (decides _ _ c.before.before.requires.0), refl)
+loop-i-init : tie.Need-loop-i-init invariant_loop decreases_loop
+loop-i-init c = (omega arith, rw c.before.before.requires.1 (decides _ _ c.before.before.requires.0), refl)
 
-cast-x : tie.Need-overflow-cast-x invariant_loop decreases_loop
-cast-x c = omega (arith, c.shared-slice-known2.given c.before.before.loop.i)
+overflow_cast-x : tie.Need-overflow_cast-x invariant_loop decreases_loop
+overflow_cast-x c = omega (arith, c.shared_slice_known-in-loop-i-1.given c.before.before.loop-i.i)
 
-returns : tie.Need-returns invariant_loop decreases_loop
-returns c = let at = c.before.before.before.loop in
-    sym (stop_big _ _ _ at.i c.before.before.loop-test.true c.if1.true) ∙ at.invariant.1
+returns-then-x-order : tie.Need-returns-then-x-order invariant_loop decreases_loop
+returns-then-x-order c = let at = c.before.before.before.loop-i in
+    sym (stop_big _ _ _ at.i c.before.before.loop-i-test.true c.if-x-order.true) ∙ at.invariant.1
 
-returns-2 : tie.Need-returns-2 invariant_loop decreases_loop
-returns-2 c = let at = c.before.before.before.before.before.before.loop in
-    sym (stop_seen _ _ (bits at.marks) at.i (omega arith) (omega arith) (λ z. c.if2.true (c.before.bit_at.ensures ∙ z))) ∙ at.invariant.1
+returns-then-b-ne0 : tie.Need-returns-then-b-ne0 invariant_loop decreases_loop
+returns-then-b-ne0 c = let at = c.before.before.before.before.before.loop-i in
+    sym (stop_seen _ _ (bits at.marks) at.i (omega arith) (omega arith) (λ z. c.if-b-ne0.true (c.before.bit_at-b.ensures ∙ z))) ∙ at.invariant.1
 
-put-bit-requires : tie.Need-put-bit-requires invariant_loop decreases_loop
-put-bit-requires c κs = (omega arith, omega arith, sym c.before.before.bit_at.ensures ∙ c.before.if2.false)
+put_bit-requires : tie.Need-put_bit-requires invariant_loop decreases_loop
+put_bit-requires c κs = (omega arith, omega arith, sym c.before.before.bit_at-b.ensures ∙ c.before.if-b-ne0.false)
 
-loop-again : tie.Need-loop-preserved invariant_loop decreases_loop
-loop-again c =
-    let at = c.before.before.before.before.before.before.before.before.before.before.loop in
-    let fresh = sym c.before.before.before.before.before.bit_at.ensures ∙ c.before.before.before.before.if2.false in (
+loop-i-preserved : tie.Need-loop-i-preserved invariant_loop decreases_loop
+loop-i-preserved c =
+    let at = c.before.before.before.before.before.before.before.before.before.loop-i in
+    let fresh = sym c.before.before.before.before.before.bit_at-b.ensures ∙ c.before.before.before.before.if-b-ne0.false in (
       omega arith,
-      ap (run _ _) c.before.before.put-bit.ensures ∙ sym (next _ _ (bits at.marks) at.i (omega arith) (omega arith) fresh) ∙ at.invariant.1,
-      c.before.before.put-bit.auto.0 ∙ at.invariant.2,
+      ap (run _ _) c.before.before.put_bit.ensures ∙ sym (next _ _ (bits at.marks) at.i (omega arith) (omega arith) fresh) ∙ at.invariant.1,
+      c.before.before.put_bit.auto.s ∙ at.invariant.2,
     )
 
-returns-3 : tie.Need-returns-3 invariant_loop decreases_loop
-returns-3 c = let at = c.before.loop in sym (end _ _ _ at.i (omega arith)) ∙ at.invariant.1
+returns : tie.Need-returns invariant_loop decreases_loop
+returns c = let at = c.before.loop-i in sym (end _ _ _ at.i (omega arith)) ∙ at.invariant.1
 
 pub marked_spec : {M : Type 1} → statement M
 marked_spec =
@@ -51,18 +51,18 @@ marked_spec =
     (tie.spec
     invariant_loop
     decreases_loop
-    loop-holds
+    loop-i-init
     (λ c. search rules)
     (λ c. search rules)
-    cast-x
+    overflow_cast-x
     (λ c. search rules)
-    returns
+    returns-then-x-order
     (λ c κs. search rules)
     (λ c. search rules)
-    returns-2
-    put-bit-requires
+    returns-then-b-ne0
+    put_bit-requires
     (λ c. search rules)
     (λ c. search rules)
-    loop-again
+    loop-i-preserved
     (λ c. search rules)
-    returns-3)
+    returns)

@@ -11,34 +11,34 @@ use Rattle.placing.proofs.spot_of.Tie as tie
 within : (c : tie.After-search) → let a = c.before.before.before.before.before.args in a.used ≤ length a.shelf.now
 within c = omega arith
 
-returns : tie.Need-returns
-returns c = spot_over _ _ _ (omega arith)
+returns-then-used-shelf : tie.Need-returns-then-used-shelf
+returns-then-used-shelf c = spot_over _ _ _ (omega arith)
 
-returns-2 : tie.Need-returns-2
-returns-2 c =
+returns-then-shelf-used : tie.Need-returns-then-shelf-used
+returns-then-shelf-used c =
     let k = c.before.before.before.before in
-    spot_full _ _ _ (within k) _ _ (sym c.before.before.n2.given.1 ∙ k.search.ensures) (omega arith)
+    spot_full _ _ _ (within k) _ _ (sym c.before.before.n-in-Missing-1.given.1 ∙ k.search.ensures) (omega arith)
 
-returns-3 : tie.Need-returns-3
-returns-3 c =
+returns-in-Broken : tie.Need-returns-in-Broken
+returns-in-Broken c =
     let k = c.before.before in
-    spot_broken _ _ _ (within k) (sym c.enum_told.given.1 ∙ k.search.ensures)
+    spot_broken _ _ _ (within k) (sym c.enum_told-1.given.1 ∙ k.search.ensures)
 
-returns-4 : tie.Need-returns-4
-returns-4 c =
+returns-in-There : tie.Need-returns-in-There
+returns-in-There c =
     let k = c.before.before.before in
-    spot_there _ _ _ (within k) _ _ (sym c.before.n.given.1 ∙ k.search.ensures)
+    spot_there _ _ _ (within k) _ _ (sym c.before.n-1.given.1 ∙ k.search.ensures)
 
-returns-5 : tie.Need-returns-5
-returns-5 c =
+returns-else-shelf-used : tie.Need-returns-else-shelf-used
+returns-else-shelf-used c =
     let k = c.before.before.before.before in
-    spot_new _ _ _ (within k) _ _ (sym c.before.before.n2.given.1 ∙ k.search.ensures) (omega arith)
+    spot_new _ _ _ (within k) _ _ (sym c.before.before.n-in-Missing-1.given.1 ∙ k.search.ensures) (omega arith)
 
 pub spot_of_spec : {M : Type 1} → statement M
 spot_of_spec =
     tie.close
     (tie.spec
-    returns
+    returns-then-used-shelf
     (λ c. search rules)
     (λ c. search rules)
     (λ c. search rules)
@@ -47,7 +47,7 @@ spot_of_spec =
     (λ c. search rules)
     (λ c. search rules)
     (λ c. search rules)
-    returns-2
-    returns-3
-    returns-4
-    returns-5)
+    returns-then-shelf-used
+    returns-in-Broken
+    returns-in-There
+    returns-else-shelf-used)

@@ -12,45 +12,45 @@ use Rattle.read_checks.proofs.refusal.Statement.{statement}
 use Rattle.read_checks.proofs.refusal.Tie as tie
 
 -- a table of which this is said
-stands : (c : tie.Else1) (t : Table) → c.before.before.args.loaded ≡ not (table_refused t) → table_refused t ≡ false
-stands c t told = not-true _ (sym told ∙ not-false _ c.if1.false)
+stands : (c : tie.Else-not-loaded) (t : Table) → c.before.before.args.loaded ≡ not (table_refused t) → table_refused t ≡ false
+stands c t told = not-true _ (sym told ∙ not-false _ c.if-not-loaded.false)
 
-passed : (c : tie.Else2) → head_refusal c.before.before.before.before.args.«record».now ≡ 0
-passed c = sym c.before.head-refusal.ensures ∙ omega arith
+passed : (c : tie.Else-h-ne0) → head_refusal c.before.before.before.before.args.«record».now ≡ 0
+passed c = sym c.before.head_refusal-h.ensures ∙ omega arith
 
-returns : tie.Need-returns
-returns c = λ t told. record_table t _ _ (not-false _ (sym told ∙ not-true _ c.if1.true))
+returns-then-not-loaded : tie.Need-returns-then-not-loaded
+returns-then-not-loaded c = λ t told. record_table t _ _ (not-false _ (sym told ∙ not-true _ c.if-not-loaded.true))
 
-returns-2 : tie.Need-returns-2
-returns-2 c =
-    let e = c.before.head-refusal.ensures in
-    λ t told. e ∙ record_head t _ _ (stands c.before.before t told) (λ z. c.if2.true (e ∙ z))
+returns-then-h-ne0 : tie.Need-returns-then-h-ne0
+returns-then-h-ne0 c =
+    let e = c.before.head_refusal-h.ensures in
+    λ t told. e ∙ record_head t _ _ (stands c.before.before t told) (λ z. c.if-h-ne0.true (e ∙ z))
 
-field-requires : tie.Need-field-requires
-field-requires c κs = let l = head_long _ (passed c) in omega arith
+field-m-requires : tie.Need-field-m-requires
+field-m-requires c κs = let l = head_long _ (passed c) in omega arith
 
-returns-3 : tie.Need-returns-3
-returns-3 c =
+returns-then-work-m : tie.Need-returns-then-work-m
+returns-then-work-m c =
     let e = c.before.before in
-    let m-is = c.before.field.ensures in
+    let m-is = c.before.field-m.ensures in
     λ t told. record_room t _ _ (stands e.before.before t told) (passed e) (omega arith)
 
-returns-4 : tie.Need-returns-4
+returns : tie.Need-returns
 unfolding passes
-returns-4 c =
+returns c =
     let e = c.before.before in
-    let m-is = c.before.field.ensures in
+    let m-is = c.before.field-m.ensures in
     λ t told. sym (clear_record t _ _ (record { stands = stands e.before.before t told; passed = eq-eqb _ 0 (passed e); room = omega arith }))
 
 pub refusal_spec : {M : Type 1} → statement M
 refusal_spec =
     tie.close
     (tie.spec
-    returns
+    returns-then-not-loaded
     (λ c κs. search rules)
-    returns-2
-    field-requires
+    returns-then-h-ne0
+    field-m-requires
     (λ c. search rules)
     (λ c. search rules)
-    returns-3
-    returns-4)
+    returns-then-work-m
+    returns)

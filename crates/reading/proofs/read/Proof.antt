@@ -11,8 +11,8 @@ unfolding zeros
 returns c =
     let o = c.before.before.before.before.before.before.before.before in
     record {
-      outcome = o.read_out.ensures _ o.before.before.before.before.is-loaded.ensures refl;
-      cleared = c.before.before.clear.ensures ∙ ap (λ (n : ℕ). replicate n 0) o.read_out.auto.1.1.1.0;
+      outcome = o.read_out-r.ensures _ o.before.before.before.before.is_loaded-loaded.ensures refl;
+      cleared = c.before.before.clear.ensures ∙ ap (λ (n : ℕ). replicate n 0) o.read_out-r.auto.work;
     }
 
 pub read_spec : {M : Type 1} → statement M

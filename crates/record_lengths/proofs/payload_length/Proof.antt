@@ -3,14 +3,14 @@ use borrow.Author.Rules.{rules}
 use Rattle.record_lengths.proofs.payload_length.Statement.{statement}
 use Rattle.record_lengths.proofs.payload_length.Tie as tie
 
+returns-then-family-eq1 : tie.Need-returns-then-family-eq1
+returns-then-family-eq1 c = (family_one _ _ c.if-family-eq1.true, search rules)
+
+returns-then-family-eq2 : tie.Need-returns-then-family-eq2
+returns-then-family-eq2 c = (family_two _ _ c.if-family-eq2.true, search rules)
+
 returns : tie.Need-returns
-returns c = (family_one _ _ c.if1.true, search rules)
-
-returns-2 : tie.Need-returns-2
-returns-2 c = (family_two _ _ c.if2.true, search rules)
-
-returns-3 : tie.Need-returns-3
-returns-3 c = (family_other _ _ c.before.if1.false c.if2.false, search rules)
+returns c = (family_other _ _ c.before.if-family-eq1.false c.if-family-eq2.false, search rules)
 
 pub payload_length_spec : {M : Type 1} → statement M
 payload_length_spec =
@@ -18,11 +18,11 @@ payload_length_spec =
     (tie.spec
     (λ c. search rules)
     (λ c. search rules)
-    returns
+    returns-then-family-eq1
     (λ c. search rules)
     (λ c. search rules)
     (λ c. search rules)
     (λ c. search rules)
-    returns-2
+    returns-then-family-eq2
     (λ c. search rules)
-    returns-3)
+    returns)

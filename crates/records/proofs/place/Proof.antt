@@ -11,36 +11,36 @@ use borrow.Author.Rules.{rules}
 use Rattle.records.proofs.place.Statement.{statement}
 use Rattle.records.proofs.place.Tie as tie
 
-abbrev invariant_loop : tie.invariant-loop
+abbrev invariant_loop : tie.invariant-loop-left
 invariant_loop bytes n at₀ left₀ at left = (end_to_end (drop at bytes) ≡ true) × (left < length (records_in (drop at bytes)))
     × (at + place_of_record (records_in (drop at bytes)) left ≡ place_of_record (records_in bytes) n)
 
-abbrev decreases_loop : tie.decreases-loop
+abbrev decreases_loop : tie.decreases-loop-left
 decreases_loop bytes n at₀ left₀ at left = left
 
 fits : (c : tie.After-field invariant_loop decreases_loop)
     → let k = c.before.before in
-    (6 ≤ c.field.result) × (k.loop.at + c.field.result ≤ length k.before.before.args.bytes.now)
-fits c = let l = c.before.before.loop in next_fits _ l.at l.invariant.0 (some_here _ l.at l.left l.invariant.1) _ c.field.ensures
+    (6 ≤ c.field.result) × (k.loop-left.at + c.field.result ≤ length k.before.before.args.bytes.now)
+fits c = let l = c.before.before.loop-left in next_fits _ l.at l.invariant.0 (some_here _ l.at l.left l.invariant.1) _ c.field.ensures
 
-loop-holds : tie.Need-loop-init invariant_loop decreases_loop
-loop-holds c = (c.before.requires.0, c.before.requires.1, zero-add _)
+loop-left-init : tie.Need-loop-left-init invariant_loop decreases_loop
+loop-left-init c = (c.before.requires.0, c.before.requires.1, zero-add _)
 
 field-requires : tie.Need-field-requires invariant_loop decreases_loop
-field-requires c κs = let l = c.before.loop in let r = room _ l.at l.invariant.0 (some_here _ l.at l.left l.invariant.1) in omega arith
+field-requires c κs = let l = c.before.loop-left in let r = room _ l.at l.invariant.0 (some_here _ l.at l.left l.invariant.1) in omega arith
 
-add_at : tie.Need-overflow-add-at invariant_loop decreases_loop
-add_at c = let f = fits c in omega arith
+overflow_add-at : tie.Need-overflow_add-at invariant_loop decreases_loop
+overflow_add-at c = let f = fits c in omega arith
 
-loop-again : tie.Need-loop-preserved invariant_loop decreases_loop
-loop-again c = let l = c.before.before.loop in
+loop-left-preserved : tie.Need-loop-left-preserved invariant_loop decreases_loop
+loop-left-preserved c = let l = c.before.before.loop-left in
     let h = some_here _ l.at l.left l.invariant.1 in
     let n = next_end _ l.at l.invariant.0 h _ c.field.ensures in
     let b = place_fewer _ l.at l.invariant.0 h _ c.field.ensures l.left (omega arith) l.invariant.1 in
     (n, b, sym (place_turn _ l.at l.invariant.0 h _ c.field.ensures l.left (omega arith)) ∙ l.invariant.2)
 
 returns : tie.Need-returns invariant_loop decreases_loop
-returns c = let l = c.before.loop in sym (place_ends _ l.at l.left (omega arith)) ∙ l.invariant.2
+returns c = let l = c.before.loop-left in sym (place_ends _ l.at l.left (omega arith)) ∙ l.invariant.2
 
 pub place_spec : {M : Type 1} → statement M
 place_spec =
@@ -48,11 +48,11 @@ place_spec =
     (tie.spec
     invariant_loop
     decreases_loop
-    loop-holds
+    loop-left-init
     field-requires
     (λ c. search rules)
-    add_at
+    overflow_add-at
     (λ c. search rules)
     (λ c. search rules)
-    loop-again
+    loop-left-preserved
     returns)

@@ -7,38 +7,38 @@ use borrow.Author.Rules.{rules}
 use Rattle.records.proofs.record_at.Statement.{statement}
 use Rattle.records.proofs.record_at.Tie as tie
 
-fits : (c : tie.Else1)
+fits : (c : tie.Else-length-eq0)
     → let a = c.before.before.before.args in
-    let l = c.before.length_at.result in
+    let l = c.before.length_at-length.result in
     (6 ≤ l) × (a.at + l ≤ length a.bytes.now)
-fits c = fits_here _ _ _ c.before.length_at.ensures c.if1.false
+fits c = fits_here _ _ _ c.before.length_at-length.ensures c.if-length-eq0.false
 
-returns : tie.Need-returns
-returns c = let l = c.before.before.length_at.ensures in
+returns-then-length-eq0 : tie.Need-returns-then-length-eq0
+returns-then-length-eq0 c = let l = c.before.before.length_at-length.ensures in
     let s = c.before.before.before.before.args.bytes in
     record {
-      bytes_are = part_none _ _ _ l c.before.if1.true;
-      begins = ap (λ (o : ℕ). (s.ptr.0, o)) (begins_none _ _ _ l c.before.if1.true s.ptr.1);
+      bytes_are = part_none _ _ _ l c.before.if-length-eq0.true;
+      begins = ap (λ (o : ℕ). (s.ptr.0, o)) (begins_none _ _ _ l c.before.if-length-eq0.true s.ptr.1);
     }
 
-add-end : tie.Need-overflow-add-end
-add-end c = let f = fits c in omega arith
+overflow_add-end : tie.Need-overflow_add-end
+overflow_add-end c = let f = fits c in omega arith
 
-sub-result-2 : tie.Need-overflow-sub-result-2
-sub-result-2 c = let f = fits c in omega arith
+slice_bounds-result-count-2 : tie.Need-slice_bounds-result-count-2
+slice_bounds-result-count-2 c = let f = fits c in omega arith
 
-part-result-start-2 : tie.Need-slice-bounds-result-start-2
-part-result-start-2 c = let f = fits c in omega arith
+slice_bounds-result-start-2 : tie.Need-slice_bounds-result-start-2
+slice_bounds-result-start-2 c = let f = fits c in omega arith
 
-part-result-end-2 : tie.Need-slice-bounds-result-end-2
-part-result-end-2 c = let f = fits c in omega arith
+slice_bounds-result-end-2 : tie.Need-slice_bounds-result-end-2
+slice_bounds-result-end-2 c = let f = fits c in omega arith
 
-returns-2 : tie.Need-returns-2
-returns-2 c = let l = c.before.before.length_at.ensures in
+returns : tie.Need-returns
+returns c = let l = c.before.before.length_at-length.ensures in
     let s = c.before.before.before.before.args.bytes in
     record {
-      bytes_are = part_is _ _ _ l c.before.if1.false;
-      begins = ap (λ (o : ℕ). (s.ptr.0, o)) (begins_there _ _ _ l c.before.if1.false s.ptr.1);
+      bytes_are = part_is _ _ _ l c.before.if-length-eq0.false;
+      begins = ap (λ (o : ℕ). (s.ptr.0, o)) (begins_there _ _ _ l c.before.if-length-eq0.false s.ptr.1);
     }
 
 pub record_at_spec : {M : Type 1} → statement M
@@ -49,9 +49,9 @@ record_at_spec =
     (λ c. search rules)
     (λ c. search rules)
     (λ c. search rules)
-    returns
-    add-end
-    sub-result-2
-    part-result-start-2
-    part-result-end-2
-    returns-2)
+    returns-then-length-eq0
+    overflow_add-end
+    slice_bounds-result-count-2
+    slice_bounds-result-start-2
+    slice_bounds-result-end-2
+    returns)

@@ -9,29 +9,29 @@ use borrow.Author.Rules.{rules}
 use Rattle.searching.proofs.same.Statement.{statement}
 use Rattle.searching.proofs.same.Tie as tie
 
-abbrev invariant_loop : tie.invariant-loop
+abbrev invariant_loop : tie.invariant-loop-i
 invariant_loop a b i₀ i = (i ≤ length a) × (shelf.same (drop i a) (drop i b) ≡ true)
 
-abbrev decreases_loop : tie.decreases-loop
+abbrev decreases_loop : tie.decreases-loop-i
 decreases_loop a b i₀ i = i
 
-loop-holds : tie.Need-loop-init invariant_loop decreases_loop
-loop-holds c = (search rules, same_ends _ _ (length c.args.a.now) refl c.requires)
+loop-i-init : tie.Need-loop-i-init invariant_loop decreases_loop
+loop-i-init c = (search rules, same_ends _ _ (length c.args.a.now) refl c.requires)
 
-returns : tie.Need-returns invariant_loop decreases_loop
-returns c = sym (same_stops _ _ _ c.if1.true)
+returns-then-a-i : tie.Need-returns-then-a-i invariant_loop decreases_loop
+returns-then-a-i c = sym (same_stops _ _ _ c.if-a-i.true)
 
-loop-again : tie.Need-loop-preserved invariant_loop decreases_loop
-loop-again c =
-    let l = c.before.before.before.before.loop in
+loop-i-preserved : tie.Need-loop-i-preserved invariant_loop decreases_loop
+loop-i-preserved c =
+    let l = c.before.before.before.before.loop-i in
     let n = l.invariant.0 in
     let e = c.before.before.before.before.before.requires in
-    (omega arith, same_turn _ _ _ l.i (omega arith) n (omega arith) c.if1.false l.invariant.1)
+    (omega arith, same_turn _ _ _ l.i (omega arith) n (omega arith) c.if-a-i.false l.invariant.1)
 
-returns-2 : tie.Need-returns-2 invariant_loop decreases_loop
-returns-2 c =
-    let l = c.before.loop in
-    let z : l.i ≡ 0 = omega (arith, c.loop-test.false) in
+returns : tie.Need-returns invariant_loop decreases_loop
+returns c =
+    let l = c.before.loop-i in
+    let z : l.i ≡ 0 = omega (arith, c.loop-i-test.false) in
     let st = c.before.before.args in
     sym (subst (λ (k : ℕ). shelf.same (drop k st.a.now) (drop k st.b.now) ≡ true) z l.invariant.1)
 
@@ -41,11 +41,11 @@ same_spec =
     (tie.spec
     invariant_loop
     decreases_loop
-    loop-holds
+    loop-i-init
     (λ c. search rules)
     (λ c. search rules)
     (λ c. search rules)
-    returns
+    returns-then-a-i
     (λ c. search rules)
-    loop-again
-    returns-2)
+    loop-i-preserved
+    returns)

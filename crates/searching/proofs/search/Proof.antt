@@ -10,83 +10,83 @@ use borrow.Author.Rules.{rules}
 use Rattle.searching.proofs.search.Statement.{statement}
 use Rattle.searching.proofs.search.Tie as tie
 
-abbrev invariant_loop : tie.invariant-loop
+abbrev invariant_loop : tie.invariant-loop-at
 invariant_loop «record» bytes len kind at₀ n₀ compared₀ at n compared = (at ≤ length bytes) × (n ≤ at) × (compared ≤ n)
     × (further n compared (search_of «record» (drop at bytes)) ≡ search_of «record» bytes)
 
-abbrev decreases_loop : tie.decreases-loop
+abbrev decreases_loop : tie.decreases-loop-at
 decreases_loop «record» bytes len kind at₀ n₀ compared₀ at n compared = length bytes - at
 
-fits : (c : tie.Else1 invariant_loop decreases_loop)
-    → let l = c.before.before.before.loop in
-    let size = c.before.length_at.result in
+fits : (c : tie.Else-size-eq0 invariant_loop decreases_loop)
+    → let l = c.before.before.before.loop-at in
+    let size = c.before.length_at-size.result in
     (6 ≤ size) × (l.at + size ≤ length c.before.before.before.before.before.before.before.args.bytes.now)
-fits c = fits_here _ c.before.before.before.loop.at _ c.before.length_at.ensures c.if1.false
+fits c = fits_here _ c.before.before.before.loop-at.at _ c.before.length_at-size.ensures c.if-size-eq0.false
 
-loop-holds : tie.Need-loop-init invariant_loop decreases_loop
-loop-holds c = (search rules, search rules, search rules, search_begins _ _)
+loop-at-init : tie.Need-loop-at-init invariant_loop decreases_loop
+loop-at-init c = (search rules, search rules, search rules, search_begins _ _)
 
-returns : tie.Need-returns invariant_loop decreases_loop
-returns c = let l = c.before.before.before.loop in
-    sym (search_stops _ _ l.at l.n l.compared _ c.before.length_at.ensures c.if1.true (omega arith)) ∙ l.invariant.3
+returns-then-size-eq0 : tie.Need-returns-then-size-eq0 invariant_loop decreases_loop
+returns-then-size-eq0 c = let l = c.before.before.before.loop-at in
+    sym (search_stops _ _ l.at l.n l.compared _ c.before.length_at-size.ensures c.if-size-eq0.true (omega arith)) ∙ l.invariant.3
 
-add-end : tie.Need-overflow-add-end invariant_loop decreases_loop
-add-end c = let f = fits c in omega arith
+overflow_add-end : tie.Need-overflow_add-end invariant_loop decreases_loop
+overflow_add-end c = let f = fits c in omega arith
 
-add-compared : tie.Need-overflow-add-compared invariant_loop decreases_loop
-add-compared c = let f = fits c.before in omega arith
+overflow_add-compared : tie.Need-overflow_add-compared invariant_loop decreases_loop
+overflow_add-compared c = let f = fits c.before in omega arith
 
-sub-equal : tie.Need-overflow-sub-equal invariant_loop decreases_loop
-sub-equal c = let f = fits c.before in omega arith
+slice_bounds-equal-count : tie.Need-slice_bounds-equal-count invariant_loop decreases_loop
+slice_bounds-equal-count c = let f = fits c.before in omega arith
 
-part-equal-start : tie.Need-slice-bounds-equal-start invariant_loop decreases_loop
-part-equal-start c = let f = fits c.before in omega arith
+slice_bounds-equal-start : tie.Need-slice_bounds-equal-start invariant_loop decreases_loop
+slice_bounds-equal-start c = let f = fits c.before in omega arith
 
-part-equal-end : tie.Need-slice-bounds-equal-end invariant_loop decreases_loop
-part-equal-end c = let f = fits c.before in omega arith
+slice_bounds-equal-end : tie.Need-slice_bounds-equal-end invariant_loop decreases_loop
+slice_bounds-equal-end c = let f = fits c.before in omega arith
 
 equal-requires : tie.Need-equal-requires invariant_loop decreases_loop
 equal-requires c κs = let k = c.before.before.before in
-    let l = part_length _ k.before.before.loop.at _ k.length_at.ensures c.before.before.if1.false in
+    let l = part_length _ k.before.before.loop-at.at _ k.length_at-size.ensures c.before.before.if-size-eq0.false in
     let f = fits c.before.before in
-    (sym (l ∙ c.before.if2.true), omega arith, c.before.before.before.before.before.before.field.ensures)
+    (sym (l ∙ c.before.if-size-length.true), omega arith, c.before.before.before.before.before.before.field-kind.ensures)
 
-sub-there : tie.Need-overflow-sub-there invariant_loop decreases_loop
-sub-there c = let f = fits c.before.before.before.before in omega arith
+slice_bounds-there-count : tie.Need-slice_bounds-there-count invariant_loop decreases_loop
+slice_bounds-there-count c = let f = fits c.before.before.before.before in omega arith
 
-part-there-start : tie.Need-slice-bounds-there-start invariant_loop decreases_loop
-part-there-start c = let f = fits c.before.before.before.before in omega arith
+slice_bounds-there-start : tie.Need-slice_bounds-there-start invariant_loop decreases_loop
+slice_bounds-there-start c = let f = fits c.before.before.before.before in omega arith
 
-part-there-end : tie.Need-slice-bounds-there-end invariant_loop decreases_loop
-part-there-end c = let f = fits c.before.before.before.before in omega arith
+slice_bounds-there-end : tie.Need-slice_bounds-there-end invariant_loop decreases_loop
+slice_bounds-there-end c = let f = fits c.before.before.before.before in omega arith
 
-returns-2 : tie.Need-returns-2 invariant_loop decreases_loop
-returns-2 c = let k = c.before.before.before.before.before.before in
-    let l = k.before.before.before.loop in
-    let f = search_finds _ _ l.at l.n l.compared _ k.before.length_at.ensures k.if1.false
-    (sym c.before.before.before.equal.ensures ∙ c.before.before.if3.true) in
+returns-then-equal : tie.Need-returns-then-equal invariant_loop decreases_loop
+returns-then-equal c = let k = c.before.before.before.before.before.before in
+    let l = k.before.before.before.loop-at in
+    let f = search_finds _ _ l.at l.n l.compared _ k.before.length_at-size.ensures k.if-size-eq0.false
+    (sym c.before.before.before.equal.ensures ∙ c.before.before.if-equal.true) in
     c.there.ensures ∙ (sym f ∙ l.invariant.3)
 
-add-n : tie.Need-overflow-add-n invariant_loop decreases_loop
-add-n c = let f = fits c.before in omega arith
+overflow_add-n : tie.Need-overflow_add-n invariant_loop decreases_loop
+overflow_add-n c = let f = fits c.before in omega arith
 
-loop-less : tie.Need-loop-smaller invariant_loop decreases_loop
-loop-less c = let f = fits c.before in omega arith
+loop-at-smaller : tie.Need-loop-at-smaller invariant_loop decreases_loop
+loop-at-smaller c = let f = fits c.before in omega arith
 
-loop-again : tie.Need-loop-preserved invariant_loop decreases_loop
-loop-again c = let k = c.before.before in
-    let l = k.before.before.loop in
+loop-at-preserved : tie.Need-loop-at-preserved invariant_loop decreases_loop
+loop-at-preserved c = let k = c.before.before in
+    let l = k.before.before.loop-at in
     let f = fits c.before in
     ⊎_elim
-    (λ u. let t = search_goes_on _ _ l.at l.n l.compared _ k.length_at.ensures c.before.if1.false u.0.taken (sym u.2.ensures ∙ u.3.left)
+    (λ u. let t = search_goes_on _ _ l.at l.n l.compared _ k.length_at-size.ensures c.before.if-size-eq0.false u.0.taken (sym u.2.ensures ∙ u.3.left)
     _ u.4 in
     (omega arith, omega arith, omega (arith, u.4), sym t ∙ l.invariant.3))
-    (λ v. let t = search_passes _ _ l.at l.n l.compared _ k.length_at.ensures c.before.if1.false v.0.left _ v.1 in
+    (λ v. let t = search_passes _ _ l.at l.n l.compared _ k.length_at-size.ensures c.before.if-size-eq0.false v.0.left _ v.1 in
     (omega arith, omega arith, omega (arith, v.1), sym t ∙ l.invariant.3))
-    c.if2.branch
+    c.if-size-length.branch
 
-returns-3 : tie.Need-returns-3 invariant_loop decreases_loop
-returns-3 c = let l = c.before.loop in sym (search_ends _ _ l.at l.n l.compared (omega arith)) ∙ l.invariant.3
+returns : tie.Need-returns invariant_loop decreases_loop
+returns c = let l = c.before.loop-at in sym (search_ends _ _ l.at l.n l.compared (omega arith)) ∙ l.invariant.3
 
 pub search_spec : {M : Type 1} → statement M
 search_spec =
@@ -95,21 +95,21 @@ search_spec =
     invariant_loop
     decreases_loop
     (λ c κs. search rules)
-    loop-holds
+    loop-at-init
     (λ c κs. search rules)
-    returns
-    add-end
-    add-compared
-    sub-equal
-    part-equal-start
-    part-equal-end
+    returns-then-size-eq0
+    overflow_add-end
+    overflow_add-compared
+    slice_bounds-equal-count
+    slice_bounds-equal-start
+    slice_bounds-equal-end
     equal-requires
-    sub-there
-    part-there-start
-    part-there-end
+    slice_bounds-there-count
+    slice_bounds-there-start
+    slice_bounds-there-end
     (λ c κs. search rules)
-    returns-2
-    add-n
-    loop-less
-    loop-again
-    returns-3)
+    returns-then-equal
+    overflow_add-n
+    loop-at-smaller
+    loop-at-preserved
+    returns)

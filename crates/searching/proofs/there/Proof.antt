@@ -4,11 +4,11 @@ use borrow.Author.Rules.{rules}
 use Rattle.searching.proofs.there.Statement.{statement}
 use Rattle.searching.proofs.there.Tie as tie
 
-returns : tie.Need-returns
-returns c = past_broken _ _ _ (sym c.enum_told.given.1 ∙ c.before.before.count.ensures)
+returns-in-Broken : tie.Need-returns-in-Broken
+returns-in-Broken c = past_broken _ _ _ (sym c.enum_told-1.given.1 ∙ c.before.before.count.ensures)
 
-returns-2 : tie.Need-returns-2
-returns-2 c = past_whole _ _ _ _ (sym c.enum-told2.given.1 ∙ c.before.before.count.ensures)
+returns-in-Records : tie.Need-returns-in-Records
+returns-in-Records c = past_whole _ _ _ _ (sym c.enum_told-in-Records-1.given.1 ∙ c.before.before.count.ensures)
 
 pub there_spec : {M : Type 1} → statement M
-there_spec = tie.close (tie.spec (λ c κs. search rules) (λ c. search rules) (λ c. search rules) returns returns-2)
+there_spec = tie.close (tie.spec (λ c κs. search rules) (λ c. search rules) (λ c. search rules) returns-in-Broken returns-in-Records)

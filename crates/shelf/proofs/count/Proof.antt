@@ -4,19 +4,19 @@ use borrow.Author.Rules.{rules}
 use Rattle.shelf.proofs.count.Statement.{statement}
 use Rattle.shelf.proofs.count.Tie as tie
 
-returns : tie.Need-returns
-returns c = count_over _ _ (omega arith)
+returns-then-used-shelf : tie.Need-returns-then-used-shelf
+returns-then-used-shelf c = count_over _ _ (omega arith)
 
-returns-2 : tie.Need-returns-2
-returns-2 c = count_part _ _ (omega arith) _ c.count.ensures
+returns : tie.Need-returns
+returns c = count_part _ _ (omega arith) _ c.count.ensures
 
 pub count_spec : {M : Type 1} → statement M
 count_spec =
     tie.close
     (tie.spec
-    returns
+    returns-then-used-shelf
     (λ c. search rules)
     (λ c. search rules)
     (λ c. search rules)
     (λ c κs. search rules)
-    returns-2)
+    returns)

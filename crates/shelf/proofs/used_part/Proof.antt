@@ -8,14 +8,14 @@ use borrow.Author.Rules.{rules}
 use Rattle.shelf.proofs.used_part.Statement.{statement}
 use Rattle.shelf.proofs.used_part.Tie as tie
 
-returns : tie.Need-returns
-returns c = let a = c.before.args in (whole_part a.shelf.now a.used (omega arith), refl)
+returns-then-used-shelf : tie.Need-returns-then-used-shelf
+returns-then-used-shelf c = let a = c.before.args in (whole_part a.shelf.now a.used (omega arith), refl)
 
-returns-2 : tie.Need-returns-2
-returns-2 c = let a = c.before.before.args in
+returns : tie.Need-returns
+returns c = let a = c.before.before.args in
     let s = a.shelf in
     (used_part s.now a.used, ap (λ (o : ℕ). (s.ref_ptr.0, o)) (zero-add s.ref_ptr.1))
 
 pub used_part_spec : {M : Type 1} → statement M
 used_part_spec =
-    tie.close (tie.spec returns (λ c. search rules) (λ c. search rules) (λ c. search rules) returns-2)
+    tie.close (tie.spec returns-then-used-shelf (λ c. search rules) (λ c. search rules) (λ c. search rules) returns)

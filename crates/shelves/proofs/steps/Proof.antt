@@ -3,10 +3,10 @@ use borrow.Author.Rules.{rules}
 use Rattle.shelves.proofs.steps.Statement.{statement}
 use Rattle.shelves.proofs.steps.Tie as tie
 
-abbrev invariant_loop : tie.invariant-loop
+abbrev invariant_loop : tie.invariant-loop-left
 invariant_loop shelf used place count bytes at₀ left₀ at left = left ≤ count
 
-abbrev decreases_loop : tie.decreases-loop
+abbrev decreases_loop : tie.decreases-loop-left
 decreases_loop shelf used place count bytes at₀ left₀ at left = left
 
 pub steps_spec : {M : Type 1} → statement M

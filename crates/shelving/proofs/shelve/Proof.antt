@@ -9,36 +9,36 @@ use Rattle.shelving.proofs.shelve.Statement.{statement}
 use Rattle.shelving.proofs.shelve.Tie as tie
 
 -- the verdict, from where the work area is cleared
-abbrev judged : tie.After-slice-known4 → tie.After-verdict
+abbrev judged : tie.After-slice_known-4-1 → tie.After-verdict-verdict
 judged c = c.before.before.before.before.before.before
 
-abbrev start : tie.After-verdict → tie.Start
+abbrev start : tie.After-verdict-verdict → tie.Start
 start c = c.before.before.before.before.before.before.before
 
-told : (c : tie.After-verdict) → let a = (start c).args in Verdict a.table a.«record».now (length a.work.now) c.verdict.result
-told c = c.verdict.ensures _ c.before.before.before.is-loaded.ensures refl
+told : (c : tie.After-verdict-verdict) → let a = (start c).args in Verdict a.table a.«record».now (length a.work.now) c.verdict-verdict.result
+told c = c.verdict-verdict.ensures _ c.before.before.before.is_loaded-loaded.ensures refl
 
-zeroed : (c : tie.After-slice-known4) → c.before.before.clear.new.0 ≡ zeros (start (judged c)).args.work.now
+zeroed : (c : tie.After-slice_known-4-1) → c.before.before.clear.new.w ≡ zeros (start (judged c)).args.work.now
 unfolding zeros
 zeroed c = c.before.before.clear.ensures ∙ ap (λ (n : ℕ). replicate n 0) (judged c).verdict.auto.1.1.1.0
 
 place-requires : tie.Need-place-requires
-place-requires c κs = read_long _ _ _ _ (told (judged c.before.before.before)) _ _ c.before.enum_told.given.1
+place-requires c κs = read_long _ _ _ _ (told (judged c.before.before.before)) _ _ c.before.enum_told-1.given.1
 
-returns : tie.Need-returns
-returns c =
+returns-in_default : tie.Need-returns-in_default
+returns-in_default c =
     let p = c.before.before in
     let e = p.before.before in
     let k = e.before.before in
     record {
-      outcome = stored_read _ _ _ _ (told (judged k)) _ _ e.enum_told.given.1 _ _ _ _ p.place.ensures.0 p.place.ensures.1;
+      outcome = stored_read _ _ _ _ (told (judged k)) _ _ e.enum_told-1.given.1 _ _ _ _ p.place.ensures.0 p.place.ensures.1;
       cleared = zeroed k;
     }
 
-returns-2 : tie.Need-returns-2
-returns-2 c =
+returns : tie.Need-returns
+returns c =
     let k = c.before.before.before in
-    record { outcome = stored_refused _ _ _ _ (told (judged k)) _ _ _ c.before.verdict2.given.1; cleared = zeroed k }
+    record { outcome = stored_refused _ _ _ _ (told (judged k)) _ _ _ c.before.verdict-1.given.1; cleared = zeroed k }
 
 pub shelve_spec : {M : Type 1} → statement M
 shelve_spec =
@@ -52,6 +52,6 @@ shelve_spec =
     place-requires
     (λ c. search rules)
     (λ c. search rules)
-    returns
+    returns-in_default
     (λ c. search rules)
-    returns-2)
+    returns)

@@ -8,40 +8,40 @@ use borrow.Author.Rules.{rules}
 use Rattle.sizes.proofs.record_length.Statement.{statement}
 use Rattle.sizes.proofs.record_length.Tie as tie
 
-kind : (c : tie.Else1) → is_kind c.before.before.args.kind ≡ true
-kind c = sym c.before.is-kind.ensures ∙ not-false _ c.if1.false
+kind : (c : tie.Else-not-is_kind) → is_kind c.before.before.args.kind ≡ true
+kind c = sym c.before.is_kind.ensures ∙ not-false _ c.if-not-is_kind.false
 
-returns : tie.Need-returns
-returns c = no_kind _ _ (sym c.before.is-kind.ensures ∙ not-true _ c.if1.true)
+returns-then-not-is_kind : tie.Need-returns-then-not-is_kind
+returns-then-not-is_kind c = no_kind _ _ (sym c.before.is_kind.ensures ∙ not-true _ c.if-not-is_kind.true)
 
-returns-2 : tie.Need-returns-2
-returns-2 c = not_fixed _ _ (kind c.before) c.if2.true
+returns-then-kind-eq3 : tie.Need-returns-then-kind-eq3
+returns-then-kind-eq3 c = not_fixed _ _ (kind c.before) c.if-kind-eq3.true
 
-returns-3 : tie.Need-returns-3
-returns-3 c = no_edges _ _ (kind c.before.before) c.before.if2.false c.if3.true
+returns-then-edges-eq0 : tie.Need-returns-then-edges-eq0
+returns-then-edges-eq0 c = no_edges _ _ (kind c.before.before) c.before.if-kind-eq3.false c.if-edges-eq0.true
 
-returns-4 : tie.Need-returns-4
-returns-4 c = too_many _ _ (kind c.before.before.before) c.before.before.if2.false c.before.if3.false (omega arith)
+returns-then-edges-gt4096 : tie.Need-returns-then-edges-gt4096
+returns-then-edges-gt4096 c = too_many _ _ (kind c.before.before.before) c.before.before.if-kind-eq3.false c.before.if-edges-eq0.false (omega arith)
 
-cast-result : tie.Need-overflow-cast-result
-cast-result c = let a = c.before.before.before.before.before.before.args in
-    let h = length_fits a.kind a.edges c.before.before.if3.false (omega arith) in
+overflow_cast-result : tie.Need-overflow_cast-result
+overflow_cast-result c = let a = c.before.before.before.before.before.before.args in
+    let h = length_fits a.kind a.edges c.before.before.if-edges-eq0.false (omega arith) in
     omega (arith, c.record_length.ensures)
 
-returns-5 : tie.Need-returns-5
-returns-5 c =
+returns : tie.Need-returns
+returns c =
     let e = c.before.before in
-    c.record_length.ensures ∙ length_there _ _ (kind e.before.before) e.before.if2.false e.if3.false (omega arith)
+    c.record_length.ensures ∙ length_there _ _ (kind e.before.before) e.before.if-kind-eq3.false e.if-edges-eq0.false (omega arith)
 
 pub record_length_spec : {M : Type 1} → statement M
 record_length_spec =
     tie.close
     (tie.spec
     (λ c κs. search rules)
-    returns
-    returns-2
-    returns-3
-    returns-4
+    returns-then-not-is_kind
+    returns-then-kind-eq3
+    returns-then-edges-eq0
+    returns-then-edges-gt4096
     (λ c κs. search rules)
-    cast-result
-    returns-5)
+    overflow_cast-result
+    returns)

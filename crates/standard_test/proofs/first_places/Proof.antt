@@ -9,18 +9,18 @@ use borrow.Author.Rules.{rules}
 use Rattle.standard_test.proofs.first_places.Statement.{statement}
 use Rattle.standard_test.proofs.first_places.Tie as tie
 
-abbrev invariant_loop : tie.invariant-loop
+abbrev invariant_loop : tie.invariant-loop-v
 invariant_loop bytes inverse differ₀ v₀ differ v = (v ≤ 224) × (differ ≡ 0 → Alike (λ i. i) 0 v bytes × Alike (λ i. i) 0 v inverse)
 
-abbrev decreases_loop : tie.decreases-loop
+abbrev decreases_loop : tie.decreases-loop-v
 decreases_loop bytes inverse differ₀ v₀ differ v = 224 - v
 
-loop-holds : tie.Need-loop-init invariant_loop decreases_loop
-loop-holds c = (search rules, λ e. (alike_none _ 0 _, alike_none _ 0 _))
+loop-v-init : tie.Need-loop-v-init invariant_loop decreases_loop
+loop-v-init c = (search rules, λ e. (alike_none _ 0 _, alike_none _ 0 _))
 
-loop-again : tie.Need-loop-preserved invariant_loop decreases_loop
-loop-again c =
-    let at = c.before.before.before.loop in (
+loop-v-preserved : tie.Need-loop-v-preserved invariant_loop decreases_loop
+loop-v-preserved c =
+    let at = c.before.before.before.loop-v in (
       search rules,
       λ e.
           let (before, here) = or_none _ _ e in
@@ -31,7 +31,7 @@ loop-again c =
 
 returns : tie.Need-returns invariant_loop decreases_loop
 returns c =
-    let at = c.before.loop in
+    let at = c.before.loop-v in
     λ e. let (bytes, inverse) = at.invariant.1 (eqb-true _ 0 e) in
     (alike_to _ 0 224 at.v _ (omega arith) bytes, alike_to _ 0 224 at.v _ (omega arith) inverse)
 
@@ -41,11 +41,11 @@ first_places_spec =
     (tie.spec
     invariant_loop
     decreases_loop
-    loop-holds
+    loop-v-init
     (λ c. search rules)
     (λ c. search rules)
     (λ c. search rules)
     (λ c. search rules)
     (λ c. search rules)
-    loop-again
+    loop-v-preserved
     returns)

@@ -8,7 +8,7 @@ use Rattle.standard_test.proofs.is_standard_table.Tie as tie
 
 returns : tie.Need-returns
 returns c = λ e.
-    let (bytes, inverse) = c.is-standard.ensures e in
+    let (bytes, inverse) = c.is_standard.ensures e in
     ap₂ (λ (bs inv : List ℕ). let t : Table = record { bytes = bs; inverse = inv } in t) bytes inverse
 
 pub is_standard_table_spec : {M : Type 1} → statement M

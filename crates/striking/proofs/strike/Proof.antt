@@ -11,29 +11,29 @@ use borrow.Author.Rules.{rules}
 use Rattle.striking.proofs.strike.Statement.{statement}
 use Rattle.striking.proofs.strike.Tie as tie
 
-abbrev invariant_loop : tie.invariant-loop
+abbrev invariant_loop : tie.invariant-loop-i
 invariant_loop order w₀ n i₀ w i =
     (i ≤ length order) × (n ≡ length order) × (length w ≡ length w₀) × (all_below n (drop i order) ≡ all_below n order)
     × (struck (drop i order) w ≡ struck order w₀) × (drop n w ≡ drop n w₀)
 
-abbrev decreases_loop : tie.decreases-loop
+abbrev decreases_loop : tie.decreases-loop-i
 decreases_loop order w₀ n i₀ w i = length order - i
 
-cast-x : tie.Need-overflow-cast-x invariant_loop decreases_loop
-cast-x c = omega (arith, c.shared-slice-known.given c.before.before.loop.i)
+overflow_cast-x : tie.Need-overflow_cast-x invariant_loop decreases_loop
+overflow_cast-x c = omega (arith, c.shared_slice_known-1.given c.before.before.loop-i.i)
 
-returns : tie.Need-returns invariant_loop decreases_loop
-returns c =
-    let at = c.before.before.before.loop in
+returns-then-x-n : tie.Need-returns-then-x-n invariant_loop decreases_loop
+returns-then-x-n c =
+    let at = c.before.before.before.loop-i in
     record {
-      below = sym (below_stop _ _ at.i c.before.before.loop-test.true c.if1.true) ∙ at.invariant.3;
+      below = sym (below_stop _ _ at.i c.before.before.loop-i-test.true c.if-x-n.true) ∙ at.invariant.3;
       marks = λ e. absurd (false≢true e);
       rest = at.invariant.5;
     }
 
-loop-again : tie.Need-loop-preserved invariant_loop decreases_loop
-loop-again c =
-    let at = c.before.before.before.loop in
+loop-i-preserved : tie.Need-loop-i-preserved invariant_loop decreases_loop
+loop-i-preserved c =
+    let at = c.before.before.before.loop-i in
     let order = c.before.before.before.before.args.order.now in (
       search rules,
       search rules,
@@ -43,9 +43,9 @@ loop-again c =
       rest_next (length order) (get_or order at.i 0) _ _ (omega arith) at.invariant.5,
     )
 
-returns-2 : tie.Need-returns-2 invariant_loop decreases_loop
-returns-2 c =
-    let at = c.before.loop in
+returns : tie.Need-returns invariant_loop decreases_loop
+returns c =
+    let at = c.before.loop-i in
     record {
       below = sym (below_end _ _ at.i (omega arith)) ∙ at.invariant.3;
       marks = λ e. sym (struck_end _ _ at.i (omega arith)) ∙ at.invariant.4;
@@ -61,13 +61,13 @@ strike_spec =
     (λ c. search rules)
     (λ c. search rules)
     (λ c. search rules)
-    cast-x
+    overflow_cast-x
     (λ c. search rules)
-    returns
-    (λ c. search rules)
-    (λ c. search rules)
+    returns-then-x-n
     (λ c. search rules)
     (λ c. search rules)
-    loop-again
     (λ c. search rules)
-    returns-2)
+    (λ c. search rules)
+    loop-i-preserved
+    (λ c. search rules)
+    returns)

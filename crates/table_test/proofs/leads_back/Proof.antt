@@ -7,36 +7,36 @@ use borrow.Author.Rules.{rules}
 use Rattle.table_test.proofs.leads_back.Statement.{statement}
 use Rattle.table_test.proofs.leads_back.Tie as tie
 
-abbrev invariant_loop : tie.invariant-loop
+abbrev invariant_loop : tie.invariant-loop-v
 invariant_loop bytes inverse v₀ v =
     (v ≤ 243) × ((i : ℕ) → i < v → get_or inverse (get_or bytes i 0) 0 ≡ i)
 
-abbrev decreases_loop : tie.decreases-loop
+abbrev decreases_loop : tie.decreases-loop-v
 decreases_loop bytes inverse v₀ v = 243 - v
 
-cast-b : tie.Need-overflow-cast-b invariant_loop decreases_loop
-cast-b c = omega (arith, c.shared-slice-known.given c.before.before.loop.v)
+overflow_cast-b : tie.Need-overflow_cast-b invariant_loop decreases_loop
+overflow_cast-b c = omega (arith, c.shared_slice_known-1.given c.before.before.loop-v.v)
 
-shared-slice-read-if1 : tie.Need-shared-slice-read-if1 invariant_loop decreases_loop
-shared-slice-read-if1 c = omega (arith, c.before.shared-slice-known.given c.before.before.before.loop.v)
+bounds-inverse-b : tie.Need-bounds-inverse-b invariant_loop decreases_loop
+bounds-inverse-b c = omega (arith, c.before.shared_slice_known-1.given c.before.before.before.loop-v.v)
 
-cast-if1 : tie.Need-overflow-cast-if1 invariant_loop decreases_loop
-cast-if1 c = omega (arith, c.shared-slice-known2.given (get_or c.before.before.before.before.args.bytes.now c.before.before.before.loop.v 0))
+overflow_cast-inverse : tie.Need-overflow_cast-inverse invariant_loop decreases_loop
+overflow_cast-inverse c = omega (arith, c.shared_slice_known-in-loop-v-1.given (get_or c.before.before.before.before.args.bytes.now c.before.before.before.loop-v.v 0))
 
-returns : tie.Need-returns invariant_loop decreases_loop
-returns c =
+returns-then-inverse-b : tie.Need-returns-then-inverse-b invariant_loop decreases_loop
+returns-then-inverse-b c =
     let a = c.before.before.before.before.before.args in
-    leads_stop a.bytes.now a.inverse.now c.before.before.before.before.loop.v c.before.before.before.loop-test.true c.if1.true
+    leads_stop a.bytes.now a.inverse.now c.before.before.before.before.loop-v.v c.before.before.before.loop-v-test.true c.if-inverse-b.true
 
-loop-again : tie.Need-loop-preserved invariant_loop decreases_loop
-loop-again c =
-    let at = c.before.before.before.before.loop in
+loop-v-preserved : tie.Need-loop-v-preserved invariant_loop decreases_loop
+loop-v-preserved c =
+    let at = c.before.before.before.before.loop-v in
     let a = c.before.before.before.before.before.args in
     (search rules, leads_on a.bytes.now a.inverse.now at.v (omega arith) at.invariant.1)
 
-returns-2 : tie.Need-returns-2 invariant_loop decreases_loop
-returns-2 c =
-    let at = c.before.loop in
+returns : tie.Need-returns invariant_loop decreases_loop
+returns c =
+    let at = c.before.loop-v in
     let a = c.before.before.args in
     leads_end a.bytes.now a.inverse.now at.v (omega arith) at.invariant.1
 
@@ -48,11 +48,11 @@ leads_back_spec =
     decreases_loop
     (λ c. search rules)
     (λ c. search rules)
-    cast-b
-    shared-slice-read-if1
-    cast-if1
-    returns
+    overflow_cast-b
+    bounds-inverse-b
+    overflow_cast-inverse
+    returns-then-inverse-b
     (λ c. search rules)
     (λ c. search rules)
-    loop-again
-    returns-2)
+    loop-v-preserved
+    returns)

@@ -8,25 +8,25 @@ use borrow.Author.Rules.{rules}
 use Rattle.table_test.proofs.marks.Statement.{statement}
 use Rattle.table_test.proofs.marks.Tie as tie
 
-abbrev invariant_loop : tie.invariant-loop
+abbrev invariant_loop : tie.invariant-loop-b
 invariant_loop inverse marks₀ b₀ marks b =
     (b ≤ 256) × (marks ≤ b) × (marks ≡ count (is_mark inverse) b)
 
-abbrev decreases_loop : tie.decreases-loop
+abbrev decreases_loop : tie.decreases-loop-b
 decreases_loop inverse marks₀ b₀ marks b = 256 - b
 
-loop-holds : tie.Need-loop-init invariant_loop decreases_loop
+loop-b-init : tie.Need-loop-b-init invariant_loop decreases_loop
 unfolding count
-loop-holds c = (search rules, search rules, refl)
+loop-b-init c = (search rules, search rules, refl)
 
-loop-again : tie.Need-loop-preserved invariant_loop decreases_loop
-loop-again c =
-    let at = c.before.before.before.loop in
+loop-b-preserved : tie.Need-loop-b-preserved invariant_loop decreases_loop
+loop-b-preserved c =
+    let at = c.before.before.before.loop-b in
     let inverse = c.before.before.before.before.before.args.inverse.now in
-    (search rules, tick_bound (is_mark inverse at.b) _ _ _ at.invariant.1 c.one_more.ensures, marks_on inverse at.b at.marks _ at.invariant.2 c.one_more.ensures)
+    (search rules, tick_bound (is_mark inverse at.b) _ _ _ at.invariant.1 c.one_more-marks.ensures, marks_on inverse at.b at.marks _ at.invariant.2 c.one_more-marks.ensures)
 
 returns : tie.Need-returns invariant_loop decreases_loop
-returns c = let at = c.before.loop in let all : at.b ≡ 256 = omega arith in rw all at at.invariant.2
+returns c = let at = c.before.loop-b in let all : at.b ≡ 256 = omega arith in rw all at at.invariant.2
 
 pub marks_spec : {M : Type 1} → statement M
 marks_spec =
@@ -34,10 +34,10 @@ marks_spec =
     (tie.spec
     invariant_loop
     decreases_loop
-    loop-holds
+    loop-b-init
     (λ c. search rules)
     (λ c κs. search rules)
     (λ c. search rules)
     (λ c. search rules)
-    loop-again
+    loop-b-preserved
     returns)

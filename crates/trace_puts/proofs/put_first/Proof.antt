@@ -6,16 +6,16 @@ use borrow.Author.Rules.{rules}
 use Rattle.trace_puts.proofs.put_first.Statement.{statement}
 use Rattle.trace_puts.proofs.put_first.Tie as tie
 
+returns-then-family-eq4 : tie.Need-returns-then-family-eq4
+unfolding first_put
+returns-then-family-eq4 c = rw (eq-eqb _ _ c.if-family-eq4.true)
+
+bounds-w-n-3 : tie.Need-bounds-w-n-3
+bounds-w-n-3 c = simp length-set (omega arith)
+
 returns : tie.Need-returns
 unfolding first_put
-returns c = rw (eq-eqb _ _ c.if1.true)
-
-slice-write-w-3 : tie.Need-slice-write-w-3
-slice-write-w-3 c = simp length-set (omega arith)
-
-returns-2 : tie.Need-returns-2
-unfolding first_put
-returns-2 c = rw (ne_eqb _ _ c.if1.false)
+returns c = rw (ne_eqb _ _ c.if-family-eq4.false)
 
 pub put_first_spec : {M : Type 1} → statement M
 put_first_spec =
@@ -26,7 +26,7 @@ put_first_spec =
     (λ c. search rules)
     (λ c. search rules)
     (λ c. search rules)
-    returns
+    returns-then-family-eq4
     (λ c. search rules)
     (λ c. search rules)
     (λ c. search rules)
@@ -35,6 +35,6 @@ put_first_spec =
     (λ c. search rules)
     (λ c. search rules)
     (λ c. search rules)
-    slice-write-w-3
+    bounds-w-n-3
     (λ c. search rules)
-    returns-2)
+    returns)

@@ -4,13 +4,13 @@ use borrow.Author.Rules.{rules}
 use Rattle.trace_puts.proofs.put_second.Statement.{statement}
 use Rattle.trace_puts.proofs.put_second.Tie as tie
 
+returns-then-family-eq4 : tie.Need-returns-then-family-eq4
+unfolding second_put
+returns-then-family-eq4 c = rw (eq-eqb _ _ c.if-family-eq4.true)
+
 returns : tie.Need-returns
 unfolding second_put
-returns c = rw (eq-eqb _ _ c.if1.true)
-
-returns-2 : tie.Need-returns-2
-unfolding second_put
-returns-2 c = rw (ne_eqb _ _ c.if1.false)
+returns c = rw (ne_eqb _ _ c.if-family-eq4.false)
 
 pub put_second_spec : {M : Type 1} → statement M
 put_second_spec =
@@ -21,10 +21,10 @@ put_second_spec =
     (λ c. search rules)
     (λ c. search rules)
     (λ c. search rules)
-    returns
+    returns-then-family-eq4
     (λ c. search rules)
     (λ c. search rules)
     (λ c. search rules)
     (λ c. search rules)
     (λ c. search rules)
-    returns-2)
+    returns)

@@ -7,28 +7,28 @@ use borrow.Author.Rules.{rules}
 use Rattle.trace_steps.proofs.go_down.Statement.{statement}
 use Rattle.trace_steps.proofs.go_down.Tie as tie
 
-cast-next : tie.Need-overflow-cast-next
-cast-next c = omega (arith, c.shared-slice-known2.given c.before.before.before.args.o)
+overflow_cast-next : tie.Need-overflow_cast-next
+overflow_cast-next c = omega (arith, c.shared_slice_known-2-1.given c.before.before.before.args.o)
 
-cast-round : tie.Need-overflow-cast-round
-cast-round c = let k = few c.before.before.before.before.requires.0 in omega arith
+overflow_cast-e : tie.Need-overflow_cast-e
+overflow_cast-e c = let k = few c.before.before.before.before.requires.0 in omega arith
 
-add-round-2 : tie.Need-overflow-add-round-2
-add-round-2 c = let k = few c.before.before.before.before.requires.0 in omega arith
+overflow_add-e : tie.Need-overflow_add-e
+overflow_add-e c = let k = few c.before.before.before.before.requires.0 in omega arith
 
-cast-w : tie.Need-overflow-cast-w
-cast-w c = let k = few c.before.before.before.before.before.before.before.requires.0 in omega arith
+overflow_cast-w : tie.Need-overflow_cast-w
+overflow_cast-w c = let k = few c.before.before.before.before.before.before.before.requires.0 in omega arith
 
-add-w : tie.Need-overflow-add-w
-add-w c = let k = few c.before.before.before.before.before.before.before.requires.0 in omega arith
+overflow_add-w : tie.Need-overflow_add-w
+overflow_add-w c = let k = few c.before.before.before.before.before.before.before.requires.0 in omega arith
 
-put-down-requires : tie.Need-put-down-requires
-put-down-requires c κs = (few c.before.before.before.before.before.before.before.before.requires.0, simp length-set (omega arith), omega arith, omega arith)
+put_down-requires : tie.Need-put_down-requires
+put_down-requires c κs = (few c.before.before.before.before.before.before.before.before.requires.0, simp length-set (omega arith), omega arith, omega arith)
 
-same_length : tie.Need-same-length
-same_length c =
-    let d = simp length-set at c.before.before.put-down.auto.0 in
-    let r = c.before.before.before.before.before.before.round.auto.1.0 in
+shape_of-w : tie.Need-shape_of-w
+shape_of-w c =
+    let d = simp length-set at c.before.before.put_down.auto.w in
+    let r = c.before.before.before.before.before.before.round.auto.w in
     d ∙ r
 
 returns : tie.Need-returns
@@ -36,9 +36,9 @@ unfolding next
 returns c =
     record {
       stands = refl;
-      circled = c.before.before.before.before.before.before.round.new.1.0;
+      circled = c.before.before.before.before.before.before.round.new.w;
       round = c.before.before.before.before.before.before.round.ensures;
-      area = c.before.before.put-down.ensures;
+      area = c.before.before.put_down.ensures;
     }
 
 pub go_down_spec : {M : Type 1} → statement M
@@ -47,17 +47,17 @@ go_down_spec =
     (tie.spec
     (λ c. search rules)
     (λ c. search rules)
-    cast-next
+    overflow_cast-next
     (λ c. search rules)
-    cast-round
-    add-round-2
+    overflow_cast-e
+    overflow_add-e
     (λ c κs. search rules)
-    cast-w
-    add-w
+    overflow_cast-w
+    overflow_add-w
     (λ c. search rules)
     (λ c. search rules)
     (λ c. search rules)
-    put-down-requires
+    put_down-requires
     (λ c. search rules)
-    same_length
+    shape_of-w
     returns)

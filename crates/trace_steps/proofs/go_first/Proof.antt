@@ -8,26 +8,26 @@ use borrow.Author.Rules.{rules}
 use Rattle.trace_steps.proofs.go_first.Statement.{statement}
 use Rattle.trace_steps.proofs.go_first.Tie as tie
 
-cast-next : tie.Need-overflow-cast-next
-cast-next c = omega (arith, c.shared-slice-known2.given c.before.before.before.args.s.dart)
+overflow_cast-next : tie.Need-overflow_cast-next
+overflow_cast-next c = omega (arith, c.shared_slice_known-2-1.given c.before.before.before.args.s.dart)
 
-cast-w : tie.Need-overflow-cast-w
-cast-w c = let k = few c.before.before.before.requires.0 in omega arith
+overflow_cast-w : tie.Need-overflow_cast-w
+overflow_cast-w c = let k = few c.before.before.before.requires.0 in omega arith
 
-add-w : tie.Need-overflow-add-w
-add-w c = let k = few c.before.before.before.requires.0 in omega arith
+overflow_add-w : tie.Need-overflow_add-w
+overflow_add-w c = let k = few c.before.before.before.requires.0 in omega arith
 
-cast-w-2 : tie.Need-overflow-cast-w-2
-cast-w-2 c = let k = few c.before.before.before.requires.0 in omega arith
+overflow_cast-w-2 : tie.Need-overflow_cast-w-2
+overflow_cast-w-2 c = let k = few c.before.before.before.requires.0 in omega arith
 
-slice-write-w-2 : tie.Need-slice-write-w-2
-slice-write-w-2 c = simp length-set (omega arith)
+bounds-w-n : tie.Need-bounds-w-n
+bounds-w-n c = simp length-set (omega arith)
 
-put-first-requires : tie.Need-put-first-requires
-put-first-requires c κs = (few c.before.before.before.before.requires.0, simp length-set (omega arith), omega arith, omega arith)
+put_first-requires : tie.Need-put_first-requires
+put_first-requires c κs = (few c.before.before.before.before.requires.0, simp length-set (omega arith), omega arith, omega arith)
 
-same_length : tie.Need-same-length
-same_length c = simp length-set at c.before.before.put_first.auto.0
+shape_of-w : tie.Need-shape_of-w
+shape_of-w c = simp length-set at c.before.before.put_first.auto.w
 
 returns : tie.Need-returns
 unfolding next first_area
@@ -39,19 +39,19 @@ go_first_spec =
     (tie.spec
     (λ c. search rules)
     (λ c. search rules)
-    cast-next
-    cast-w
-    add-w
+    overflow_cast-next
+    overflow_cast-w
+    overflow_add-w
     (λ c. search rules)
     (λ c. search rules)
-    cast-w-2
+    overflow_cast-w-2
     (λ c. search rules)
     (λ c. search rules)
     (λ c. search rules)
-    slice-write-w-2
+    bounds-w-n
     (λ c. search rules)
-    put-first-requires
+    put_first-requires
     (λ c. search rules)
     (λ c. search rules)
-    same_length
+    shape_of-w
     returns)

@@ -7,24 +7,24 @@ use borrow.Author.Rules.{rules}
 use Rattle.trace_steps.proofs.go_second.Statement.{statement}
 use Rattle.trace_steps.proofs.go_second.Tie as tie
 
-cast-next : tie.Need-overflow-cast-next
-cast-next c = omega (arith, c.shared-slice-known2.given c.before.before.before.args.s.dart)
+overflow_cast-next : tie.Need-overflow_cast-next
+overflow_cast-next c = omega (arith, c.shared_slice_known-2-1.given c.before.before.before.args.s.dart)
 
-second-next-requires : tie.Need-second-next-requires
+second_next-second-requires : tie.Need-second_next-second-requires
 unfolding next
-second-next-requires c κs =
-    let p = c.before.before.before.before.requires in
+second_next-second-requires c κs =
+    let p = c.before.before.before.requires in
     let k = few p.0 in
     let a = after_bound p.0 _ p.1.dart in
     let o = over_bound p.0 _ p.1.dart in
     (omega arith, omega arith)
 
-put-second-requires : tie.Need-put-second-requires
-put-second-requires c κs = (few c.before.before.before.before.before.before.requires.0, search rules, search rules, search rules)
+put_second-requires : tie.Need-put_second-requires
+put_second-requires c κs = (few c.before.before.before.before.before.requires.0, search rules, search rules, search rules)
 
 returns : tie.Need-returns
 unfolding next second_area
-returns c = (refl, rw c.before.before.before.before.second-next.ensures at c.before.before.put_second.ensures)
+returns c = (refl, rw c.before.before.before.before.second_next-second.ensures at c.before.before.put_second.ensures)
 
 pub go_second_spec : {M : Type 1} → statement M
 go_second_spec =
@@ -32,9 +32,9 @@ go_second_spec =
     (tie.spec
     (λ c. search rules)
     (λ c. search rules)
-    cast-next
-    second-next-requires
-    put-second-requires
+    overflow_cast-next
+    second_next-second-requires
+    put_second-requires
     (λ c. search rules)
     (λ c. search rules)
     returns)

@@ -4,20 +4,20 @@ use borrow.Author.Rules.{rules}
 use Rattle.trace_steps.proofs.is_last.Statement.{statement}
 use Rattle.trace_steps.proofs.is_last.Tie as tie
 
-returns : tie.Need-returns
-returns c = last_none _ _ _ _ c.if1.true
+returns-then-waiting-eq0 : tie.Need-returns-then-waiting-eq0
+returns-then-waiting-eq0 c = last_none _ _ _ _ c.if-waiting-eq0.true
 
-returns-2 : tie.Need-returns-2
-returns-2 c = let n = c.before.if1.false in last_top _ _ _ _ (omega arith)
+returns : tie.Need-returns
+returns c = let n = c.before.if-waiting-eq0.false in last_top _ _ _ _ (omega arith)
 
 pub is_last_spec : {M : Type 1} → statement M
 is_last_spec =
     tie.close
     (tie.spec
-    returns
+    returns-then-waiting-eq0
     (λ c. search rules)
     (λ c. search rules)
     (λ c. search rules)
     (λ c. search rules)
     (λ c. search rules)
-    returns-2)
+    returns)

@@ -9,183 +9,183 @@ use Rattle.tracing.proofs.visit.Statement.{statement}
 use Rattle.tracing.proofs.visit.Tie as tie
 
 -- where the mark of the opposite is read
-abbrev start : tie.After-slice-known2 → tie.Start
+abbrev start : tie.After-slice_known-2-1 → tie.Start
 start a = a.before.before.before.before
 
-met : (a : tie.After-slice-known2) →
+met : (a : tie.After-slice_known-2-1) →
     let s = start a in
     visits.Met s.args.family s.args.order.now s.args.i s.args.w.now s.args.s a.before.other.result
 met a = let s = start a in record { traced = s.pre.0; within = s.pre.1; away = s.pre.2; over = a.before.other.ensures }
 
-other-requires : tie.Need-other-requires
-other-requires c κs =
+other-o-requires : tie.Need-other-o-requires
+other-o-requires c κs =
     let s = c.before.before in
     let r = stepping.placed _ _ _ _ _ s.requires.0 s.requires.1 s.requires.2 in
     let f = few s.requires.0.ground in
     omega (arith, r.dart)
 
-mul-mark : tie.Need-overflow-mul-mark
-mul-mark c =
+offset_bounds-w-o : tie.Need-offset_bounds-w-o
+offset_bounds-w-o c =
     let s = c.before.before.before in
-    let r = visits.over_in (record { traced = s.requires.0; within = s.requires.1; away = s.requires.2; over = c.other.ensures }) in
+    let r = visits.over_in (record { traced = s.requires.0; within = s.requires.1; away = s.requires.2; over = c.other-o.ensures }) in
     let f = few s.requires.0.ground in
     omega arith
 
-slice-read-mark : tie.Need-slice-read-mark
-slice-read-mark c =
+bounds-w-o : tie.Need-bounds-w-o
+bounds-w-o c =
     let a = c in
     let r = visits.over_in (met a) in
     let m = (met a).traced.ground.room in
     omega arith
 
-go-down-requires : tie.Need-go-down-requires
-go-down-requires c κs =
+go_down-requires : tie.Need-go_down-requires
+go_down-requires c κs =
     let a = c.before.before in
-    ((met a).traced.ground, visits.ranges (met a), visits.over_in (met a), visits.blank (met a) c.before.if1.true)
+    ((met a).traced.ground, visits.ranges (met a), visits.over_in (met a), visits.blank (met a) c.before.if-mark-eq0.true)
 
-same_length : tie.Need-same-length
-same_length c = search rules
+shape_of-w-then-mark-eq0 : tie.Need-shape_of-w-then-mark-eq0
+shape_of-w-then-mark-eq0 c = search rules
 
-returns : tie.Need-returns
-returns c =
+returns-then-mark-eq0 : tie.Need-returns-then-mark-eq0
+returns-then-mark-eq0 c =
     let a = c.before.before.before.before.before in
-    let v = c.before.before.go-down in
-    visits.visited_down (met a) c.before.before.before.before.if1.true _ _ v.auto.1.1.0 v.ensures
+    let v = c.before.before.go_down in
+    visits.visited_down (met a) c.before.before.before.before.if-mark-eq0.true _ _ v.auto.1.1.0 v.ensures
 
-loop-refused-requires : tie.Need-loop-refused-requires
-loop-refused-requires c κs =
+loop_refused-requires : tie.Need-loop_refused-requires
+loop_refused-requires c κs =
     let a = c.before.before.before in
     let r = visits.ranges (met a) in
     let m = (met a).traced.ground.room in
     omega (arith, r.dart)
 
-same-length-2 : tie.Need-same-length-2
-same-length-2 c = search rules
+shape_of-w-then-loop_refused : tie.Need-shape_of-w-then-loop_refused
+shape_of-w-then-loop_refused c = search rules
 
-returns-2 : tie.Need-returns-2
-returns-2 c =
+returns-then-loop_refused : tie.Need-returns-then-loop_refused
+returns-then-loop_refused c =
     let a = c.before.before.before.before.before in
-    let t = c.before.before.before.if2.true in
-    visits.unfit_first (met a) (omega arith) (sym c.before.loop_refused.ensures ∙ c.if3.true)
+    let t = c.before.before.if-mark-ge-SEEN.true in
+    visits.unfit_first (met a) (omega arith) (sym c.before.loop_refused.ensures ∙ c.if-loop_refused.true)
 
-go-first-requires : tie.Need-go-first-requires
-go-first-requires c κs =
+go_first-requires : tie.Need-go_first-requires
+go_first-requires c κs =
     let a = c.before.before.before.before.before.before in
     ((met a).traced.ground, visits.ranges (met a))
 
-same-length-3 : tie.Need-same-length-3
-same-length-3 c = search rules
+shape_of-w-then-mark-ge-SEEN : tie.Need-shape_of-w-then-mark-ge-SEEN
+shape_of-w-then-mark-ge-SEEN c = search rules
 
-returns-3 : tie.Need-returns-3
-returns-3 c =
+returns-then-mark-ge-SEEN : tie.Need-returns-then-mark-ge-SEEN
+returns-then-mark-ge-SEEN c =
     let a = c.before.before.before.before.before.before.before.before.before in
-    let v = c.before.before.go-first in
-    let t = c.before.before.before.before.before.before.before.if2.true in
-    visits.visited_first (met a) (omega arith) (visits.loop_left _ _ _ (sym c.before.before.before.before.before.loop_refused.ensures ∙ c.before.before.before.before.if3.false)) _ _ v.auto.1.1.0 v.ensures.0 v.ensures.1
+    let v = c.before.before.go_first in
+    let t = c.before.before.before.before.before.before.if-mark-ge-SEEN.true in
+    visits.visited_first (met a) (omega arith) (visits.loop_left _ _ _ (sym c.before.before.before.before.before.loop_refused.ensures ∙ c.before.before.before.before.if-loop_refused.false)) _ _ v.auto.1.1.0 v.ensures.0 v.ensures.1
 
-leaf-refused-requires : tie.Need-leaf-refused-requires
-leaf-refused-requires c κs = let a = c.before.before.before in (visits.ranges (met a)).dart
+leaf_refused-requires : tie.Need-leaf_refused-requires
+leaf_refused-requires c κs = let a = c.before.before.before in (visits.ranges (met a)).dart
 
-returns-4 : tie.Need-returns-4
-returns-4 c =
+returns-then-leaf_refused : tie.Need-returns-then-leaf_refused
+returns-then-leaf_refused c =
     let a = c.before.before.before.before.before in
-    let lo = c.before.before.if4.true in
-    let hi = c.before.before.before.if2.false in
-    visits.unfit_up (met a) (omega arith) (omega arith) (sym c.before.leaf-refused.ensures ∙ c.if5.true)
+    let lo = c.before.before.if-mark-ge-DOWN.true in
+    let hi = c.before.before.before.if-mark-ge-SEEN.false in
+    visits.unfit_up (met a) (omega arith) (omega arith) (sym c.before.leaf_refused.ensures ∙ c.if-leaf_refused.true)
 
-cast-go-up : tie.Need-overflow-cast-go-up
-cast-go-up c = search rules
+overflow_cast-mark : tie.Need-overflow_cast-mark
+overflow_cast-mark c = search rules
 
-go-up-requires : tie.Need-go-up-requires
-go-up-requires c κs =
+go_up-requires : tie.Need-go_up-requires
+go_up-requires c κs =
     let a = c.before.before.before.before.before.before in
-    let lo = c.before.before.before.if4.true in
-    let hi = c.before.before.before.before.if2.false in
+    let lo = c.before.before.before.if-mark-ge-DOWN.true in
+    let hi = c.before.before.before.before.if-mark-ge-SEEN.false in
     ((met a).traced.ground, visits.ranges (met a), visits.over_in (met a), visits.up_range (met a) (omega arith) (omega arith))
 
-same-length-4 : tie.Need-same-length-4
-same-length-4 c = search rules
+shape_of-w-then-mark-ge-DOWN : tie.Need-shape_of-w-then-mark-ge-DOWN
+shape_of-w-then-mark-ge-DOWN c = search rules
 
-returns-5 : tie.Need-returns-5
-returns-5 c =
+returns-then-mark-ge-DOWN : tie.Need-returns-then-mark-ge-DOWN
+returns-then-mark-ge-DOWN c =
     let a = c.before.before.before.before.before.before.before.before.before in
     let v = c.before.before.go_up in
-    let lo = c.before.before.before.before.before.before.if4.true in
-    let hi = c.before.before.before.before.before.before.before.if2.false in
-    visits.visited_up (met a) (omega arith) (omega arith) (visits.leaf_left _ _ _ (sym c.before.before.before.before.before.leaf-refused.ensures ∙ c.before.before.before.before.if5.false)) _ _ v.auto.1.1.0 v.ensures.0 v.ensures.1
+    let lo = c.before.before.before.before.before.before.if-mark-ge-DOWN.true in
+    let hi = c.before.before.before.before.before.before.before.if-mark-ge-SEEN.false in
+    visits.visited_up (met a) (omega arith) (omega arith) (visits.leaf_left _ _ _ (sym c.before.before.before.before.before.leaf_refused.ensures ∙ c.before.before.before.before.if-leaf_refused.false)) _ _ v.auto.1.1.0 v.ensures.0 v.ensures.1
 
-sub-f : tie.Need-overflow-sub-f
-sub-f c =
+overflow_sub-f : tie.Need-overflow_sub-f
+overflow_sub-f c =
     let a = c.before.before.before in
-    let hi = c.if4.false in
-    let no = c.before.before.if1.false in
+    let hi = c.if-mark-ge-DOWN.false in
+    let no = c.before.before.if-mark-eq0.false in
     let r = visits.end_range (met a) (omega arith) (omega arith) in
     omega (arith, r.0)
 
-is-last-requires : tie.Need-is-last-requires
-is-last-requires c κs =
+is_last-requires : tie.Need-is_last-requires
+is_last-requires c κs =
     let a = c.before.before.before.before in
     let r = visits.ranges (met a) in
     (few (met a).traced.ground, (met a).traced.ground.room, omega (arith, r.waiting, r.position))
 
-same-length-5 : tie.Need-same-length-5
-same-length-5 c = search rules
+shape_of-w-then-not-is_last : tie.Need-shape_of-w-then-not-is_last
+shape_of-w-then-not-is_last c = search rules
 
-returns-6 : tie.Need-returns-6
-returns-6 c =
+returns-then-not-is_last : tie.Need-returns-then-not-is_last
+returns-then-not-is_last c =
     let a = c.before.before.before.before.before.before in
-    let hi = c.before.before.before.if4.false in
-    let some = c.before.before.before.before.before.if1.false in
-    visits.unfit_second (met a) (omega arith) (omega arith) (sym c.before.is_last.ensures ∙ not-true _ c.if6.true)
+    let hi = c.before.before.if-mark-ge-DOWN.false in
+    let some = c.before.before.before.before.if-mark-eq0.false in
+    visits.unfit_second (met a) (omega arith) (omega arith) (sym c.before.is_last.ensures ∙ not-true _ c.if-not-is_last.true)
 
-cast-go-second : tie.Need-overflow-cast-go-second
-cast-go-second c = search rules
+overflow_cast-f : tie.Need-overflow_cast-f
+overflow_cast-f c = search rules
 
-go-second-requires : tie.Need-go-second-requires
-go-second-requires c κs =
+go_second-requires : tie.Need-go_second-requires
+go_second-requires c κs =
     let a = c.before.before.before.before.before.before.before in
-    let hi = c.before.before.before.before.if4.false in
-    let no = c.before.before.before.before.before.before.if1.false in
-    ((met a).traced.ground, visits.ranges (met a), (visits.end_range (met a) (omega arith) (omega arith)).1, visits.has_waiting (met a) (omega arith) (omega arith) (sym c.before.before.is_last.ensures ∙ not-false _ c.before.if6.false))
+    let hi = c.before.before.before.if-mark-ge-DOWN.false in
+    let no = c.before.before.before.before.before.if-mark-eq0.false in
+    ((met a).traced.ground, visits.ranges (met a), (visits.end_range (met a) (omega arith) (omega arith)).1, visits.has_waiting (met a) (omega arith) (omega arith) (sym c.before.before.is_last.ensures ∙ not-false _ c.before.if-not-is_last.false))
 
-same-length-6 : tie.Need-same-length-6
-same-length-6 c = search rules
+shape_of-w : tie.Need-shape_of-w
+shape_of-w c = search rules
 
-returns-7 : tie.Need-returns-7
-returns-7 c =
+returns : tie.Need-returns
+returns c =
     let a = c.before.before.before.before.before.before.before.before.before.before in
-    let v = c.before.before.go-second in
-    let hi = c.before.before.before.before.before.before.before.if4.false in
-    let no = c.before.before.before.before.before.before.before.before.before.if1.false in
-    visits.visited_second (met a) (omega arith) (omega arith) (sym c.before.before.before.before.before.is_last.ensures ∙ not-false _ c.before.before.before.before.if6.false) _ _ v.auto.1.1.0 v.ensures.0 v.ensures.1
+    let v = c.before.before.go_second in
+    let hi = c.before.before.before.before.before.before.if-mark-ge-DOWN.false in
+    let no = c.before.before.before.before.before.before.before.before.if-mark-eq0.false in
+    visits.visited_second (met a) (omega arith) (omega arith) (sym c.before.before.before.before.before.is_last.ensures ∙ not-false _ c.before.before.before.before.if-not-is_last.false) _ _ v.auto.1.1.0 v.ensures.0 v.ensures.1
 
 pub visit_spec : {M : Type 1} → statement M
 visit_spec =
     tie.close
     (tie.spec
-    other-requires
-    mul-mark
-    slice-read-mark
-    go-down-requires
-    same_length
-    returns
-    loop-refused-requires
-    same-length-2
-    returns-2
-    go-first-requires
-    same-length-3
-    returns-3
-    leaf-refused-requires
-    returns-4
-    cast-go-up
-    go-up-requires
-    same-length-4
-    returns-5
-    sub-f
-    is-last-requires
-    same-length-5
-    returns-6
-    cast-go-second
-    go-second-requires
-    same-length-6
-    returns-7)
+    other-o-requires
+    offset_bounds-w-o
+    bounds-w-o
+    go_down-requires
+    shape_of-w-then-mark-eq0
+    returns-then-mark-eq0
+    loop_refused-requires
+    shape_of-w-then-loop_refused
+    returns-then-loop_refused
+    go_first-requires
+    shape_of-w-then-mark-ge-SEEN
+    returns-then-mark-ge-SEEN
+    leaf_refused-requires
+    returns-then-leaf_refused
+    overflow_cast-mark
+    go_up-requires
+    shape_of-w-then-mark-ge-DOWN
+    returns-then-mark-ge-DOWN
+    overflow_sub-f
+    is_last-requires
+    shape_of-w-then-not-is_last
+    returns-then-not-is_last
+    overflow_cast-f
+    go_second-requires
+    shape_of-w
+    returns)

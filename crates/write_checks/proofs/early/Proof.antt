@@ -14,81 +14,81 @@ use Rattle.write_checks.proofs.early.Tie as tie
 
 -- ---- what is known once 2, then 3, then 4 and 17, then 6 are passed
 
-kind : (c : tie.Else1) → is_kind c.before.before.before.args.kind ≡ true
-kind c = sym c.before.is-kind.ensures ∙ not-false _ c.if1.false
+kind : (c : tie.Else-not-is_kind) → is_kind c.before.before.before.args.kind ≡ true
+kind c = sym c.before.is_kind.ensures ∙ not-false _ c.if-not-is_kind.false
 
-count : (c : tie.Else2) → dart_count_fits (length c.before.before.before.before.before.args.order.now) ≡ true
-count c = sym c.before.dart-count-fits.ensures ∙ not-false _ c.if2.false
+count : (c : tie.Else-not-dart_count_fits) → dart_count_fits (length c.before.before.before.before.before.args.order.now) ≡ true
+count c = sym c.before.dart_count_fits.ensures ∙ not-false _ c.if-not-dart_count_fits.false
 
-named : (c : tie.Else4) → let a = c.before.before.before.before.before.before.before.before.args in
+named : (c : tie.Else-outside_refused) → let a = c.before.before.before.before.before.before.before.before.args in
     (is_kind a.kind ≡ true) × (dart_count_fits (length a.order.now) ≡ true) × (a.root < length a.order.now)
     × (outside_refused a.kind (record { rotation = a.order.now; root = a.root; outside = a.outside }) ≡ false)
 unfolding outside_refused
 named c = (
   kind c.before.before.before.before.before,
   count c.before.before.before,
-  c.before.before.if3.false,
-  sym c.before.outside-refused.ensures ∙ c.if4.false,
+  c.before.before.if-root-n.false,
+  sym c.before.outside_refused.ensures ∙ c.if-outside_refused.false,
 )
 
-good : (c : tie.Else4) → let a = c.before.before.before.before.before.before.before.before.args in a.good ≡ is_permutation a.order.now
+good : (c : tie.Else-outside_refused) → let a = c.before.before.before.before.before.before.before.before.args in a.good ≡ is_permutation a.order.now
 good c = c.before.before.before.before.before.before.before.before.requires (count_parts _ (named c).1).2
 
-entries : (c : tie.Else5) → is_permutation c.before.before.before.before.before.before.before.before.before.args.order.now ≡ true
-entries c = sym (good c.before) ∙ not-false _ c.if5.false
+entries : (c : tie.Else-not-good) → is_permutation c.before.before.before.before.before.before.before.before.before.args.order.now ≡ true
+entries c = sym (good c.before) ∙ not-false _ c.if-not-good.false
 
 -- ---- the refusals
 
-returns : tie.Need-returns
-returns c = two _ _ _ _ (sym c.before.is-kind.ensures ∙ not-true _ c.if1.true)
+returns-then-not-is_kind : tie.Need-returns-then-not-is_kind
+returns-then-not-is_kind c = two _ _ _ _ (sym c.before.is_kind.ensures ∙ not-true _ c.if-not-is_kind.true)
 
-returns-2 : tie.Need-returns-2
-returns-2 c = three _ _ _ _ (kind c.before.before) (sym c.before.dart-count-fits.ensures ∙ not-true _ c.if2.true)
+returns-then-not-dart_count_fits : tie.Need-returns-then-not-dart_count_fits
+returns-then-not-dart_count_fits c = three _ _ _ _ (kind c.before.before) (sym c.before.dart_count_fits.ensures ∙ not-true _ c.if-not-dart_count_fits.true)
 
-returns-3 : tie.Need-returns-3
-returns-3 c = four _ _ _ _ (kind c.before.before.before) (count c.before) c.if3.true
+returns-then-root-n : tie.Need-returns-then-root-n
+returns-then-root-n c = four _ _ _ _ (kind c.before.before.before) (count c.before) c.if-root-n.true
 
-returns-4 : tie.Need-returns-4
+returns-then-outside_refused : tie.Need-returns-then-outside_refused
 unfolding outside_refused
-returns-4 c =
-    seventeen _ _ _ _ (kind c.before.before.before.before.before) (count c.before.before.before) c.before.before.if3.false
-    (sym c.before.outside-refused.ensures ∙ c.if4.true)
+returns-then-outside_refused c =
+    seventeen _ _ _ _ (kind c.before.before.before.before.before) (count c.before.before.before) c.before.before.if-root-n.false
+    (sym c.before.outside_refused.ensures ∙ c.if-outside_refused.true)
 
-returns-5 : tie.Need-returns-5
-returns-5 c =
+returns-then-not-good : tie.Need-returns-then-not-good
+returns-then-not-good c =
     let q = named c.before in
-    six _ _ _ _ q.0 q.1 q.2 q.3 (sym (good c.before) ∙ not-true _ c.if5.true)
+    six _ _ _ _ q.0 q.1 q.2 q.3 (sym (good c.before) ∙ not-true _ c.if-not-good.true)
 
-mul-if6 : tie.Need-overflow-mul-if6
-mul-if6 c = let n = count_parts _ (named c.before).1 in search rules
+overflow_mul-m : tie.Need-overflow_mul-m
+overflow_mul-m c = let n = count_parts _ (named c.before).1 in search rules
 
-returns-6 : tie.Need-returns-6
+returns-then-room-m : tie.Need-returns-then-room-m
 unfolding edges
-returns-6 c =
+returns-then-room-m c =
     let q = named c.before.before in
-    seven _ _ _ _ q.0 q.1 q.2 q.3 (entries c.before) c.if6.true
+    seven _ _ _ _ q.0 q.1 q.2 q.3 (entries c.before) c.if-room-m.true
 
-cast-record-length : tie.Need-overflow-cast-record-length
-cast-record-length c = let n = count_parts _ (named c.before.before.before).1 in omega arith
+overflow_cast-m : tie.Need-overflow_cast-m
+overflow_cast-m c = let n = count_parts _ (named c.before.before.before).1 in omega arith
 
-returns-7 : tie.Need-returns-7
+returns-then-kind-eq3 : tie.Need-returns-then-kind-eq3
 unfolding edges
-returns-7 c =
+returns-then-kind-eq3 c =
     let q = named c.before.before.before in
-    later _ _ _ _ q.0 q.1 q.2 q.3 (entries c.before.before) c.before.if6.false c.if7.true
+    later _ _ _ _ q.0 q.1 q.2 q.3 (entries c.before.before) c.before.if-room-m.false c.if-kind-eq3.true
 
-returns-8 : tie.Need-returns-8
+returns-then-space-record_length : tie.Need-returns-then-space-record_length
 unfolding edges
-returns-8 c =
+returns-then-space-record_length c =
     let q = named c.before.before.before.before.before in
-    eight _ _ _ _ q.0 q.1 q.2 q.3 (entries c.before.before.before.before) c.before.before.before.if6.false c.before.before.if7.false
+    eight _ _ _ _ q.0 q.1 q.2 q.3 (entries c.before.before.before.before) c.before.before.before.if-room-m.false c.before.before.if-kind-eq3.false
     (omega (arith, c.before.record_length.ensures))
 
-returns-9 : tie.Need-returns-9
+returns : tie.Need-returns
 unfolding edges
-returns-9 c =
+returns c =
     let q = named c.before.before.before.before.before in
-    passed _ _ _ _ q.0 q.1 q.2 q.3 (entries c.before.before.before.before) c.before.before.before.if6.false c.before.before.if7.false
+    passed _ _ _ _ q.0 q.1 q.2 q.3 (entries c.before.before.before.before) c.before.before.before.if-room-m.false c.before.before.if-kind-eq3.false
     (omega (arith, c.before.record_length.ensures))
 
 pub early_spec : {M : Type 1} → statement M
@@ -96,17 +96,17 @@ early_spec =
     tie.close
     (tie.spec
     (λ c κs. search rules)
-    returns
+    returns-then-not-is_kind
     (λ c κs. search rules)
-    returns-2
-    returns-3
+    returns-then-not-dart_count_fits
+    returns-then-root-n
     (λ c κs. search rules)
-    returns-4
-    returns-5
-    mul-if6
-    returns-6
-    returns-7
-    cast-record-length
+    returns-then-outside_refused
+    returns-then-not-good
+    overflow_mul-m
+    returns-then-room-m
+    returns-then-kind-eq3
+    overflow_cast-m
     (λ c κs. search rules)
-    returns-8
-    returns-9)
+    returns-then-space-record_length
+    returns)

@@ -5,31 +5,31 @@ use borrow.Author.Rules.{rules}
 use Rattle.write_checks.proofs.entries_good.Statement.{statement}
 use Rattle.write_checks.proofs.entries_good.Tie as tie
 
+returns-then-n-gt8192 : tie.Need-returns-then-n-gt8192
+returns-then-n-gt8192 c = let h = c.if-n-gt8192.true in record { answer = λ l. absurd (omega arith); zeros = λ e. absurd (false≢true e); kept = refl }
+
+is_permutation-requires : tie.Need-is_permutation-requires
+is_permutation-requires c κs = search rules
+
+returns-then-w-n : tie.Need-returns-then-w-n
+returns-then-w-n c = let h = c.before.if-w-n.true in record { answer = λ l. c.is_permutation.ensures; zeros = λ e l. absurd (omega arith); kept = refl }
+
+is_permutation_in-requires : tie.Need-is_permutation_in-requires
+is_permutation_in-requires c κs = search rules
+
+shape_of-w : tie.Need-shape_of-w
+shape_of-w c = search rules
+
 returns : tie.Need-returns
-returns c = let h = c.if1.true in record { answer = λ l. absurd (omega arith); zeros = λ e. absurd (false≢true e); kept = refl }
-
-is-permutation-requires : tie.Need-is-permutation-requires
-is-permutation-requires c κs = search rules
-
-returns-2 : tie.Need-returns-2
-returns-2 c = let h = c.before.if2.true in record { answer = λ l. c.is-permutation.ensures; zeros = λ e l. absurd (omega arith); kept = refl }
-
-is-permutation-in-requires : tie.Need-is-permutation-in-requires
-is-permutation-in-requires c κs = search rules
-
-same_length : tie.Need-same-length
-same_length c = search rules
-
-returns-3 : tie.Need-returns-3
-returns-3 c = let v = c.before.before.is-permutation-in.ensures in record { answer = λ l. v.answer; zeros = λ e l. v.zeros e; kept = v.kept }
+returns c = let v = c.before.before.is_permutation_in.ensures in record { answer = λ l. v.answer; zeros = λ e l. v.zeros e; kept = v.kept }
 
 pub entries_good_spec : {M : Type 1} → statement M
 entries_good_spec =
     tie.close
     (tie.spec
-    returns
-    is-permutation-requires
-    returns-2
-    is-permutation-in-requires
-    same_length
-    returns-3)
+    returns-then-n-gt8192
+    is_permutation-requires
+    returns-then-w-n
+    is_permutation_in-requires
+    shape_of-w
+    returns)

@@ -4,11 +4,11 @@ use borrow.Author.Rules.{rules}
 use Rattle.write_checks.proofs.outside_refused.Statement.{statement}
 use Rattle.write_checks.proofs.outside_refused.Tie as tie
 
-returns : tie.Need-returns
-returns c = rw (sym c.before.stores-outside.ensures ∙ c.if1.true) (not_below c.before.before.args.n c.before.before.args.outside)
+returns-then-stores_outside : tie.Need-returns-then-stores_outside
+returns-then-stores_outside c = rw (sym c.before.stores_outside.ensures ∙ c.if-stores_outside.true) (not_below c.before.before.args.n c.before.before.args.outside)
 
-returns-2 : tie.Need-returns-2
-returns-2 c = rw (sym c.before.stores-outside.ensures ∙ c.if1.false)
+returns : tie.Need-returns
+returns c = rw (sym c.before.stores_outside.ensures ∙ c.if-stores_outside.false)
 
 pub outside_refused_spec : {M : Type 1} → statement M
-outside_refused_spec = tie.close (tie.spec (λ c κs. search rules) returns returns-2)
+outside_refused_spec = tie.close (tie.spec (λ c κs. search rules) returns-then-stores_outside returns)

@@ -14,25 +14,25 @@ use Rattle.writing.proofs.made.Statement.{statement}
 use Rattle.writing.proofs.made.Tie as tie
 
 -- a table of which this is said
-stands : (c : tie.Else1) (t : Table) → c.before.before.before.before.before.args.loaded ≡ not (table_refused t) → table_refused t ≡ false
-stands c t told = not-true _ (sym told ∙ not-false _ c.if1.false)
+stands : (c : tie.Else-not-loaded) (t : Table) → c.before.before.before.before.before.args.loaded ≡ not (table_refused t) → table_refused t ≡ false
+stands c t told = not-true _ (sym told ∙ not-false _ c.if-not-loaded.false)
 
 -- the early refusals are passed
-abbrev start : tie.Else2 → tie.Start
+abbrev start : tie.Else-r-ne0 → tie.Start
 start c = c.before.before.before.before.before.before.before.before.before.before.before
 
-passes : (c : tie.Else2) → let a = (start c).args in
+passes : (c : tie.Else-r-ne0) → let a = (start c).args in
     early_refusal a.kind (record { rotation = a.order.now; root = a.root; outside = a.outside })
-    (length c.before.before.before.before.entries-good.new.1.0) (length a.out.now) ≡ 0
-passes c = sym c.before.early.ensures ∙ c.if2.false
+    (length c.before.before.before.before.entries_good-good.new.w) (length a.out.now) ≡ 0
+passes c = sym c.before.early-r.ensures ∙ c.if-r-ne0.false
 
 -- and the plan is walked
 begun : (c : tie.After-walked) →
     let a = (start c.before.before).args in
     Begun a.kind (record { rotation = a.order.now; root = a.root; outside = a.outside }) a.w.now a.out.now
-    c.before.before.before.before.before.before.entries-good.new.1.0 c.walked.new.1.1.1.0 c.walked.result
+    c.before.before.before.before.before.before.entries_good-good.new.w c.walked.new.w c.walked.result
 begun c = record {
-  kept = c.before.before.before.before.before.before.entries-good.auto.1.0;
+  kept = c.before.before.before.before.before.before.entries_good-good.auto.w;
   passes = passes c.before.before;
   walk = c.walked.ensures;
 }
@@ -40,76 +40,76 @@ begun c = record {
 stood : (c : tie.After-walked) (t : Table) → (start c.before.before).args.loaded ≡ not (table_refused t) → table_refused t ≡ false
 stood c = stands c.before.before.before.before.before.before.before.before
 
-returns : tie.Need-returns
-returns c = λ t told same. no_table (not-false _ (sym told ∙ not-true _ c.if1.true))
+returns-then-not-loaded : tie.Need-returns-then-not-loaded
+returns-then-not-loaded c = λ t told same. no_table (not-false _ (sym told ∙ not-true _ c.if-not-loaded.true))
 
-entries-good-requires : tie.Need-entries-good-requires
-entries-good-requires c κs = search rules
+entries_good-good-requires : tie.Need-entries_good-good-requires
+entries_good-good-requires c κs = search rules
 
-early-requires : tie.Need-early-requires
-early-requires c κs = λ l. c.before.before.entries-good.ensures.answer l
+early-r-requires : tie.Need-early-r-requires
+early-r-requires c κs = λ l. c.before.before.entries_good-good.ensures.answer l
 
-same_length : tie.Need-same-length
-same_length c = search rules
+shape_of-w-then-r-ne0 : tie.Need-shape_of-w-then-r-ne0
+shape_of-w-then-r-ne0 c = search rules
 
-returns-2 : tie.Need-returns-2
-returns-2 c =
+returns-then-r-ne0 : tie.Need-returns-then-r-ne0
+returns-then-r-ne0 c =
     λ t told same.
-    turned_away (stands c.before.before.before.before.before.before t told) c.before.before.before.before.entries-good.auto.1.0
-    c.before.early.ensures c.if2.true
+    turned_away (stands c.before.before.before.before.before.before t told) c.before.before.before.before.entries_good-good.auto.w
+    c.before.early-r.ensures c.if-r-ne0.true
 
 walked-requires : tie.Need-walked-requires
 walked-requires c κs =
     let q = early_parts _ _ _ _ (passes c.before) in
-    let g = c.before.before.before.before.before.entries-good in
+    let g = c.before.before.before.before.before.entries_good-good in
     let good = g.ensures.answer (count_parts _ q.count).2 ∙ q.entries in
     (q.count, q.entries, q.root, q.room, g.ensures.zeros good (omega (arith, q.room, g.auto.1.0)))
 
 refused-requires : tie.Need-refused-requires
 refused-requires c κs =
     let a = c.before.before.before.before in
-    walk_unfit (begun a) (not-true _ c.before.if3.true)
+    walk_unfit (begun a) (not-true _ c.before.if-not-walked.true)
 
-same-length-2 : tie.Need-same-length-2
-same-length-2 c = search rules
+shape_of-w-then-not-walked : tie.Need-shape_of-w-then-not-walked
+shape_of-w-then-not-walked c = search rules
 
-returns-3 : tie.Need-returns-3
-returns-3 c =
+returns-then-not-walked : tie.Need-returns-then-not-walked
+returns-then-not-walked c =
     let a = c.before.before.before.before.before.before.before in
-    λ t told same. made_refused (begun a) (not-true _ c.before.before.before.before.if3.true) t (stood a t told) _ _ c.before.before.refused.ensures
+    λ t told same. made_refused (begun a) (not-true _ c.before.before.before.before.if-not-walked.true) t (stood a t told) _ _ c.before.before.refused.ensures
 
 laid-requires : tie.Need-laid-requires
 laid-requires c κs =
     let a = c.before.before.before.before.before in
-    ((start a.before.before).requires, walk_fits (begun a) (not-false _ c.before.before.if3.false))
+    ((start a.before.before).requires, walk_fits (begun a) (not-false _ c.before.before.if-not-walked.false))
 
-same-length-3 : tie.Need-same-length-3
-same-length-3 c = search rules
+shape_of-w : tie.Need-shape_of-w
+shape_of-w c = search rules
 
-same-length-4 : tie.Need-same-length-4
-same-length-4 c = search rules
+shape_of-out : tie.Need-shape_of-out
+shape_of-out c = search rules
 
-returns-4 : tie.Need-returns-4
-returns-4 c =
+returns : tie.Need-returns
+returns c =
     let a = c.before.before.before.before.before.before.before.before.before.before in
     λ t told same.
-    made_laid (begun a) (not-false _ c.before.before.before.before.before.before.before.if3.false) t (stood a t told) _ _ _
+    made_laid (begun a) (not-false _ c.before.before.before.before.before.before.before.if-not-walked.false) t (stood a t told) _ _ _
     (c.before.before.before.before.laid.ensures t same)
 
 pub made_spec : {M : Type 1} → statement M
 made_spec =
     tie.close
     (tie.spec
-    returns
-    entries-good-requires
-    early-requires
-    same_length
-    returns-2
+    returns-then-not-loaded
+    entries_good-good-requires
+    early-r-requires
+    shape_of-w-then-r-ne0
+    returns-then-r-ne0
     walked-requires
     refused-requires
-    same-length-2
-    returns-3
+    shape_of-w-then-not-walked
+    returns-then-not-walked
     laid-requires
-    same-length-3
-    same-length-4
-    returns-4)
+    shape_of-w
+    shape_of-out
+    returns)

@@ -10,13 +10,13 @@ use Rattle.writing.proofs.walked.Tie as tie
 walk-requires : tie.Need-walk-requires
 walk-requires c κs = c.before.before.before.before.requires
 
-same_length : tie.Need-same-length
-same_length c = search rules
+shape_of-w-then-kind-eq3 : tie.Need-shape_of-w-then-kind-eq3
+shape_of-w-then-kind-eq3 c = search rules
 
-returns : tie.Need-returns
-returns c =
+returns-then-kind-eq3 : tie.Need-returns-then-kind-eq3
+returns-then-kind-eq3 c =
     let pre = c.before.before.before.before.before.before.before.requires in
-    let three = c.before.before.before.before.if1.true in
+    let three = c.before.before.before.before.if-kind-eq3.true in
     let v = c.before.before.walk.ensures in
     record {
       kept = v.kept;
@@ -32,14 +32,14 @@ family-requires c κs = search rules
 walk-requires-2 : tie.Need-walk-requires-2
 walk-requires-2 c κs = c.before.before.before.before.before.requires
 
-same-length-2 : tie.Need-same-length-2
-same-length-2 c = search rules
+shape_of-w : tie.Need-shape_of-w
+shape_of-w c = search rules
 
-returns-2 : tie.Need-returns-2
-returns-2 c =
+returns : tie.Need-returns
+returns c =
     let a = c.before.before.before.before.before.before.before.before.args in
-    let other = c.before.before.before.before.before.if1.false in
-    let v = subst (λ (f : ℕ). Traced f (record { rotation = a.order.now; root = a.root; outside = 0 }) a.w.now c.before.before.walk2.result c.before.before.walk2.new.1.1.1.0) c.before.before.before.before.family.ensures c.before.before.walk2.ensures in
+    let other = c.before.before.before.before.before.if-kind-eq3.false in
+    let v = subst (λ (f : ℕ). Traced f (record { rotation = a.order.now; root = a.root; outside = 0 }) a.w.now c.before.before.walk-2.result c.before.before.walk-2.new.w) c.before.before.before.before.family.ensures c.before.before.walk-2.ensures in
     record { kept = v.kept; fits = λ e n. v.fits e; unfit = λ e n. v.unfit e; mesh = λ e q. absurd (other q); no_mesh = λ e q. absurd (other q) }
 
 pub walked_spec : {M : Type 1} → statement M
@@ -47,9 +47,9 @@ walked_spec =
     tie.close
     (tie.spec
     walk-requires
-    same_length
-    returns
+    shape_of-w-then-kind-eq3
+    returns-then-kind-eq3
     family-requires
     walk-requires-2
-    same-length-2
-    returns-2)
+    shape_of-w
+    returns)

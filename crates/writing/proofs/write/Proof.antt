@@ -11,7 +11,7 @@ unfolding zeros write_answer written_output
 returns c =
     let m = c.before.before.before.before.before.before.before.before in
     let l = m.before.before.before.before.before in
-    let made = m.made.ensures l.before.before.before.before.args.table l.is-loaded.ensures refl in
+    let made = m.made-r.ensures l.before.before.before.before.args.table l.is_loaded-loaded.ensures refl in
     record {
       answered = made.answered;
       filled = made.filled;
