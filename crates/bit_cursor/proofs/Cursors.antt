@@ -12,7 +12,7 @@ use lib.ListN.{get_or}
 use Rattle.packing.specs.Unpack.{bits}
 use Rattle.packing.specs.Payload.{payload_bits}
 use Rattle.unpacker.specs.Unpacked.{labels_at}
-use Rattle.padding.proofs.Payload.{bit_place}
+use Rattle.unpacker.proofs.Payload.{bit_place, labels_in_same}
 use Rattle.bit_window.specs.Window.{Holds}
 use Rattle.bit_window.proofs.Window.{holds_less, holds_next}
 use Rattle.bit_cursor.specs.declared.Cursor.{Cursor}
@@ -32,11 +32,7 @@ module _ (bs : List ℕ) (c : Cursor) where
 pub sees_tree_bit : (ps : List ℕ) (m : ℕ) (c : Cursor) → Sees (bits ps) c 1 → c.bits < 2 * m → (next_bit c).value ≡ get_or (payload_bits m ps) c.bits 0
 sees_tree_bit ps m c h l = sees_bit (bits ps) c h ∙ bit_place ps m c.bits l
 
-pub labelled_kept : (m : ℕ) (ps w w' : List ℕ) → labels_at m w' ≡ labels_at m w → Labelled m ps w → Labelled m ps w'
-labelled_kept m ps w w' e g = record {
-  some_edge = g.some_edge;
-  few_edges = g.few_edges;
-  bits_room = g.bits_room;
-  label_count = rw e g.label_count;
-  labels_small = rw e g.labels_small;
-}
+pub labelled_kept : (f m : ℕ) (ps w w' : List ℕ) → labels_at m w' ≡ labels_at m w → Labelled f m ps w → Labelled f m ps w'
+labelled_kept f m ps w w' e g =
+    let same = labels_in_same f m ps w w' e in
+    record { has = g.has; sized = g.sized; bits_room = g.bits_room; label_count = rw same g.label_count; labels_small = rw same g.labels_small }

@@ -1,22 +1,23 @@
 -- The cursor c on tree bits bs and labels ls.
 --
---   Labelled m ps w       the payload ps has tree bits for m edges, and the work area w their labels
+--   Labelled f m ps w     ps is a payload of family f, and its labels are where they belong
 --   Sees bs c n           the next n bits are in the cursor's word
 --   past_bit c, past_label c   the cursor moved on past a bit, and past a label
 --   next_bit c, next_label ls c   the next bit and the next label, each with the cursor moved on
 use Rattle.std.specs.Prelude.{ℕ, ◌+◌, ◌*◌, ◌/◌, ◌^◌, ◌≤◌, ◌≡◌, true, List, length, get_or}
 use Rattle.model.specs.Numbers.{all_below}
-use Rattle.unpacker.specs.Unpacked.{labels_at}
+use Rattle.packing.specs.Payload.{has_labels, Sized}
+use Rattle.unpacker.specs.Unpacked.{labels_in}
 use Rattle.bit_window.specs.Window.{shifted, Holds}
 use Rattle.bit_cursor.specs.declared.Cursor.{Cursor}
 use Rattle.bit_cursor.specs.declared.Next.{Next}
 
-pub record Labelled (m : ℕ) (ps w : List ℕ) : Type 0 where
-  pub some_edge : 1 ≤ m
-  pub few_edges : m ≤ 4096
+pub record Labelled (f m : ℕ) (ps w : List ℕ) : Type 0 where
+  pub has : has_labels f ≡ true
+  pub sized : Sized f m ps
   pub bits_room : 2 * m ≤ 8 * length ps
-  pub label_count : length (labels_at m w) ≡ m
-  pub labels_small : all_below 3 (labels_at m w) ≡ true
+  pub label_count : length (labels_in f m ps w) ≡ m
+  pub labels_small : all_below 3 (labels_in f m ps w) ≡ true
 
 abbrev pub Sees : List ℕ → Cursor → ℕ → Type 0
 Sees bs c n = Holds bs c.word c.bits n

@@ -1,8 +1,9 @@
 // A cursor on a payload of family 1 or 2: "The tree bits and the labels are read in step". It goes by value, and its methods hand back the next bit or label with
-// the cursor moved on. Bits come from a word of 64, labels from the work area. It knows no kinds, no letters and no plans.
-ghost use Rattle.std.specs.Prelude.{◌≡◌, ◌*◌, ◌^◌, ◌≤◌, ◌<◌, length};
+// the cursor moved on. Bits come from a word of 64, labels from the payload or the work area. It knows no letters and no plans.
+ghost use Rattle.std.specs.Prelude.{◌≡◌, true, ◌*◌, ◌^◌, ◌≤◌, ◌<◌, length};
 ghost use Rattle.packing.specs.Unpack.{bits};
-ghost use Rattle.unpacker.specs.Unpacked.{labels_at};
+ghost use Rattle.packing.specs.Payload.{has_labels, Sized};
+ghost use Rattle.unpacker.specs.Unpacked.{labels_in};
 ghost use Rattle.bit_cursor.specs.Cursors.{Sees, next_bit, next_label};
 
 // How many tree bits and how many labels are read. The next tree bit is the highest of the word.
@@ -52,14 +53,14 @@ impl Cursor {
     }
 
     // The next label.
-    pub fn label(self, m: usize, w: &[u16]) -> Next
-        requires { (32 * m ≤ length w.now) × (self.labels < m) }
-        ensures { result ≡ next_label (labels_at m w.now) self }
+    pub fn label(self, payload: &[u8], family: u16, m: usize, w: &[u16]) -> Next
+        requires { (has_labels family ≡ true) × Sized family m payload.now × (32 * m ≤ length w.now) × (self.labels < m) }
+        ensures { result ≡ next_label (labels_in family m payload.now w.now) self }
     {
         let word = self.word;
         let bits = self.bits;
         let labels = self.labels;
-        let value = w[work::LABELS * (2 * m) + labels];
+        let value = unpacker::label_at(payload, family, m, w, labels);
         let cursor = Cursor {
             word,
             bits,

@@ -2,15 +2,12 @@
 --
 --   holds_less            a window holds any fewer bits
 --   holds_next            and the others when it is moved on
---   length_top, holds_top   the bits that a window holds, as a list
 --   holds_moved           moved on by some bits at once
 --   bit_in_byte           a bit by its byte; past the end both are 0
 --   holds_bit, holds_byte   a bit and a byte in front of a window
 --   holds_bytes           eight bytes are a window
---   holds_two             two bytes are one
---   holds_from            the window from a bit on
 use Prim.Native.Nat.{ℕ, zero, suc, ◌+◌, ◌-◌, ◌*◌, ◌/◌, ◌%◌, ◌^◌, ◌≤◌, ◌<◌}
-use native.Mathlib.Nat.{not-suc-le-zero, le_of_suc-le-suc, add-zero, pow-suc, mul_assoc, zero-div}
+use native.Mathlib.Nat.{not-suc-le-zero, le_of_suc-le-suc, pow-suc, mul_assoc, zero-div}
 use native.Mathlib.Decide.{dec_lt}
 use native.Mathlib.Omega.{arith}
 use mathlib.Core.Path.{◌≡◌, refl, sym, ap, ◌∙◌, subst}
@@ -20,12 +17,7 @@ use Rattle.packing.specs.Unpack.{unpack, bits}
 use Rattle.packing.proofs.Digits.{digits_of_at}
 use Rattle.packing.proofs.Packed.{length_bits}
 use Rattle.packing.proofs.Place.{unpack_at}
-use Rattle.bit_window.specs.Window.{joined_bytes, shifted, top_bits, Holds}
-
-pub length_top : (n word : ℕ) → length (top_bits n word) ≡ n
-unfolding top_bits
-length_top zero word = refl
-length_top (suc n) word = ap suc (length_top n (shifted word))
+use Rattle.bit_window.specs.Window.{joined_bytes, shifted, Holds}
 
 module _ (bs : List ℕ) where
   pub holds_less : (word k n i : ℕ) → i ≤ n → Holds bs word k n → Holds bs word k i
@@ -38,14 +30,6 @@ module _ (bs : List ℕ) where
   unfolding Holds
   holds_next word k zero x = tt
   holds_next word k (suc n) (e, x) = let q : suc n - 1 ≡ n = omega arith in subst (Holds bs (shifted word) (k + 1)) (sym q) x
-
-  pub holds_top : (word k n : ℕ) → Holds bs word k n → (j : ℕ) → j < n → get_or (top_bits n word) j 0 ≡ get_or bs (k + j) 0
-  unfolding Holds top_bits
-  holds_top word k zero x j h = absurd (not-suc-le-zero h)
-  holds_top word k (suc n) (e, x) zero h = e ∙ ap (λ (i : ℕ). get_or bs i 0) (sym (add-zero k))
-  holds_top word k (suc n) (e, x) (suc j) h =
-      let p : k + 1 + j ≡ k + suc j = omega arith in
-      holds_top (shifted word) (k + 1) n x j (le_of_suc-le-suc h) ∙ ap (λ (i : ℕ). get_or bs i 0) p
 
   -- ---- in front of a window
 
@@ -128,14 +112,6 @@ module _ (s : List ℕ) (q : ℕ) where
   byte_at i b k h e j l =
       rw h.0 (bit_in_byte s (q + i) j l) ∙ ap (λ (v : ℕ). get_or (bits s) (v + j) 0) e
 
-  pub holds_two : (a b : ℕ) → Byte s q a → Byte s (q + 1) b → (word : ℕ) → word ≡ joined_bytes a b 0 0 0 0 0 0 → Holds (bits s) word (8 * q) 16
-  unfolding Holds
-  holds_two a b at_a at_b word is =
-      let a₁ = at_a.1 in let b₁ = at_b.1 in let z : q ≡ q + 0 = omega arith in
-      let k₀ = 8 * q in let k₁ = k₀ + 8 in let r = b * 2 ^ 48 in
-      holds_byte (bits s) k₀ 8 a r word (byte_at 0 a k₀ (subst (λ (v : ℕ). Byte s v a) z at_a) (omega arith)) a₁ (omega arith) (omega arith)
-      (holds_byte (bits s) k₁ 0 b 0 (r * 256) (byte_at 1 b k₁ at_b (omega arith)) b₁ (omega arith) (omega arith) tt)
-
   module _ (a b c d e f g h : ℕ) (at_a : Byte s q a) (at_b : Byte s (q + 1) b) (at_c : Byte s (q + 2) c) (at-d : Byte s (q + 3) d)
       (at-e : Byte s (q + 4) e) (at_f : Byte s (q + 5) f) (at_g : Byte s (q + 6) g) (at-h : Byte s (q + 7) h) where
     abbrev joined : ℕ
@@ -167,9 +143,9 @@ module _ (s : List ℕ) (q : ℕ) where
         (holds_byte bs k₇ 0 h 0 (r₆ * 256) (byte_at 7 h k₇ at-h (omega arith)) h₁ (omega arith) (omega arith)
         tt)))))))
 
--- the window from bit k on: up to seven of its bits stand before
-pub holds_from : (bs : List ℕ) (word k n i : ℕ) → i + 7 ≤ n → word < 2 ^ 64 → Holds bs word (8 * (k / 8)) n → Holds bs (word * 2 ^ (k % 8) % 2 ^ 64) k i
-holds_from bs word k n i l h x =
+-- the window from bit k on
+pub holds_from : (bs : List ℕ) (word k : ℕ) → word < 2 ^ 64 → Holds bs word (8 * (k / 8)) 64 → Holds bs (word * 2 ^ (k % 8) % 2 ^ 64) k 57
+holds_from bs word k h x =
     let e : 8 * (k / 8) + k % 8 ≡ k = omega arith in
-    holds_less bs (word * 2 ^ (k % 8) % 2 ^ 64) k (n - k % 8) i (omega arith)
-    (subst (λ (v : ℕ). Holds bs (word * 2 ^ (k % 8) % 2 ^ 64) v (n - k % 8)) e (holds_moved bs word (8 * (k / 8)) n (k % 8) h x))
+    holds_less bs (word * 2 ^ (k % 8) % 2 ^ 64) k (64 - k % 8) 57 (omega arith)
+    (subst (λ (v : ℕ). Holds bs (word * 2 ^ (k % 8) % 2 ^ 64) v (64 - k % 8)) e (holds_moved bs word (8 * (k / 8)) 64 (k % 8) h x))

@@ -2,19 +2,14 @@
 --
 --   joined_bytes           eight bytes as one number, the first the highest
 --   shifted word          the window moved on by one bit
---   top_bits n word        the n highest bits of the number word
 --   Holds bs word k n     the n highest bits of the number word are the bits from place k on of bs; past its end they are 0
-use Rattle.std.specs.Prelude.{ℕ, zero, suc, ◌+◌, ◌*◌, ◌/◌, ◌%◌, ◌^◌, ◌≡◌, List, [], ◌∷◌, get_or}
+use Rattle.std.specs.Prelude.{ℕ, zero, suc, ◌+◌, ◌*◌, ◌/◌, ◌%◌, ◌^◌, ◌≡◌, List, get_or}
 
 abbrev pub joined_bytes : ℕ → ℕ → ℕ → ℕ → ℕ → ℕ → ℕ → ℕ → ℕ
 joined_bytes a b c d e f g h = ((((((a * 256 + b) * 256 + c) * 256 + d) * 256 + e) * 256 + f) * 256 + g) * 256 + h
 
 abbrev pub shifted : ℕ → ℕ
 shifted word = word * 2 % 2 ^ 64
-
-unfoldable pub top_bits : ℕ → ℕ → List ℕ
-top_bits zero word = []
-top_bits (suc n) word = word / 2 ^ 63 ∷ top_bits n (shifted word)
 
 unfoldable pub Holds : List ℕ → ℕ → ℕ → ℕ → Type 0
 Holds bs word k zero = Unit

@@ -74,18 +74,6 @@ pub fn from(bytes: &[u8], k: usize) -> u64
     word << (k % 8)
 }
 
-// The window from bit k on; eight bits of it count.
-pub fn near(bytes: &[u8], k: usize) -> u64
-    requires { k < 2 ^ 32 }
-    ensures { Holds (bits bytes.now) result k 8 }
-{
-    let q = k / 8;
-    let a = byte_at(bytes, q);
-    let b = byte_at(bytes, q + 1);
-    let two = joined(a, b, 0, 0, 0, 0, 0, 0);
-    two << (k % 8)
-}
-
 // ---- a number and its places
 
 // The number with the 64 bits from byte q on, the first of them highest.

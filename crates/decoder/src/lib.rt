@@ -1,15 +1,15 @@
 // A payload of kind 1 or 2 decoded into the standard plan, in the lent work area, by a machine that reads tree bits and labels in step: its turns one after the
 // other, and where the cursor's word is filled anew.
-ghost use Rattle.std.specs.Prelude.{◌≡◌, true, ◌+◌, ◌*◌, ◌≤◌, ◌<◌, length, get_or, replicate};
+ghost use Rattle.std.specs.Prelude.{◌≡◌, true, ◌+◌, ◌*◌, ◌≤◌, ◌<◌, length, replicate};
 ghost use Rattle.words.specs.Word.{decode_word};
 ghost use Rattle.packing.specs.Payload.{has_labels, Sized, payload_bits};
 ghost use Rattle.packing.specs.Groups.{undone};
 ghost use Rattle.work.specs.Area.{region};
 ghost use Rattle.coding.specs.Payloads.{decode_labelled};
-ghost use Rattle.unpacker.specs.Unpacked.{labels_at};
+ghost use Rattle.unpacker.specs.Unpacked.{labels_in};
 ghost use Rattle.builder.specs.Decoded.{Answered};
 ghost use Rattle.bit_cursor.specs.Cursors.{Labelled};
-ghost use Rattle.decoder_ends.specs.States.{stage, bottom, Fits};
+ghost use Rattle.decoder_ends.specs.States.{stage, Fits};
 ghost use Rattle.decoder_turns.specs.Turns.{Turned};
 
 use bit_cursor::Cursor;
@@ -32,16 +32,16 @@ fn window_end(m: usize, at: usize) -> usize
 }
 
 // The steps that read from one word, the first at the cursor c, where it is filled.
-fn stretch(payload: &[u8], m: usize, w: &mut [u16], s: State, c: Cursor) -> Outcome
-    requires { Labelled m payload.now w.old × Fits m w.old (stage c.labels s) × (c.bits < 2 * m) }
-    ensures { Turned 1 m (payload_bits m payload.now) (labels_at m w.old) w.old c.labels s c.bits result
+fn stretch(payload: &[u8], family: u16, m: usize, w: &mut [u16], s: State, c: Cursor) -> Outcome
+    requires { Labelled family m payload.now w.old × Fits m w.old (stage c.labels s) × (c.bits < 2 * m) }
+    ensures { Turned 1 m (payload_bits m payload.now) (labels_in family m payload.now w.old) w.old c.labels s c.bits result
         w.new }
 {
     let end = window_end(m, c.bits);
     let mut s = s;
     let mut c = c.filled(payload);
     loop {
-        match decoder_turns::step(payload, m, w, s, c) {
+        match decoder_turns::step(payload, family, m, w, s, c) {
             Outcome::Stuck => {
                 return Outcome::Stuck;
             }
@@ -58,15 +58,15 @@ fn stretch(payload: &[u8], m: usize, w: &mut [u16], s: State, c: Cursor) -> Outc
 }
 
 // The machine from its start until it is done or stuck.
-fn run(payload: &[u8], m: usize, w: &mut [u16]) -> bool
-    requires labelled { Labelled m payload.now w.old }
-    requires m_in_bounds { (32 * m ≤ length w.old) × (region 0 (2 * m) w.old ≡ replicate (2 * m) 0) × (get_or w.old (bottom m) 0 ≡ 0) }
-    ensures { Answered (decode_word (payload_bits m payload.now) (labels_at m w.old)) (2 * m) result w.new }
+fn run(payload: &[u8], family: u16, m: usize, w: &mut [u16]) -> bool
+    requires labelled { Labelled family m payload.now w.old }
+    requires m_in_bounds { (32 * m ≤ length w.old) × (region 0 (2 * m) w.old ≡ replicate (2 * m) 0) }
+    ensures { Answered (decode_word (payload_bits m payload.now) (labels_in family m payload.now w.old)) (2 * m) result w.new }
 {
     let mut s = State {
         here: 0,
-        below: work::BELOW * (2 * m),
-        opens: work::OPENS * (2 * m),
+        depth: 0,
+        opens: 0,
         place: 0,
     };
     let mut c = Cursor {
@@ -75,7 +75,7 @@ fn run(payload: &[u8], m: usize, w: &mut [u16]) -> bool
         labels: 0,
     };
     loop {
-        match stretch(payload, m, w, s, c) {
+        match stretch(payload, family, m, w, s, c) {
             Outcome::Stuck => {
                 return false;
             }
@@ -101,6 +101,5 @@ pub fn decode(payload: &[u8], family: u16, inverse: [u8; 256], m: usize, w: &mut
         return false;
     }
     work::fill(w, 0, 2 * m, 0);
-    w[work::OPENS * (2 * m) - 2] = 0; // the root, below all edges that are open
-    run(payload, m, w)
+    run(payload, family, m, w)
 }

@@ -2,42 +2,26 @@
 --
 --   open_top              the edge outside the tree that was opened last is stacked in range
 --   tree_top              so is the tree edge
---   some_open, not_closing   by the name below the last place: an edge outside the tree is open that can end here, or none is
---   at_none, off_root     the root hangs from no vertex, and every other vertex from one
 --   closing, rising, leafing, backing, entering   the turns
 --   none_passed, more_passed, fewer_passed   no letter is read; more letters are; fewer would do
-use Prim.Native.Nat.{ℕ, suc, ◌+◌, ◌-◌, ◌*◌, ◌/◌, ◌%◌, ◌≤◌, ◌<◌}
-use native.Mathlib.Decide.{dec_lt}
+use Prim.Native.Nat.{ℕ, ◌+◌, ◌-◌, ◌*◌, ◌/◌, ◌%◌, ◌≤◌, ◌<◌}
+use native.Mathlib.Numerals.{add-one}
 use native.Mathlib.Omega.{arith}
 use mathlib.Core.Path.{◌≡◌, refl, ap, subst, ◌∙◌}
 use mathlib.Core.Logic.{◌≢◌}
 use mathlib.Core.Bool.{true}
-use mathlib.Core.List.{List, [], ◌∷◌}
+use mathlib.Core.List.{List, ◌∷◌}
 use lib.ListN.{length, get_or, set, drop, length-set}
 use Rattle.model.specs.Numbers.{all_below}
 use Rattle.model.specs.LabelledTree.{star}
 use Rattle.model.proofs.Below.{below_cons, below_head, below_tail, below_mono}
-use Rattle.words.specs.Word.{none}
-use Rattle.machine.specs.Reading.{run}
-use Rattle.work.specs.Map.{BELOW, OPENS}
+use Rattle.work.specs.Map.{BELOW, BEGUN, OPENS}
 use Rattle.unpacker.specs.Unpacked.{labels_at}
-use Rattle.decoder_ends.specs.States.{Stage, Area, trees_to, others_to, bottom, area_of, area_at, machine_at, at, leaf_stage, leaf_area, back_stage, back_area, enter_stage, enter_area, Hangs, Stacked}
+use Rattle.decoder_ends.specs.States.{Stage, Area, area_of, area_at, at, leaf_stage, leaf_area, back_stage, back_area, enter_stage, enter_area, Hangs, Stacked}
 use Rattle.decoder_ends.specs.States.{Fits}
 use Rattle.decoder_ends.specs.Ends.{Read, Passed}
-use Rattle.decoder_ends.proofs.Areas.{entered, pushed_tree, pushed_open, labels_beside, bottom_beside, below_long, begun_none, dart_entered, tree_pushed, open_pushed, tree_popped, open_popped}
+use Rattle.decoder_ends.proofs.Areas.{entered, pushed_tree, pushed_open, labels_beside, dart_entered, tree_pushed, open_pushed, tree_popped, open_popped}
 use Rattle.decoder_ends.proofs.Letters as letters
-
--- ---- what hangs from what
-
-root_hangs : (v : ℕ) (vs : List ℕ) → Hangs v vs → v ≡ 0 → vs ≡ []
-unfolding Hangs
-root_hangs v [] h e = refl
-root_hangs v (u ∷ us) h e = let two = h.0 in absurd (omega arith)
-
-hanging : (v : ℕ) (vs : List ℕ) → Hangs v vs → v ≢ 0 → 0 < length vs
-unfolding Hangs
-hanging v [] h n = absurd (n h)
-hanging v (u ∷ us) h n = omega arith
 
 -- ---- what is stacked stays in range
 
@@ -104,63 +88,42 @@ module _ (m : ℕ) (w : List ℕ) (s : Stage) (f : Fits m w s) where
 
   -- the area before the turn and after it
   passed : (bs ls : List ℕ) (p l k : ℕ) (t : Stage) (j i : ℕ) (w' : List ℕ) (a b : Area) → area_at m w s ≡ a → area_at m w' t ≡ b
-      → Read p bs ls a s l k t j i b → Stacked b t → t.edges ≤ m → BELOW * (2 * m) ≤ t.below
-      → t.opens ≡ OPENS * (2 * m) + 2 * others_to m t.opens → trees_to m t.below + others_to m t.opens ≤ t.edges → t.place < 2 * m
-      → length w' ≡ length w → labels_at m w' ≡ labels_at m w → get_or w' (bottom m) 0 ≡ get_or w (bottom m) 0 → Passed p m bs ls w s l k t j i w'
-  passed bs ls p l k t j i w' a b x y r g n₁ n₂ n₃ n₄ n₅ kept same low = record {
+      → Read p bs ls a s l k t j i b → Stacked b t → t.edges ≤ m → t.depth + t.opens ≤ t.edges → t.place < 2 * m → length w' ≡ length w
+      → labels_at m w' ≡ labels_at m w → Passed p m bs ls w s l k t j i w'
+  passed bs ls p l k t j i w' a b x y r g n₁ n₂ n₃ kept same = record {
     read = rw (x, y) r;
     fits = record {
       few_edges = f.few_edges;
       room = let h = f.room in omega arith;
       edges_in = n₁;
-      below_at = n₂;
-      opens_at = n₃;
-      few_open = n₄;
-      place_in = n₅;
-      root_below = low ∙ f.root_below;
+      few_open = n₂;
+      place_in = n₃;
       stacked = rw y g;
     };
     kept = kept;
     labels_kept = same;
   }
 
-  place_off : s.place ≡ bottom m → ⊥
-  place_off q = let c = f.place_in in omega arith
-
-  -- how many tree edges are open, and how many others
-  abbrev d : ℕ
-  d = trees_to m s.below
-
-  abbrev o : ℕ
-  o = others_to m s.opens
-
-  -- the root alone hangs from nothing
-  pub at_none : s.here ≡ 0 → (area_at m w s).below ≡ []
-  at_none = root_hangs s.here (area_at m w s).below f.stacked.hangs
-
-  pub off_root : s.here ≢ 0 → 0 < d
-  off_root n = let l = below_long m w d o in let h = hanging s.here (area_at m w s).below f.stacked.hangs n in omega arith
-
   -- ---- an edge ends
 
-  module _ (some : 0 < o) where
+  module _ (some : 0 < s.opens) where
     abbrev top : ℕ
-    top = s.opens - 2
+    top = s.opens - 1
 
     -- what is stacked of the last edge, and its vertex
     abbrev x : ℕ
-    x = get_or w (top + 1) 0
+    x = get_or w (OPENS * (2 * m) + top) 0
 
     abbrev v : ℕ
-    v = get_or w top 0
+    v = get_or w (BEGUN * (2 * m) + top) 0
 
     abbrev rest : Area
-    rest = area_of m w d (o - 1)
+    rest = area_of m w s.depth top
 
     popped : area_at m w s ≡ pushed_open v x rest
-    popped = let q = f.opens_at in open_popped m w d o some top (omega arith)
+    popped = open_popped m w s.depth s.opens some
 
-    begun_is : (area_at m w s).begun ≡ v ∷ rest.begun
+    pub begun_is : (area_at m w s).begun ≡ v ∷ rest.begun
     begun_is = ap (λ (a : Area). a.begun) popped
 
     still : Stacked (pushed_open v x rest) s
@@ -170,46 +133,27 @@ module _ (m : ℕ) (w : List ℕ) (s : Stage) (f : Fits m w s) where
     open_top = below_head (2 * e) x rest.opens still.opens_in
 
     pub closing : s.here < v → (y : ℕ) → y ≡ 2 * (x / 2) + 1 → (bs ls : List ℕ) (k : ℕ)
-        → Passed 1 m bs ls w s 1 k (at e s.here s.below top y) (x % 2) k (set w s.place y)
+        → Passed 1 m bs ls w s 1 k (at e s.here s.depth top y) (x % 2) k (set w s.place y)
     closing l y q bs ls k =
-        let i = open_top in let g = f.edges_in in let h = f.few_open in let c = f.place_in in let b = f.below_at in let p = f.opens_at in
-        let fewer : others_to m top ≡ o - 1 = omega arith in
-        passed bs ls 1 1 k _ (x % 2) k _ _ _ popped
-        (ap (area_of m (set w s.place y) d) fewer ∙ dart_entered m w d (o - 1) s.place y c)
-        (rw q (letters.closing bs ls rest s s.below top k v x still l))
-        (stacked_closed rest s s.below top y s.place y v x still)
-        g b (omega arith) (omega arith) (omega arith) (length-set w s.place y) (labels_beside m w s.place y (omega arith))
-        (bottom_beside m w s.place y place_off)
+        let i = open_top in let g = f.edges_in in let h = f.few_open in let c = f.place_in in
+        passed bs ls 1 1 k _ (x % 2) k _ _ _ popped (dart_entered m w s.depth top s.place y c)
+        (rw q (letters.closing bs ls rest s s.depth top k v x still l))
+        (stacked_closed rest s s.depth top y s.place y v x still)
+        g (omega arith) (omega arith) (length-set w s.place y) (labels_beside m w s.place y (omega arith))
 
-  -- where none is open, the root's name is found, which is no higher than any
-  pub some_open : s.here < get_or w (s.opens - 2) 0 → 0 < o
-  some_open l = elim (dec_lt 0 o) [
-    | yes h ↦ h
-    | no h ↦ (
-        let p = f.opens_at in let q : s.opens - 2 ≡ bottom m = omega arith in
-        let z = ap (λ (i : ℕ). get_or w i 0) q ∙ f.root_below in absurd (omega arith)
-        )
-  ]
-
-  pub not_closing : get_or w (s.opens - 2) 0 ≤ s.here → (bs ls : List ℕ) (k : ℕ) → run (machine_at m bs ls w s 1 k) ≡ none
-  not_closing l bs ls k = elim (dec_lt 0 o) [
-    | yes h ↦ letters.early bs ls (area_at m w s) s k _ _ (begun_is h) l
-    | no h ↦ letters.empty bs ls (area_at m w s) s k (begun_none m w d o (omega arith))
-  ]
-
-  module _ (some : 0 < d) where
+  module _ (some : 0 < s.depth) where
     abbrev below_top : ℕ
-    below_top = s.below - 1
+    below_top = s.depth - 1
 
     -- the vertex that the present one hangs from
     abbrev u : ℕ
-    u = get_or w below_top 0
+    u = get_or w (BELOW * (2 * m) + below_top) 0
 
     abbrev others : Area
-    others = area_of m w (d - 1) o
+    others = area_of m w below_top s.opens
 
     risen_from : area_at m w s ≡ pushed_tree u others
-    risen_from = tree_popped m w d o some below_top (omega arith)
+    risen_from = tree_popped m w s.depth s.opens some
 
     hung : Stacked (pushed_tree u others) s
     hung = subst (λ (a : Area). Stacked a s) risen_from f.stacked
@@ -223,13 +167,11 @@ module _ (m : ℕ) (w : List ℕ) (s : Stage) (f : Fits m w s) where
         → Passed 1 m bs ls w s 0 k (at e u below_top s.opens p) j (k + 1) (set w s.place y)
     rising p y q r j z bs ls k b =
         let t = tree_top in let i = f.stacked.here_in in let g = f.edges_in in let h = f.few_open in let c = f.place_in in
-        let dart : y ≡ 2 * (s.here / 2 - 1) + 1 = omega arith in let fewer : trees_to m below_top ≡ d - 1 = omega arith in
-        passed bs ls 1 0 k _ j (k + 1) _ _ _ risen_from
-        (ap (λ (n : ℕ). area_of m (set w s.place y) n o) fewer ∙ dart_entered m w (d - 1) o s.place y c)
+        let dart : y ≡ 2 * (s.here / 2 - 1) + 1 = omega arith in
+        passed bs ls 1 0 k _ j (k + 1) _ _ _ risen_from (dart_entered m w below_top s.opens s.place y c)
         (rw (dart, q, z) (letters.rising bs ls others s below_top s.opens k u hung b))
         (stacked_risen others s below_top s.opens p s.place y u hung)
-        g (omega arith) f.opens_at (omega arith) (omega arith) (length-set w s.place y) (labels_beside m w s.place y (omega arith))
-        (bottom_beside m w s.place y place_off)
+        g (omega arith) (omega arith) (length-set w s.place y) (labels_beside m w s.place y (omega arith))
 
   -- ---- an edge begins
 
@@ -244,9 +186,6 @@ module _ (m : ℕ) (w : List ℕ) (s : Stage) (f : Fits m w s) where
     dart_beside : labels_at m dart ≡ labels_at m w
     dart_beside = let c = f.place_in in labels_beside m w s.place (2 * e) (omega arith)
 
-    dart_above : get_or dart (bottom m) 0 ≡ get_or w (bottom m) 0
-    dart_above = bottom_beside m w s.place (2 * e) place_off
-
     dart_in : (d o : ℕ) → area_of m dart d o ≡ entered s.place (2 * e) (area_of m w d o)
     dart_in d o = dart_entered m w d o s.place (2 * e) f.place_in
 
@@ -254,42 +193,38 @@ module _ (m : ℕ) (w : List ℕ) (s : Stage) (f : Fits m w s) where
     leafing h =
         let n = f.few_open in
         passed bs ls 1 0 k _ b (k + 2) _ _ _ refl
-        (dart_entered m dart d o (2 * e + 1) (2 * e + 1) (omega arith) ∙ ap (entered (2 * e + 1) (2 * e + 1)) (dart_in d o))
-        (letters.leafing bs ls (area_at m w s) s k c z f.stacked b y g q s.below s.opens h)
-        (stacked_leafed (area_at m w s) s s.below s.opens (2 * e) s.place (2 * e) f.stacked (2 * e + 1) (2 * e + 1))
-        (omega arith) f.below_at f.opens_at (omega arith) (omega arith) (length-set dart (2 * e + 1) (2 * e + 1) ∙ dart_long)
+        (dart_entered m dart s.depth s.opens (2 * e + 1) (2 * e + 1) (omega arith)
+        ∙ ap (entered (2 * e + 1) (2 * e + 1)) (dart_in s.depth s.opens))
+        (letters.leafing bs ls (area_at m w s) s k c z f.stacked b y g q s.depth s.opens h)
+        (stacked_leafed (area_at m w s) s s.depth s.opens (2 * e) s.place (2 * e) f.stacked (2 * e + 1) (2 * e + 1))
+        (omega arith) (omega arith) (omega arith) (length-set dart (2 * e + 1) (2 * e + 1) ∙ dart_long)
         (labels_beside m dart (2 * e + 1) (2 * e + 1) (omega arith) ∙ dart_beside)
-        (bottom_beside m dart (2 * e + 1) (2 * e + 1) (λ q. omega arith) ∙ dart_above)
 
     module _ (h : y ≢ star) (small : y < 3) where
-      pub backing : b ≡ 0 → Passed 1 m bs ls w s 0 k (back_stage s) 0 (k + 2) (back_area w s y)
+      pub backing : b ≡ 0 → Passed 1 m bs ls w s 0 k (back_stage s) 0 (k + 2) (back_area m w s y)
       backing t =
-          let n = f.few_open in let room = f.room in let long = dart_long in let p = f.opens_at in
-          let more : others_to m (s.opens + 2) ≡ suc o = omega arith in
+          let n = f.few_open in let room = f.room in let long = dart_long in
+          let i₁ = BEGUN * (2 * m) + s.opens in let i₂ = OPENS * (2 * m) + s.opens in
           passed bs ls 1 0 k _ 0 (k + 2) _ _ _ refl
-          (ap (area_of m (back_area w s y) d) more ∙ open_pushed m dart d o (omega arith) (omega arith) s.opens p s.here (2 * e + y)
-          ∙ ap (pushed_open s.here (2 * e + y)) (dart_in d o))
-          (letters.backing bs ls (area_at m w s) s k c z f.stacked b y g q s.below (s.opens + 2) h small t)
-          (stacked_backed (area_at m w s) s s.below (s.opens + 2) (2 * e) s.place (2 * e) f.stacked y (omega arith))
-          (omega arith) f.below_at (omega arith) (omega arith) (omega arith) (simp length-set refl)
-          (labels_beside m (set dart s.opens s.here) (s.opens + 1) (2 * e + y) (omega arith) ∙ labels_beside m dart s.opens s.here (omega arith)
-          ∙ dart_beside)
-          (bottom_beside m (set dart s.opens s.here) (s.opens + 1) (2 * e + y) (λ q. omega arith) ∙ bottom_beside m dart s.opens s.here (λ q. omega arith)
-          ∙ dart_above)
+          (rw (add-one s.opens) (open_pushed m dart s.depth s.opens (omega arith) (omega arith) s.here (2 * e + y))
+          ∙ ap (pushed_open s.here (2 * e + y)) (dart_in s.depth s.opens))
+          (letters.backing bs ls (area_at m w s) s k c z f.stacked b y g q s.depth (s.opens + 1) h small t)
+          (stacked_backed (area_at m w s) s s.depth (s.opens + 1) (2 * e) s.place (2 * e) f.stacked y (omega arith))
+          (omega arith) (omega arith) (omega arith) (simp length-set refl)
+          (labels_beside m (set dart i₁ s.here) i₂ (2 * e + y) (omega arith) ∙ labels_beside m dart i₁ s.here (omega arith) ∙ dart_beside)
 
       pub entering : b ≢ 0 → drop (k + 1) bs ≡ b ∷ drop (k + 2) bs
-          → Passed 1 m bs ls w s 0 k (enter_stage s y) 0 (k + 1) (enter_area w s)
+          → Passed 1 m bs ls w s 0 k (enter_stage s y) 0 (k + 1) (enter_area m w s)
       entering t r =
-          let n = f.few_open in let room = f.room in let long = dart_long in let p = f.below_at in
-          let more : trees_to m (s.below + 1) ≡ suc d = omega arith in
+          let n = f.few_open in let room = f.room in let long = dart_long in
+          let i₁ = BELOW * (2 * m) + s.depth in
           passed bs ls 1 0 k _ 0 (k + 1) _ _ _ refl
-          (ap (λ (n : ℕ). area_of m (enter_area w s) n o) more ∙ tree_pushed m dart d o (omega arith) (omega arith) s.below (omega arith) s.here
-          ∙ ap (pushed_tree s.here) (dart_in d o))
-          (letters.entering bs ls (area_at m w s) s k c z f.stacked b y g q (s.below + 1) s.opens h small t r)
-          (stacked_entered (area_at m w s) s (s.below + 1) s.opens (2 * e + 1) s.place (2 * e) f.stacked y (omega arith))
-          (omega arith) (omega arith) f.opens_at (omega arith) (omega arith) (simp length-set refl)
-          (labels_beside m dart s.below s.here (omega arith) ∙ dart_beside)
-          (bottom_beside m dart s.below s.here (λ q. omega arith) ∙ dart_above)
+          (rw (add-one s.depth) (tree_pushed m dart s.depth s.opens (omega arith) (omega arith) s.here)
+          ∙ ap (pushed_tree s.here) (dart_in s.depth s.opens))
+          (letters.entering bs ls (area_at m w s) s k c z f.stacked b y g q (s.depth + 1) s.opens h small t r)
+          (stacked_entered (area_at m w s) s (s.depth + 1) s.opens (2 * e + 1) s.place (2 * e) f.stacked y (omega arith))
+          (omega arith) (omega arith) (omega arith) (simp length-set refl)
+          (labels_beside m dart i₁ s.here (omega arith) ∙ dart_beside)
 
 -- ---- letters one after the other
 

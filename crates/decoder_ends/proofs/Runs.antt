@@ -17,17 +17,17 @@ use Rattle.machine.specs.Reading.{left, run}
 use Rattle.decoder_ends.specs.declared.State.{State}
 use Rattle.decoder_ends.specs.declared.Ending.{Ending}
 use Rattle.decoder_ends.specs.declared.Ending.TheVariants.{Ends, Stays}
-use Rattle.decoder_ends.specs.States.{Stage, stage, trees_to, others_to, machine_of, machine_at, Fits, Standing}
+use Rattle.decoder_ends.specs.States.{Stage, stage, machine_of, machine_at, Fits, Standing}
 use Rattle.decoder_ends.specs.Ends.{Passed, EndedOne, Ended}
 use Rattle.decoder_ends.proofs.Areas.{begun_long}
 use Rattle.decoder_ends.proofs.Moves.{none_passed, fewer_passed, more_passed}
 
-pub left_is : (m : ℕ) (bs ls w : List ℕ) (s : Stage) (l k : ℕ) → left (machine_at m bs ls w s l k) ≡ length bs - k + others_to m s.opens
+pub left_is : (m : ℕ) (bs ls w : List ℕ) (s : Stage) (l k : ℕ) → left (machine_at m bs ls w s l k) ≡ length bs - k + s.opens
 unfolding machine_of
-left_is m bs ls w s l k = rw (length-drop k bs, begun_long m w (trees_to m s.below) (others_to m s.opens))
+left_is m bs ls w s l k = rw (length-drop k bs, begun_long m w s.depth s.opens)
 
 module _ (p m : ℕ) (bs ls w : List ℕ) (s : Stage) (l k : ℕ) (t : Stage) (j i : ℕ) (w' : List ℕ) (x : Passed p m bs ls w s l k t j i w') where
-  pub passed_less : length bs - i + others_to m t.opens + p ≤ length bs - k + others_to m s.opens
+  pub passed_less : length bs - i + t.opens + p ≤ length bs - k + s.opens
   passed_less =
       let g = x.read.some in let h = x.read.paced in
       let a = left_is m bs ls w s l k in let b = left_is m bs ls w' t j i in omega arith

@@ -15,7 +15,7 @@ use Rattle.unpacker.specs.Unpacked.{labels_at}
 use Rattle.decoder_ends.specs.declared.State.{State}
 use Rattle.decoder_ends.specs.declared.Ending.{Ending}
 use Rattle.decoder_ends.specs.declared.Ending.TheVariants.{Ends, Stays}
-use Rattle.decoder_ends.specs.States.{Stage, stage, Area, trees_to, others_to, area_at, machine_of, machine_at, outcome_of, Fits}
+use Rattle.decoder_ends.specs.States.{Stage, stage, Area, area_at, machine_of, machine_at, outcome_of, Fits}
 
 pub record Read (p : ℕ) (bs ls : List ℕ) (a : Area) (s : Stage) (l k : ℕ) (t : Stage) (j i : ℕ) (b : Area) : Type 0 where
   pub letters : List Letter
@@ -39,5 +39,5 @@ abbrev pub Ended : ℕ → ℕ → ℕ → List ℕ → State → ℕ → Ending
 Ended p q m w s l r w' = (e : ℕ) → Fits m w (stage e s) → (bs ls : List ℕ) (k : ℕ) → EndedOne p q m bs ls w e s l k r w'
 
 pub record Finished (m : ℕ) (w : List ℕ) (s : Stage) (r : Bool) (w' : List ℕ) : Type 0 where
-  pub ends : r ≡ true → (trees_to m s.below ≡ 0) × (others_to m s.opens ≡ 0) × (m ≤ s.edges) × (w' ≡ set w s.place 0)
-  pub goes_on : r ≡ false → 0 < trees_to m s.below + others_to m s.opens + (m - s.edges)
+  pub ends : r ≡ true → (s.depth ≡ 0) × (s.opens ≡ 0) × (m ≤ s.edges) × (w' ≡ set w s.place 0)
+  pub goes_on : r ≡ false → 0 < s.depth + s.opens + (m - s.edges)

@@ -1,13 +1,10 @@
 -- The machine in the code: the stage s, the label l of the edge that has just ended, how many bits are read, and the work area w. m is the number of edges.
--- A tree edge e of label l is stacked as 2e + l + 2, and names the vertex below it; the root is 0. Another edge is stacked as 2e + l, behind the name of the
+-- A tree edge e of label l is stacked as 2e + l + 2, and names the vertex below it; the root is 0. Another edge is stacked as 2e + l, with the name of the
 -- vertex where it began.
 --
 --   Stage                    a state of the code, and how many edges have begun, which is how many labels are read
 --   stage e s                the state s where e edges have begun
 --   Area                     the rotation and the stacks: names of the vertices that the present one hangs from, those where other edges began, and those
---   column a k w             k entries of w, every second one from place a on, the last first
---   trees_to m i, others_to m i   how many tree edges are open, and how many others, if their stack ends at place i
---   bottom m                 the place of the name below the first edge outside the tree, which is the root's
 --   area_of m w d o           those of the work area w, where d tree edges and o others are open
 --   area_at m w s             those at the stage s
 --   trees_of v vs, ups_of v vs   the open tree edges, and their labels, where v is the present vertex and vs are those that it hangs from
@@ -17,18 +14,18 @@
 --   outcome_of a s v          the rotation that comes out if the word v is still to be read
 --   outcome_at m w s v        the same in the work area
 --   at e v d o q             the stage where these are its parts
---   first_stage m             the stage at the start
+--   first_stage               the stage at the start
 --   leaf_stage, leaf_area, back_stage, back_area, enter_stage, enter_area   the stage and the work area after an edge of label l has begun: to a leaf, from
 --                            which it is gone up again; outside the tree; in the tree
---   Hangs v vs               v, where it hangs from vs, is the name of no root; where it hangs from none, it is the root's
+--   Hangs v vs               v, where it hangs from vs, is the name of no root
 --   Stacked a s              what is stacked in the area a is in range
 --   Fits m w s               the numbers and stacks are in range
 --   Standing m w s           they are so in the state s, where some edges have begun
-use Rattle.std.specs.Prelude.{ℕ, zero, suc, ◌+◌, ◌-◌, ◌*◌, ◌/◌, ◌%◌, ◌≤◌, ◌<◌, ◌≡◌, true, List, [], ◌∷◌, length, get_or, set, drop}
+use Rattle.std.specs.Prelude.{ℕ, ◌+◌, ◌-◌, ◌*◌, ◌/◌, ◌%◌, ◌≤◌, ◌<◌, ◌≡◌, true, List, [], ◌∷◌, length, set, drop}
 use Rattle.model.specs.Numbers.{all_below}
 use Rattle.model.specs.Traversal.{Letter}
 use Rattle.words.specs.Word.{Machine, word_darts}
-use Rattle.work.specs.Map.{BELOW, OPENS}
+use Rattle.work.specs.Map.{BELOW, BEGUN, OPENS}
 use Rattle.work.specs.Area.{region, stack}
 use Rattle.builder.specs.Steps.{linked}
 use Rattle.decoder_ends.specs.declared.State.{State}
@@ -37,12 +34,12 @@ use Rattle.decoder_ends.specs.declared.State.{State}
 pub record Stage : Type 0 where
   pub edges : ℕ
   pub here : ℕ
-  pub below : ℕ
+  pub depth : ℕ
   pub opens : ℕ
   pub place : ℕ
 
 abbrev pub stage : ℕ → State → Stage
-stage e s = record { edges = e; here = s.here; below = s.below; opens = s.opens; place = s.place }
+stage e s = record { edges = e; here = s.here; depth = s.depth; opens = s.opens; place = s.place }
 
 pub record Area : Type 0 where
   pub rotation : List ℕ
@@ -50,29 +47,16 @@ pub record Area : Type 0 where
   pub begun : List ℕ
   pub opens : List ℕ
 
-unfoldable pub column : ℕ → ℕ → List ℕ → List ℕ
-column a zero w = []
-column a (suc k) w = get_or w (a + 2 * k) 0 ∷ column a k w
-
-abbrev pub trees_to : ℕ → ℕ → ℕ
-trees_to m i = i - BELOW * (2 * m)
-
-abbrev pub others_to : ℕ → ℕ → ℕ
-others_to m i = (i - OPENS * (2 * m)) / 2
-
-abbrev pub bottom : ℕ → ℕ
-bottom m = OPENS * (2 * m) - 2
-
 unfoldable pub area_of : ℕ → List ℕ → ℕ → ℕ → Area
 area_of m w d o = record {
   rotation = region 0 (2 * m) w;
   below = stack (BELOW * (2 * m)) d w;
-  begun = column (OPENS * (2 * m)) o w;
-  opens = column (OPENS * (2 * m) + 1) o w;
+  begun = stack (BEGUN * (2 * m)) o w;
+  opens = stack (OPENS * (2 * m)) o w;
 }
 
 abbrev pub area_at : ℕ → List ℕ → Stage → Area
-area_at m w s = area_of m w (trees_to m s.below) (others_to m s.opens)
+area_at m w s = area_of m w s.depth s.opens
 
 -- ---- what is stacked
 
@@ -117,35 +101,36 @@ abbrev pub outcome_at : ℕ → List ℕ → Stage → List Letter → List ℕ
 outcome_at m w s v = outcome_of (area_at m w s) s v
 
 abbrev pub at : ℕ → ℕ → ℕ → ℕ → ℕ → Stage
-at e v d o q = record { edges = e; here = v; below = d; opens = o; place = q }
+at e v d o q = record { edges = e; here = v; depth = d; opens = o; place = q }
 
-abbrev pub first_stage : ℕ → Stage
-first_stage m = at 0 0 (BELOW * (2 * m)) (OPENS * (2 * m)) 0
+abbrev pub first_stage : Stage
+first_stage = at 0 0 0 0 0
 
 -- ---- an edge begins
 
 abbrev pub leaf_stage : Stage → Stage
-leaf_stage s = at (s.edges + 1) s.here s.below s.opens (2 * s.edges)
+leaf_stage s = at (s.edges + 1) s.here s.depth s.opens (2 * s.edges)
 
 abbrev pub leaf_area : List ℕ → Stage → List ℕ
 leaf_area w s = set (set w s.place (2 * s.edges)) (2 * s.edges + 1) (2 * s.edges + 1)
 
 abbrev pub back_stage : Stage → Stage
-back_stage s = at (s.edges + 1) s.here s.below (s.opens + 2) (2 * s.edges)
+back_stage s = at (s.edges + 1) s.here s.depth (s.opens + 1) (2 * s.edges)
 
-abbrev pub back_area : List ℕ → Stage → ℕ → List ℕ
-back_area w s l = set (set (set w s.place (2 * s.edges)) s.opens s.here) (s.opens + 1) (2 * s.edges + l)
+abbrev pub back_area : ℕ → List ℕ → Stage → ℕ → List ℕ
+back_area m w s l =
+    set (set (set w s.place (2 * s.edges)) (BEGUN * (2 * m) + s.opens) s.here) (OPENS * (2 * m) + s.opens) (2 * s.edges + l)
 
 abbrev pub enter_stage : Stage → ℕ → Stage
-enter_stage s l = at (s.edges + 1) (2 * s.edges + l + 2) (s.below + 1) s.opens (2 * s.edges + 1)
+enter_stage s l = at (s.edges + 1) (2 * s.edges + l + 2) (s.depth + 1) s.opens (2 * s.edges + 1)
 
-abbrev pub enter_area : List ℕ → Stage → List ℕ
-enter_area w s = set (set w s.place (2 * s.edges)) s.below s.here
+abbrev pub enter_area : ℕ → List ℕ → Stage → List ℕ
+enter_area m w s = set (set w s.place (2 * s.edges)) (BELOW * (2 * m) + s.depth) s.here
 
 -- ---- ranges
 
 unfoldable pub Hangs : ℕ → List ℕ → Type 0
-Hangs v [] = v ≡ 0
+Hangs v [] = Unit
 Hangs v (u ∷ us) = (2 ≤ v) × Hangs u us
 
 pub record Stacked (a : Area) (s : Stage) : Type 0 where
@@ -159,11 +144,8 @@ pub record Fits (m : ℕ) (w : List ℕ) (s : Stage) : Type 0 where
   pub few_edges : m ≤ 4096
   pub room : 32 * m ≤ length w
   pub edges_in : s.edges ≤ m
-  pub below_at : BELOW * (2 * m) ≤ s.below
-  pub opens_at : s.opens ≡ OPENS * (2 * m) + 2 * others_to m s.opens
-  pub few_open : trees_to m s.below + others_to m s.opens ≤ s.edges
+  pub few_open : s.depth + s.opens ≤ s.edges
   pub place_in : s.place < 2 * m
-  pub root_below : get_or w (bottom m) 0 ≡ 0
   pub stacked : Stacked (area_at m w s) s
 
 pub record Standing (m : ℕ) (w : List ℕ) (s : State) : Type 0 where

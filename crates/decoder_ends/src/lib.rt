@@ -1,17 +1,15 @@
 // The state of the machine that decodes families 1 and 2, in the lent work area, and what ends in it: edges outside the tree, where an edge of label 1 has
 // ended, and the traversal. An open edge is stacked with its label, and a vertex is named by what is stacked of the tree edge above it, so that later ones have
-// higher names. An edge outside the tree is stacked behind the vertex where it began; below the first of them the name of the root stands, so that nothing can end
-// where none is open. It knows no bits.
+// higher names. It knows no bits.
 ghost use Rattle.std.specs.Prelude.{◌<◌};
 ghost use Rattle.decoder_ends.specs.States.{stage, Fits, Standing};
 ghost use Rattle.decoder_ends.specs.Ends.{Ended, Finished};
 
-// Where the traversal stands: the name of the present vertex, where the stacks of vertices above it and of open edges outside the tree end in the work area, and
-// the dart whose entry is the next dart.
+// Where the traversal stands: the name of the present vertex, how many tree edges and how many others are open, and the dart whose entry is the next dart.
 #[derive(Drop)]
 pub struct State {
     pub here: u16,
-    pub below: usize,
+    pub depth: usize,
     pub opens: usize,
     pub place: usize,
 }
@@ -31,21 +29,24 @@ fn close_last(w: &mut [u16], m: usize, s: State) -> Ending
     ensures { Ended 1 2 m w.old s 1 result w.new }
 {
     let here = s.here;
-    let below = s.below;
+    let depth = s.depth;
     let opens = s.opens;
     let q = s.place;
-    let top = opens - 2;
-    let v = w[top];
-    if v <= here {
-        return Ending::Stays; // also where a label 1 is left over
+    if opens == 0 {
+        return Ending::Stays; // a label 1 is left over
     }
-    let x = w[top + 1];
+    let top = opens - 1;
+    let v = w[work::BEGUN * (2 * m) + top];
+    if v <= here {
+        return Ending::Stays;
+    }
+    let x = w[work::OPENS * (2 * m) + top];
     let label = x % 2;
     let dart = x - label + 1;
     w[q] = dart;
     let t = State {
         here,
-        below,
+        depth,
         opens: top,
         place: dart as usize,
     };
@@ -80,10 +81,10 @@ pub fn finish(w: &mut [u16], m: usize, s: State, edges: usize) -> bool
     requires { Fits m w.old (stage edges s) }
     ensures { Finished m w.old (stage edges s) result w.new }
 {
-    let below = s.below;
+    let depth = s.depth;
     let opens = s.opens;
     let place = s.place;
-    if (work::BELOW + work::OPENS) * (2 * m) < below + opens {
+    if 0 < depth + opens {
         return false;
     }
     if edges < m {

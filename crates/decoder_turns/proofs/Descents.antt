@@ -15,8 +15,8 @@ use Rattle.model.proofs.Permutations.{below_all}
 use Rattle.packing.specs.Unpack.{bits}
 use Rattle.packing.specs.Payload.{payload_bits}
 use Rattle.packing.proofs.Packed.{bits_below}
-use Rattle.unpacker.specs.Unpacked.{labels_at}
-use Rattle.padding.proofs.Payload.{bit_count}
+use Rattle.unpacker.specs.Unpacked.{labels_in}
+use Rattle.unpacker.proofs.Payload.{bit_count}
 use Rattle.bit_cursor.specs.declared.Cursor.{Cursor}
 use Rattle.bit_cursor.specs.declared.Next.{Next}
 use Rattle.bit_cursor.specs.Cursors.{Labelled, Sees, past_label, next_bit, next_label}
@@ -30,13 +30,13 @@ use Rattle.decoder_turns.specs.Turns.{Turned}
 use Rattle.decoder_turns.proofs.Lists.{one_next, two_next, last_next}
 use Rattle.decoder_turns.proofs.Steps.{turned_to}
 
-module _ (m : ℕ) (ps w : List ℕ) (s : State) (c : Cursor) (g : Labelled m ps w) (fits : Fits m w (stage c.labels s)) (h : Sees (bits ps) c 1)
+module _ (f m : ℕ) (ps w : List ℕ) (s : State) (c : Cursor) (g : Labelled f m ps w) (fits : Fits m w (stage c.labels s)) (h : Sees (bits ps) c 1)
     (i : c.bits ≤ 2 * m) where
   abbrev bs : List ℕ
   bs = payload_bits m ps
 
   abbrev ls : List ℕ
-  ls = labels_at m w
+  ls = labels_in f m ps w
 
   abbrev e : ℕ
   e = c.labels
@@ -99,13 +99,13 @@ module _ (m : ℕ) (ps w : List ℕ) (s : State) (c : Cursor) (g : Labelled m ps
               (leafing m w (stage e s) fits bs ls k _ _ _ one l both next_label_lem z)
 
           module _ (z : x.value ≢ star) where
-            pub to_back : y.value ≡ 0 → stage (e + 1) t ≡ back_stage (stage e s) → w' ≡ back_area w (stage e s) x.value
+            pub to_back : y.value ≡ 0 → stage (e + 1) t ≡ back_stage (stage e s) → w' ≡ back_area m w (stage e s) x.value
                 → Turned 2 m bs ls w e s k (Goes t 0 y.cursor) w'
             to_back o r u =
                 turned_to 2 m bs ls w e s k t 0 y.cursor w' _ _ _ _ labels_read bits_read r u (omega arith)
                 (backing m w (stage e s) fits bs ls k _ _ _ one l both next_label_lem z (label_fits l x p) o)
 
-            pub to_tree : y.value ≢ 0 → stage (e + 1) t ≡ enter_stage (stage e s) x.value → w' ≡ enter_area w (stage e s)
+            pub to_tree : y.value ≢ 0 → stage (e + 1) t ≡ enter_stage (stage e s) x.value → w' ≡ enter_area m w (stage e s)
                 → Turned 2 m bs ls w e s k (Goes t 0 x.cursor) w'
             to_tree o r u =
                 let n = size in let d : k + 1 + 1 ≡ k + 2 = omega arith in

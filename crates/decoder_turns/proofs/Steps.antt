@@ -14,7 +14,7 @@ use Rattle.words.specs.Word.{none}
 use Rattle.machine.specs.Reading.{run}
 use Rattle.packing.specs.Unpack.{bits}
 use Rattle.packing.specs.Payload.{payload_bits}
-use Rattle.unpacker.specs.Unpacked.{labels_at}
+use Rattle.unpacker.specs.Unpacked.{labels_in}
 use Rattle.bit_cursor.specs.declared.Cursor.{Cursor}
 use Rattle.bit_cursor.specs.declared.Next.{Next}
 use Rattle.bit_cursor.specs.Cursors.{Sees, past_bit, past_label, next_bit}
@@ -87,17 +87,17 @@ module _ (bs : List ℕ) (c : Cursor) where
 
 -- ---- a turn, and ends after it
 
-module _ (m : ℕ) (ps w : List ℕ) (s : State) (c : Cursor) (r : Outcome) (w' : List ℕ) (x : Stepped 2 m ps w s c r w') where
+module _ (f m : ℕ) (ps w : List ℕ) (s : State) (c : Cursor) (r : Outcome) (w' : List ℕ) (x : Stepped 2 f m ps w s c r w') where
   abbrev bs : List ℕ
   bs = payload_bits m ps
 
   abbrev ls : List ℕ
-  ls = labels_at m w
+  ls = labels_in f m ps w
 
   abbrev S : Stage
   S = stage c.labels s
 
-  pub step_stuck : r ≡ Stuck → (u : List ℕ) → Stepped 1 m ps w s c Stuck u
+  pub step_stuck : r ≡ Stuck → (u : List ℕ) → Stepped 1 f m ps w s c Stuck u
   unfolding Turned Slid
   step_stuck p u = (turned_stuck 2 m bs ls w c.labels s c.bits r w' x.0 p, tt)
 
@@ -112,7 +112,7 @@ module _ (m : ℕ) (ps w : List ℕ) (s : State) (c : Cursor) (r : Outcome) (w' 
     step_fits = (record { edges = d.labels; fits = gone.1.fits }, gone.0)
 
     module _ (q : Ending) (w'' : List ℕ) (y : Ended 0 1 m w' t l q w'') where
-      pub step_ends : q ≡ Stays → Stepped 1 m ps w s c Stuck w''
+      pub step_ends : q ≡ Stays → Stepped 1 f m ps w s c Stuck w''
       unfolding Turned Slid
       step_ends g = (
         passed_stuck 1 m bs ls w S 0 c.bits T l d.bits w' gone.1
@@ -120,7 +120,7 @@ module _ (m : ℕ) (ps w : List ℕ) (s : State) (c : Cursor) (r : Outcome) (w' 
         tt,
       )
 
-      pub step_goes : (u : State) (k : ℕ) → q ≡ Ends u k → Stepped 1 m ps w s c (Goes u k d) w''
+      pub step_goes : (u : State) (k : ℕ) → q ≡ Ends u k → Stepped 1 f m ps w s c (Goes u k d) w''
       unfolding Turned Slid
       step_goes u k g =
           let z = ended_goes 0 1 m bs ls w' d.labels t l d.bits q w'' (y d.labels gone.1.fits bs ls d.bits) u k g in (

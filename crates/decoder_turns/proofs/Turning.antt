@@ -11,7 +11,7 @@ use mathlib.Core.List.{List}
 use lib.ListN.{get_or}
 use Rattle.packing.specs.Unpack.{bits}
 use Rattle.packing.specs.Payload.{payload_bits}
-use Rattle.padding.proofs.Payload.{bit_count}
+use Rattle.unpacker.proofs.Payload.{bit_count}
 use Rattle.bit_cursor.specs.declared.Cursor.{Cursor}
 use Rattle.bit_cursor.specs.declared.Next.{Next}
 use Rattle.bit_cursor.specs.Cursors.{Labelled, Sees, next_bit}
@@ -23,7 +23,7 @@ use Rattle.decoder_turns.specs.Turns.{Risen, Descended, Stepped}
 use Rattle.decoder_turns.proofs.Lists.{one_next}
 use Rattle.decoder_turns.proofs.Steps.{slid_past}
 
-module _ (m : ℕ) (ps w : List ℕ) (s : State) (c : Cursor) (x : Next) (p : x ≡ next_bit c) where
+module _ (f m : ℕ) (ps w : List ℕ) (s : State) (c : Cursor) (x : Next) (p : x ≡ next_bit c) where
   abbrev bs : List ℕ
   bs = payload_bits m ps
 
@@ -38,13 +38,13 @@ module _ (m : ℕ) (ps w : List ℕ) (s : State) (c : Cursor) (x : Next) (p : x 
     bit_is = ap (λ (z : Next). z.value) p ∙ sees_tree_bit ps m c (sees_less (bits ps) c 2 1 (omega arith) h) i
 
     module _ (r : Outcome) (w' : List ℕ) where
-      pub turn_up : Labelled m ps w → x.value ≡ 0 → Risen m w s x.cursor r w' → Stepped 2 m ps w s c r w'
+      pub turn_up : Labelled f m ps w → x.value ≡ 0 → Risen m w s x.cursor r w' → Stepped 2 f m ps w s c r w'
       turn_up g z y =
           let size = bit_count ps m g.bits_room in
           let risen = subst (λ (n : Next). Risen m w s n.cursor r w') p y in
           (risen.0 bs _ c.bits refl (one_next bs c.bits 0 (omega arith) (sym z ∙ bit_is)), slid_past (bits ps) c r (risen.1 (bits ps)))
 
-      pub turn_down : x.value ≢ 0 → Descended m ps w s x.cursor r w' → Stepped 2 m ps w s c r w'
+      pub turn_down : x.value ≢ 0 → Descended f m ps w s x.cursor r w' → Stepped 2 f m ps w s c r w'
       turn_down z y =
-          let gone = subst (λ (n : Next). Descended m ps w s n.cursor r w') p y in
+          let gone = subst (λ (n : Next). Descended f m ps w s n.cursor r w') p y in
           (gone.0 c.bits refl (λ q. z (bit_is ∙ q)), slid_past (bits ps) c r gone.1)

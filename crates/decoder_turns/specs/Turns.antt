@@ -3,14 +3,14 @@
 --   Slid bs c r              the bits that the cursor c sees are still seen by that of the outcome r
 --   Turned                   what a turn comes to; the label then is below q
 --   Risen                    the same where a bit 0 was read up to the cursor c, whichever bits and labels there are
---   Descended                the same for the payload ps, whose labels are in the work area, where a bit that is not 0 was read up to c
+--   Descended                the same for the payload ps of family f, where a bit that is not 0 was read up to c
 --   Stepped                  the same, where the bits are read from c on
 use Rattle.std.specs.Prelude.{ℕ, ◌+◌, ◌-◌, ◌<◌, ◌≡◌, ◌≢◌, List, ◌∷◌, get_or, drop}
 use Rattle.words.specs.Word.{none}
 use Rattle.machine.specs.Reading.{run}
 use Rattle.packing.specs.Unpack.{bits}
 use Rattle.packing.specs.Payload.{payload_bits}
-use Rattle.unpacker.specs.Unpacked.{labels_at}
+use Rattle.unpacker.specs.Unpacked.{labels_in}
 use Rattle.bit_cursor.specs.declared.Cursor.{Cursor}
 use Rattle.bit_cursor.specs.Cursors.{Sees}
 use Rattle.decoder_ends.specs.declared.State.{State}
@@ -33,10 +33,10 @@ Risen m w s c r w' =
     ((bs ls : List ℕ) (k : ℕ) → c.bits ≡ k + 1 → drop k bs ≡ 0 ∷ drop (k + 1) bs → Turned 2 m bs ls w c.labels s k r w')
     × ((bs : List ℕ) → Slid bs c r)
 
-abbrev pub Descended : ℕ → List ℕ → List ℕ → State → Cursor → Outcome → List ℕ → Type 0
-Descended m ps w s c r w' =
-    ((k : ℕ) → c.bits ≡ k + 1 → get_or (payload_bits m ps) k 0 ≢ 0 → Turned 2 m (payload_bits m ps) (labels_at m w) w c.labels s k r w')
+abbrev pub Descended : ℕ → ℕ → List ℕ → List ℕ → State → Cursor → Outcome → List ℕ → Type 0
+Descended f m ps w s c r w' =
+    ((k : ℕ) → c.bits ≡ k + 1 → get_or (payload_bits m ps) k 0 ≢ 0 → Turned 2 m (payload_bits m ps) (labels_in f m ps w) w c.labels s k r w')
     × Slid (bits ps) c r
 
-abbrev pub Stepped : ℕ → ℕ → List ℕ → List ℕ → State → Cursor → Outcome → List ℕ → Type 0
-Stepped q m ps w s c r w' = Turned q m (payload_bits m ps) (labels_at m w) w c.labels s c.bits r w' × Slid (bits ps) c r
+abbrev pub Stepped : ℕ → ℕ → ℕ → List ℕ → List ℕ → State → Cursor → Outcome → List ℕ → Type 0
+Stepped q f m ps w s c r w' = Turned q m (payload_bits m ps) (labels_in f m ps w) w c.labels s c.bits r w' × Slid (bits ps) c r

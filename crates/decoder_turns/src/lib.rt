@@ -23,22 +23,21 @@ fn rise(w: &mut [u16], m: usize, s: State, c: Cursor) -> Outcome
     requires { Fits m w.old (stage c.labels s) }
     ensures { Risen m w.old s c result w.new }
 {
-    let below = s.below;
+    let depth = s.depth;
     let opens = s.opens;
     let q = s.place;
-    let v = s.here;
-    if v == 0 {
-        return Outcome::Stuck; // the root
+    if depth == 0 {
+        return Outcome::Stuck;
     }
-    let x = v as usize - 2;
+    let x = s.here as usize - 2;
     let label = x % 2;
     let place = x - label;
-    let top = below - 1;
-    let here = w[top];
+    let top = depth - 1;
+    let here = w[work::BELOW * (2 * m) + top];
     w[q] = (place + 1) as u16;
     let t = State {
         here,
-        below: top,
+        depth: top,
         opens,
         place,
     };
@@ -51,7 +50,7 @@ fn leaf(w: &mut [u16], m: usize, s: State, e: usize) -> State
     ensures { (stage (e + 1) result ≡ leaf_stage (stage e s)) × (w.new ≡ leaf_area w.old (stage e s)) }
 {
     let here = s.here;
-    let below = s.below;
+    let depth = s.depth;
     let opens = s.opens;
     let q = s.place;
     let place = 2 * e;
@@ -60,7 +59,7 @@ fn leaf(w: &mut [u16], m: usize, s: State, e: usize) -> State
     w[end] = end as u16;
     State {
         here,
-        below,
+        depth,
         opens,
         place,
     }
@@ -69,21 +68,21 @@ fn leaf(w: &mut [u16], m: usize, s: State, e: usize) -> State
 // Edge e, the next one, of label l, begins outside the tree.
 fn back(w: &mut [u16], m: usize, s: State, e: usize, l: u16) -> State
     requires { Fits m w.old (stage e s) × (e < m) × (l < 3) }
-    ensures { (stage (e + 1) result ≡ back_stage (stage e s)) × (w.new ≡ back_area w.old (stage e s) l) }
+    ensures { (stage (e + 1) result ≡ back_stage (stage e s)) × (w.new ≡ back_area m w.old (stage e s) l) }
 {
     let here = s.here;
-    let below = s.below;
+    let depth = s.depth;
     let opens = s.opens;
     let q = s.place;
     let place = 2 * e;
     let dart = place as u16;
     w[q] = dart;
-    w[opens] = here;
-    w[opens + 1] = dart + l;
+    w[work::BEGUN * (2 * m) + opens] = here;
+    w[work::OPENS * (2 * m) + opens] = dart + l;
     State {
         here,
-        below,
-        opens: opens + 2,
+        depth,
+        opens: opens + 1,
         place,
     }
 }
@@ -91,29 +90,29 @@ fn back(w: &mut [u16], m: usize, s: State, e: usize, l: u16) -> State
 // Down edge e, the next one, of the tree and of label l.
 fn enter(w: &mut [u16], m: usize, s: State, e: usize, l: u16) -> State
     requires { Fits m w.old (stage e s) × (e < m) × (l < 3) }
-    ensures { (stage (e + 1) result ≡ enter_stage (stage e s) l) × (w.new ≡ enter_area w.old (stage e s)) }
+    ensures { (stage (e + 1) result ≡ enter_stage (stage e s) l) × (w.new ≡ enter_area m w.old (stage e s)) }
 {
     let here = s.here;
-    let below = s.below;
+    let depth = s.depth;
     let opens = s.opens;
     let q = s.place;
     let x = 2 * e;
     let dart = x as u16;
     w[q] = dart;
-    w[below] = here;
+    w[work::BELOW * (2 * m) + depth] = here;
     State {
         here: dart + l + 2,
-        below: below + 1,
+        depth: depth + 1,
         opens,
         place: x + 1,
     }
 }
 
 // A bit that is not 0 was read up to c: a label and a bit more say what begins. Where a tree edge begins, that bit is the next to be read.
-fn descend(payload: &[u8], m: usize, w: &mut [u16], s: State, c: Cursor) -> Outcome
-    requires labelled { Labelled m payload.now w.old × Fits m w.old (stage c.labels s) }
+fn descend(payload: &[u8], family: u16, m: usize, w: &mut [u16], s: State, c: Cursor) -> Outcome
+    requires labelled { Labelled family m payload.now w.old × Fits m w.old (stage c.labels s) }
     requires sees { Sees (bits payload.now) c 1 × (c.bits ≤ 2 * m) }
-    ensures { Descended m payload.now w.old s c result w.new }
+    ensures { Descended family m payload.now w.old s c result w.new }
 {
     let at = c.bits;
     let e = c.labels;
@@ -123,7 +122,7 @@ fn descend(payload: &[u8], m: usize, w: &mut [u16], s: State, c: Cursor) -> Outc
     if m <= e {
         return Outcome::Stuck;
     }
-    let label = c.label(m, w);
+    let label = c.label(payload, family, m, w);
     let l = label.value;
     let d = label.cursor;
     if l == work::STAR {
@@ -143,26 +142,26 @@ fn descend(payload: &[u8], m: usize, w: &mut [u16], s: State, c: Cursor) -> Outc
 }
 
 // One letter, or two where a leaf is.
-fn turn(payload: &[u8], m: usize, w: &mut [u16], s: State, c: Cursor) -> Outcome
-    requires labelled { Labelled m payload.now w.old × Fits m w.old (stage c.labels s) }
+fn turn(payload: &[u8], family: u16, m: usize, w: &mut [u16], s: State, c: Cursor) -> Outcome
+    requires labelled { Labelled family m payload.now w.old × Fits m w.old (stage c.labels s) }
     requires sees { Sees (bits payload.now) c 2 × (c.bits < 2 * m) }
-    ensures { Stepped 2 m payload.now w.old s c result w.new }
+    ensures { Stepped 2 family m payload.now w.old s c result w.new }
 {
     let bit = c.bit();
     let d = bit.cursor;
     if bit.value == 0 {
         return rise(w, m, s, d);
     }
-    descend(payload, m, w, s, d)
+    descend(payload, family, m, w, s, d)
 }
 
 // A turn, and the edges outside the tree that end where it leads to.
-pub fn step(payload: &[u8], m: usize, w: &mut [u16], s: State, c: Cursor) -> Outcome
-    requires labelled { Labelled m payload.now w.old × Fits m w.old (stage c.labels s) }
+pub fn step(payload: &[u8], family: u16, m: usize, w: &mut [u16], s: State, c: Cursor) -> Outcome
+    requires labelled { Labelled family m payload.now w.old × Fits m w.old (stage c.labels s) }
     requires sees { Sees (bits payload.now) c 2 × (c.bits < 2 * m) }
-    ensures { Stepped 1 m payload.now w.old s c result w.new }
+    ensures { Stepped 1 family m payload.now w.old s c result w.new }
 {
-    match turn(payload, m, w, s, c) {
+    match turn(payload, family, m, w, s, c) {
         Outcome::Stuck => {
             return Outcome::Stuck;
         }

@@ -23,7 +23,7 @@ use Rattle.packing.specs.Types.{coded, short, read_codes, code_bytes, with_digit
 use Rattle.packing.specs.Groups.{groups_from, on_groups, undone, values_of}
 use Rattle.packing.proofs.Packed.{bits_take}
 use Rattle.packing.proofs.Groups.{values_length, values_drop, undone_codes}
-use Rattle.padding.proofs.Padding.{length_labels}
+use Rattle.unpacker.proofs.Padding.{length_labels}
 use Rattle.work.specs.Map.{TYPES}
 use Rattle.work.specs.Area.{region}
 use Rattle.work.proofs.Regions.{length_region}

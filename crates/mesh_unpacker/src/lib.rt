@@ -23,15 +23,15 @@ fn clean(payload: &[u8], inverse: &[u8], c: usize, l: usize) -> bool
     if payload.len() != from + (l + 4) / 5 {
         return false;
     }
-    let padded = padding::zero_bits(payload, c, 8 * from);
+    let padded = unpacker::zero_bits(payload, c, 8 * from);
     if !padded {
         return false;
     }
-    let fit = padding::groups_fit(payload, inverse, from);
+    let fit = unpacker::groups_fit(payload, inverse, from);
     if !fit {
         return false;
     }
-    padding::zero_labels(payload, inverse, from, l)
+    unpacker::zero_labels(payload, inverse, from, l)
 }
 
 // ---- digits

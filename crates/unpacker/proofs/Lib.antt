@@ -1,1 +1,4 @@
+mod Fill
+pub mod Payload
+pub mod Padding
 mod Labels

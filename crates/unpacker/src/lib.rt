@@ -1,11 +1,92 @@
-// A payload of kind 1 or 2 taken apart: whether it is as it is laid out, and its labels by number, put into the lent work area. It knows digits and bytes and the
-// inverse of a table; no heads of records, no letters, no words and no plans.
-ghost use Rattle.std.specs.Prelude.{◌≡◌, true, List, ℕ, ◌+◌, ◌*◌, ◌≤◌, length};
-ghost use Rattle.packing.specs.Payload.{has_labels, Sized, payload_labels};
-ghost use Rattle.packing.specs.Groups.{undone};
-ghost use Rattle.bit_window.specs.Window.{top_bits};
-ghost use Rattle.work.specs.Area.{placed};
-ghost use Rattle.unpacker.specs.Unpacked.{labels_at, grouped, Unpacks};
+// A payload taken apart: whether its padding bits and fill labels are 0 and its groups are a table's, and its labels by number, those of kind 2 put into
+// the lent work area. It knows digits and bytes and the inverse of a table; no heads of records, no letters, no words and no plans.
+ghost use Rattle.std.specs.Prelude.{◌≡◌, true, ◌+◌, ◌-◌, ◌*◌, ◌^◌, ◌≤◌, ◌<◌, length, get_or, take, drop};
+ghost use Rattle.model.specs.Numbers.{all_below};
+ghost use Rattle.packing.specs.Unpack.{digits_of, bits, groups};
+ghost use Rattle.packing.specs.Payload.{has_labels, Sized, payload_labels, payload_clean};
+ghost use Rattle.packing.specs.Groups.{undone, values_of};
+ghost use Rattle.unpacker.specs.Unpacked.{labels_at, labels_in, grouped, Unpacks};
+
+// ---- padding bits, fill labels and groups
+
+// Every bit from place `from` up to place `to` is 0.
+pub fn zero_bits(bytes: &[u8], from: usize, to: usize) -> bool
+    requires { to ≤ 8 * length bytes.now }
+    ensures { result ≡ all_below 1 (drop from (take to (bits bytes.now))) }
+{
+    let mut k = from;
+    while k < to {
+        let b = bits::bit_at(bytes, k);
+        if b != 0 {
+            return false;
+        }
+        k += 1;
+    }
+    true
+}
+
+// The last labels of a group, so many, are 0.
+fn ends_in_zeros(group: u8, count: usize) -> bool
+    requires { (0 < count) × (count < 5) }
+    ensures { result ≡ all_below 1 (drop (5 - count) (digits_of 3 5 group)) }
+{
+    if count == 1 {
+        return group % 3 == 0;
+    }
+    if count == 2 {
+        return group % 9 == 0;
+    }
+    if count == 3 {
+        return group % 27 == 0;
+    }
+    group % 81 == 0
+}
+
+// Every label of the groups from byte `from` on is 0, from number m on, which is one of the last group's, or past it.
+pub fn zero_labels(bytes: &[u8], inverse: &[u8], from: usize, m: usize) -> bool
+    requires { (length inverse.now ≡ 256) × (from ≤ length bytes.now) × (length bytes.now < 2 ^ 32) × (5 * (length bytes.now - from) < m + 5) }
+    ensures { result ≡ all_below 1 (drop m (groups (drop from (values_of inverse.now bytes.now)))) }
+{
+    let end = 5 * (bytes.len() - from);
+    if end <= m {
+        return true;
+    }
+    let b = bytes[bytes.len() - 1] as usize;
+    ends_in_zeros(inverse[b], end - m)
+}
+
+// Every byte from place `from` on stands for a group.
+pub fn groups_fit(bytes: &[u8], inverse: &[u8], from: usize) -> bool
+    requires { length inverse.now ≡ 256 }
+    ensures { result ≡ all_below 243 (drop from (values_of inverse.now bytes.now)) }
+{
+    let mut k = from;
+    while k < bytes.len() {
+        let b = bytes[k] as usize;
+        if inverse[b] > 242 {
+            return false;
+        }
+        k += 1;
+    }
+    true
+}
+
+// A payload of kind 2 is clean: "unused low bits are 0", "the last group filled with 0", and every group's byte is the table's.
+fn groups_clean(payload: &[u8], inverse: &[u8], m: usize) -> bool
+    requires { Sized 2 m payload.now × (length inverse.now ≡ 256) }
+    ensures { result ≡ payload_clean 2 m (undone inverse.now 2 m payload.now) }
+{
+    let from = (2 * m + 7) / 8;
+    let padded = zero_bits(payload, 2 * m, 8 * from);
+    if !padded {
+        return false;
+    }
+    let fit = groups_fit(payload, inverse, from);
+    if !fit {
+        return false;
+    }
+    zero_labels(payload, inverse, from, m)
+}
 
 // ---- labels by number
 
@@ -42,75 +123,38 @@ fn spread_groups(payload: &[u8], inverse: &[u8], m: usize, w: &mut [u16])
     }
 }
 
-// The eight labels that are the highest bits of a word, from place `at` on.
-fn put_eight(w: &mut [u16], at: usize, word: u64)
-    requires { at + 8 ≤ length w.old }
-    ensures { w.new ≡ placed at (top_bits 8 word) w.old }
-{
-    let b = word << 1;
-    let c = b << 1;
-    let d = c << 1;
-    let e = d << 1;
-    let f = e << 1;
-    let g = f << 1;
-    let h = g << 1;
-    w[at] = (word >> 63) as u16;
-    w[at + 1] = (b >> 63) as u16;
-    w[at + 2] = (c >> 63) as u16;
-    w[at + 3] = (d >> 63) as u16;
-    w[at + 4] = (e >> 63) as u16;
-    w[at + 5] = (f >> 63) as u16;
-    w[at + 6] = (g >> 63) as u16;
-    w[at + 7] = (h >> 63) as u16;
-}
-
-// The labels of kind 1, eight at a time, and what stands behind the last.
-fn spread_bits(payload: &[u8], m: usize, w: &mut [u16])
-    requires { Sized 1 m payload.now × (32 * m ≤ length w.old) }
-    ensures { labels_at m w.new ≡ payload_labels 1 m payload.now }
-{
-    let mut i = 0;
-    while i < m {
-        let word = bit_window::near(payload, 2 * m + i);
-        put_eight(w, work::LABELS * (2 * m) + i, word);
-        i += 8;
-    }
-}
-
-// ---- a payload
-
-// Whether a payload of kind 1 is clean, and if so, its labels in the work area. No table concerns it.
-fn unpack_bits(payload: &[u8], m: usize, w: &mut [u16]) -> bool
-    requires { Sized 1 m payload.now × (32 * m ≤ length w.old) }
-    ensures { (inv : List ℕ) → Unpacks 1 m inv payload.now result w.new }
-{
-    let clean = padding::zero_bits(payload, 3 * m, 8 * payload.len());
-    if clean {
-        spread_bits(payload, m, w);
-    }
-    clean
-}
-
 // Whether a payload of kind 2 is clean, and if so, its labels in the work area. The inverse is handed down by value: it is copied only here.
 fn unpack_groups(payload: &[u8], inverse: [u8; 256], m: usize, w: &mut [u16]) -> bool
     requires { Sized 2 m payload.now × (32 * m ≤ length w.old) }
     ensures { Unpacks 2 m inverse payload.now result w.new }
 {
-    let clean = padding::groups_clean(payload, &inverse, m);
+    let clean = groups_clean(payload, &inverse, m);
     if clean {
         spread_groups(payload, &inverse, m, w);
     }
     clean
 }
 
-// Whether a payload is as it is laid out, and if so, its labels by number in the work area, so that whoever reads them one by one needs no division and knows no
-// kind.
+// Whether a payload is as it is laid out, and if so, its labels by number: those of kind 2 in the work area, so that whoever reads them one by one needs no
+// division; those of kind 1 stay in the payload.
 pub fn unpack(payload: &[u8], family: u16, inverse: [u8; 256], m: usize, w: &mut [u16]) -> bool
     requires { (has_labels family ≡ true) × Sized family m payload.now × (32 * m ≤ length w.old) }
     ensures { Unpacks family m inverse payload.now result w.new }
 {
     if family == 1 {
-        return unpack_bits(payload, m, w);
+        return zero_bits(payload, 3 * m, 8 * payload.len());
     }
     unpack_groups(payload, inverse, m, w)
+}
+
+// Label e.
+pub fn label_at(payload: &[u8], family: u16, m: usize, w: &[u16], e: usize) -> u16
+    requires { (has_labels family ≡ true) × Sized family m payload.now × (32 * m ≤ length w.now) × (e < m) }
+    ensures { result ≡ get_or (labels_in family m payload.now w.now) e 0 }
+{
+    if family == 1 {
+        let l = bits::bit_at(payload, 2 * m + e);
+        return l as u16;
+    }
+    w[work::LABELS * (2 * m) + e]
 }

@@ -5,7 +5,7 @@
 --   WAITING                      the walk by marks, which stand from 0 on: the stack of edges outside the tree that wait for their end
 --   BITS, LABELS                 writing: the tree bits, and the labels, in reading too
 --   BELOW, TREES, BEGUN, OPENS   reading: stacks of the vertices that the present one hangs from, of open tree edges, of the vertices where other open
---                                edges began, and of those edges, or both by turns from OPENS on; the rotation stands from 0 on
+--                                edges began, and of those edges; the rotation stands from 0 on
 --   TYPES                        meshes: the node types
 --   BASES, PLACES                meshes, reading: stacks of the nodes that are not complete, the open edges when each was entered and what is to come at its
 --                                second place

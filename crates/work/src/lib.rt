@@ -28,7 +28,7 @@ pub const DEGREES: usize = 10;
 pub const LENGTHS: usize = 11;
 
 // Reading: the rotation from 0 on; stacks of the vertices that the present one hangs from, of open tree edges, of the vertices where other open edges
-// began, and of those edges. In kinds 1 and 2 those vertices and edges are stacked by turns, from OPENS on.
+// began, and of those edges.
 pub const BELOW: usize = 5;
 
 pub const TREES: usize = 6;

@@ -1,20 +1,18 @@
-use mathlib.Core.Path.{refl, sym, ◌∙◌}
+use mathlib.Core.Path.{sym, ◌∙◌}
 use native.Mathlib.Omega.{arith}
-use lib.ListN.{set, length-set}
 use borrow.Author.Tests.{not-true, not-false}
-use Rattle.decoder_ends.specs.States.{bottom}
 use Rattle.decoder.proofs.Answers.{Prepared, prepared, answer_unclean, answer_clean}
 use borrow.Author.Rules.{rules}
 use Rattle.decoder.proofs.decode.Statement.{statement}
 use Rattle.decoder.proofs.decode.Tie as tie
 
 begin : (c : tie.After-fill) → let a = c.before.before.before.before.before.before.before.before.before.args in
-    Prepared a.inverse a.family a.m a.payload.now (set c.fill.new.0 (bottom a.m) 0)
+    Prepared a.inverse a.family a.m a.payload.now c.fill.new.0
 begin c =
     let p = c.before.before.before.before.before.before.before.before.before.requires in let test = c.before.before in
     let u = c.before.before.before.before.before.unpack in let k = u.auto.1.1.1.1.0 in let h = p.2 in
     let clean = not-false _ test.if1.false in
-    prepared _ _ _ _ p.0 p.1 (sym u.ensures.clean ∙ clean) _ _ _ (omega arith) (u.ensures.labels clean) c.fill.ensures refl
+    prepared _ _ _ _ p.0 p.1 (sym u.ensures.clean ∙ clean) _ _ (omega arith) (u.ensures.labels clean) c.fill.ensures
 
 returns : tie.Need-returns
 returns c =
@@ -25,17 +23,10 @@ fill-requires : tie.Need-fill-requires
 fill-requires c κs = let h = c.before.before.before.before.before.before.before.before.requires.2 in let k = c.before.before.before.before.unpack.auto.1.1.1.1.0 in omega arith
 
 run-requires : tie.Need-run-requires
-run-requires c κs = let b = begin c.before.before.before in (b.labelled, (b.room, b.blank, b.root_below))
-
-same-length-2 : tie.Need-same-length-2
-same-length-2 c =
-    c.before.before.run.auto.1.1.0 ∙ length-set c.before.before.before.before.before.before.fill.new.0 _ _ ∙ c.before.before.before.before.before.before.fill.auto.0
-    ∙ c.before.before.before.before.before.before.before.before.before.before.before.unpack.auto.1.1.1.1.0
+run-requires c κs = let b = begin c.before.before.before in (b.labelled, (b.room, b.blank))
 
 returns-2 : tie.Need-returns-2
-returns-2 c =
-    let p = c.before.before.before.before.before.before.before.before.before.before.before.before.before.before.before.requires in
-    answer_clean _ _ _ _ p.0 p.1 _ _ _ _ (begin c.before.before.before.before.before.before) c.before.before.run.ensures
+returns-2 c = answer_clean _ _ _ _ _ _ _ _ (begin c.before.before.before.before.before.before) c.before.before.run.ensures
 
 pub decode_spec : {M : Type 1} → statement M
 decode_spec =
@@ -46,11 +37,6 @@ decode_spec =
     returns
     (λ c. search rules)
     fill-requires
-    (λ c. search rules)
-    (λ c. search rules)
-    (λ c. search rules)
-    (λ c. search rules)
-    (λ c. search rules)
     run-requires
-    same-length-2
+    (λ c. search rules)
     returns-2)

@@ -10,12 +10,12 @@ use Rattle.decoder_turns.proofs.descend.Tie as tie
 returns : tie.Need-returns
 returns c =
     let p = c.before.before.before.requires in
-    (λ k q o. no_second _ _ _ _ _ p.0.0 p.0.1 p.1.0 p.1.1 k q o c.if1.true, slid_none _ _)
+    (λ k q o. no_second _ _ _ _ _ _ p.0.0 p.0.1 p.1.0 p.1.1 k q o c.if1.true, slid_none _ _)
 
 returns-2 : tie.Need-returns-2
 returns-2 c =
     let p = c.before.before.before.before.requires in
-    (λ k q o. no_more _ _ _ _ _ p.0.0 p.0.1 p.1.0 p.1.1 k q o (omega arith) c.if2.true, slid_none _ _)
+    (λ k q o. no_more _ _ _ _ _ _ p.0.0 p.0.1 p.1.0 p.1.1 k q o (omega arith) c.if2.true, slid_none _ _)
 
 bit-requires : tie.Need-bit-requires
 bit-requires c κs =
@@ -27,7 +27,7 @@ returns-3 c =
     let p = c.before.before.before.before.before.before.before.before.before.before.before.before.before.before.requires in
     let x = c.before.before.before.before.before.before.before.before.label in let y = c.before.bit in let r = c.before.before.before.before.leaf.ensures in (
       λ k q o.
-          to_leaf _ _ _ _ _ p.0.0 p.0.1 p.1.0 p.1.1 k q o c.before.before.before.before.before.before.before.before.before.before.before.if1.false c.before.before.before.before.before.before.before.before.before.before.if2.false x.result x.ensures
+          to_leaf _ _ _ _ _ _ p.0.0 p.0.1 p.1.0 p.1.1 k q o c.before.before.before.before.before.before.before.before.before.before.before.if1.false c.before.before.before.before.before.before.before.before.before.before.if2.false x.result x.ensures
           y.result y.ensures _ _ c.before.before.before.before.before.before.if3.true r.0 r.1,
       slid_both _ _ _ (ap (λ (z : Next). z.cursor) x.ensures) y.result y.ensures _ _,
     )
@@ -40,14 +40,14 @@ bit-requires-2 c κs =
 back-requires : tie.Need-back-requires
 back-requires c κs =
     let p = c.before.before.before.before.before.before.before.before.before.before.before.before.requires in let x = c.before.before.before.before.before.before.label in
-    (p.0.1, omega arith, label_fits _ _ _ _ _ p.0.0 p.0.1 p.1.0 p.1.1 (omega arith) x.result x.ensures)
+    (p.0.1, omega arith, label_fits _ _ _ _ _ _ p.0.0 p.0.1 p.1.0 p.1.1 (omega arith) x.result x.ensures)
 
 returns-4 : tie.Need-returns-4
 returns-4 c =
     let p = c.before.before.before.before.before.before.before.before.before.before.before.before.before.before.before.before.requires in
     let x = c.before.before.before.before.before.before.before.before.before.before.label in let y = c.before.before.before.before.before.before.before.bit2 in let r = c.before.before.before.back.ensures in (
       λ k q o.
-          to_back _ _ _ _ _ p.0.0 p.0.1 p.1.0 p.1.1 k q o c.before.before.before.before.before.before.before.before.before.before.before.before.before.if1.false c.before.before.before.before.before.before.before.before.before.before.before.before.if2.false x.result x.ensures
+          to_back _ _ _ _ _ _ p.0.0 p.0.1 p.1.0 p.1.1 k q o c.before.before.before.before.before.before.before.before.before.before.before.before.before.if1.false c.before.before.before.before.before.before.before.before.before.before.before.before.if2.false x.result x.ensures
           y.result y.ensures _ _ c.before.before.before.before.before.before.before.before.if3.false c.before.before.before.before.before.if4.true r.0 r.1,
       slid_both _ _ _ (ap (λ (z : Next). z.cursor) x.ensures) y.result y.ensures _ _,
     )
@@ -55,14 +55,14 @@ returns-4 c =
 enter-requires : tie.Need-enter-requires
 enter-requires c κs =
     let p = c.before.before.before.before.before.before.before.before.before.before.before.before.requires in let x = c.before.before.before.before.before.before.label in
-    (p.0.1, omega arith, label_fits _ _ _ _ _ p.0.0 p.0.1 p.1.0 p.1.1 (omega arith) x.result x.ensures)
+    (p.0.1, omega arith, label_fits _ _ _ _ _ _ p.0.0 p.0.1 p.1.0 p.1.1 (omega arith) x.result x.ensures)
 
 returns-5 : tie.Need-returns-5
 returns-5 c =
     let p = c.before.before.before.before.before.before.before.before.before.before.before.before.before.before.before.requires in
     let x = c.before.before.before.before.before.before.before.before.before.label in let y = c.before.before.before.before.before.before.bit2 in let r = c.before.before.enter.ensures in (
       λ k q o.
-          to_tree _ _ _ _ _ p.0.0 p.0.1 p.1.0 p.1.1 k q o c.before.before.before.before.before.before.before.before.before.before.before.before.if1.false c.before.before.before.before.before.before.before.before.before.before.before.if2.false x.result x.ensures
+          to_tree _ _ _ _ _ _ p.0.0 p.0.1 p.1.0 p.1.1 k q o c.before.before.before.before.before.before.before.before.before.before.before.before.if1.false c.before.before.before.before.before.before.before.before.before.before.before.if2.false x.result x.ensures
           y.result y.ensures _ _ c.before.before.before.before.before.before.before.if3.false c.before.before.before.before.if4.false r.0 r.1,
       slid_label _ _ _ (ap (λ (z : Next). z.cursor) x.ensures) _ _,
     )

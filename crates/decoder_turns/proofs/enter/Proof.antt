@@ -16,6 +16,9 @@ enter_spec =
     (λ c. search rules)
     (λ c. search rules)
     (λ c. search rules)
+    (λ c. search rules)
+    (λ c. search rules)
+    (λ c. search rules)
     slice-write-w-2
     (λ c. search rules)
     (λ c. search rules)

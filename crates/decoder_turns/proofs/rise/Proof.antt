@@ -1,8 +1,9 @@
 use native.Mathlib.Omega.{arith}
 use mathlib.Core.Path.{refl}
 use Rattle.decoder_ends.specs.States.{stage}
+use Rattle.decoder_ends.proofs.Areas.{below_none}
 use Rattle.decoder_ends.proofs.Letters.{at_root}
-use Rattle.decoder_ends.proofs.Moves.{at_none, off_root, tree_top, rising}
+use Rattle.decoder_ends.proofs.Moves.{tree_top, rising}
 use Rattle.decoder_turns.specs.Turns.{Turned}
 use Rattle.decoder_turns.proofs.Steps.{turned_to, slid_none, slid_same}
 use borrow.Author.Rules.{rules}
@@ -13,20 +14,20 @@ returns : tie.Need-returns
 unfolding Turned
 returns c =
     let a = c.before.args in (
-      λ bs ls k p z. at_root bs ls _ (stage a.c.labels a.s) k z (at_none _ _ _ c.before.requires c.if1.true),
+      λ bs ls k p z. at_root bs ls _ (stage a.c.labels a.s) k z (below_none a.m a.w.now a.s.depth a.s.opens c.if1.true),
       λ bs. slid_none bs _,
     )
 
 sub-x : tie.Need-overflow-sub-x
-sub-x c = let f = c.before.requires in let t = tree_top _ _ _ f (off_root _ _ _ f c.if1.false) in omega arith
+sub-x c = let t = tree_top _ _ _ c.before.before.requires (omega arith) in omega arith
 
 returns-2 : tie.Need-returns-2
 returns-2 c =
-    let f = c.before.before.requires in let some = off_root _ _ _ f c.before.if1.false in
-    let t = tree_top _ _ _ f some in (
+    let st = c.before.before.before in
+    let t = tree_top _ _ _ st.requires (omega arith) in (
       λ bs ls k p z.
           turned_to 2 _ bs ls _ _ _ k _ _ _ _ _ _ _ _ refl p refl refl (omega arith)
-          (rising _ _ _ f some _ _ (omega arith) (omega arith) _ (omega arith) bs ls k z),
+          (rising _ _ _ st.requires (omega arith) _ _ (omega arith) (omega arith) _ (omega arith) bs ls k z),
       λ bs. slid_same bs _ _ _,
     )
 
@@ -37,6 +38,9 @@ rise_spec =
     returns
     (λ c. search rules)
     sub-x
+    (λ c. search rules)
+    (λ c. search rules)
+    (λ c. search rules)
     (λ c. search rules)
     (λ c. search rules)
     (λ c. search rules)

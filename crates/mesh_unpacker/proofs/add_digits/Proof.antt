@@ -5,7 +5,7 @@ use lib.ListN.{length, get_or, drop}
 use Rattle.packing.specs.Unpack.{groups}
 use Rattle.packing.specs.Groups.{values_of}
 use Rattle.packing.proofs.Groups.{values_length}
-use Rattle.padding.proofs.Padding.{length_labels}
+use Rattle.unpacker.proofs.Padding.{length_labels}
 use Rattle.mesh_unpacker.proofs.Digits.{Adding, adding_start, adding_end, adding_below, adding_there, adding_on}
 use borrow.Author.Rules.{rules}
 use Rattle.mesh_unpacker.proofs.add_digits.Statement.{statement}

@@ -8,7 +8,7 @@ use Rattle.packing.specs.Unpack.{groups}
 use Rattle.packing.specs.Groups.{values_of}
 use Rattle.packing.proofs.Groups.{values_length, values_at}
 use Rattle.unpacker.specs.Unpacked.{grouped}
-use Rattle.padding.proofs.Payload.{KindTwo, two, labels_two}
+use Rattle.unpacker.proofs.Payload.{KindTwo, two, labels_two}
 use Rattle.unpacker.proofs.Labels.{groups_start, group_on, groups_end}
 use borrow.Author.Rules.{rules}
 use Rattle.unpacker.proofs.spread_groups.Statement.{statement}

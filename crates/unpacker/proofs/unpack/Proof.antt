@@ -1,23 +1,33 @@
-use mathlib.Core.Path.{◌≡◌, sym, subst}
+use native.Mathlib.Omega.{arith}
+use mathlib.Core.Path.{◌≡◌, sym, ◌∙◌, subst}
 use Prim.Native.Nat.{ℕ}
 use Rattle.packing.proofs.Labelled.{labelled_two}
 use Rattle.unpacker.specs.Unpacked.{Unpacks}
-use Rattle.padding.proofs.Payload.{of_kind}
+use Rattle.unpacker.proofs.Payload.{KindOne, one, of_kind, labels_of_kind, labels_own, labels_in_one}
+use Rattle.unpacker.proofs.Padding.{clean_one}
 use borrow.Author.Rules.{rules}
 use Rattle.unpacker.proofs.unpack.Statement.{statement}
 use Rattle.unpacker.proofs.unpack.Tie as tie
 
+in_one : (c : tie.Then1) → KindOne c.before.before.before.args.payload.now c.before.before.before.args.m
+in_one c = one _ _ (of_kind _ _ _ _ c.if1.true c.before.before.before.requires.1)
+
 is_two : (c : tie.Else1) → c.before.before.before.args.family ≡ 2
 is_two c = labelled_two _ c.before.before.before.requires.0 c.if1.false
 
-unpack-bits-requires : tie.Need-unpack-bits-requires
-unpack-bits-requires c κs = let p = c.before.before.before.before.requires in (of_kind _ _ _ _ c.before.if1.true p.1, p.2)
+mul-zero-bits-2 : tie.Need-overflow-mul-zero-bits-2
+mul-zero-bits-2 c = let z = in_one c in omega arith
+
+zero-bits-requires : tie.Need-zero-bits-requires
+zero-bits-requires c κs = let z = in_one c in omega arith
 
 returns : tie.Need-returns
 returns c =
-    let a = c.before.before.before.before.before.before.before.args in let v = c.before.before.unpack-bits in
-    subst (λ (f : ℕ). Unpacks f a.m a.inverse a.payload.now v.result v.new.1.1.0) (sym c.before.before.before.before.if1.true)
-    (v.ensures a.inverse)
+    let a = c.before.before.before.before.args in let f = c.before.if1.true in
+    record {
+      clean = c.zero_bits.ensures ∙ clean_one a.inverse _ _ a.payload.now f;
+      labels = λ e. labels_in_one _ _ _ _ f ∙ labels_own a.payload.now a.m a.inverse ∙ labels_of_kind a.payload.now a.m a.inverse _ _ f;
+    }
 
 unpack-groups-requires : tie.Need-unpack-groups-requires
 unpack-groups-requires c κs = let p = c.before.before.before.before.requires in (of_kind _ _ _ _ (is_two c.before) p.1, p.2)
@@ -30,4 +40,11 @@ returns-2 c =
 pub unpack_spec : {M : Type 1} → statement M
 unpack_spec =
     tie.close
-    (tie.spec unpack-bits-requires (λ c. search rules) returns unpack-groups-requires (λ c. search rules) returns-2)
+    (tie.spec
+    (λ c. search rules)
+    mul-zero-bits-2
+    zero-bits-requires
+    returns
+    unpack-groups-requires
+    (λ c. search rules)
+    returns-2)

@@ -1,5 +1,7 @@
+use native.Mathlib.Omega.{arith}
 use mathlib.Core.Path.{sym, ◌∙◌}
 use mathlib.Core.Bool.{false≢true}
+use Rattle.unpacker.proofs.Payload.{labels_in_two}
 use borrow.Author.Rules.{rules}
 use Rattle.unpacker.proofs.unpack_groups.Statement.{statement}
 use Rattle.unpacker.proofs.unpack_groups.Tie as tie
@@ -7,7 +9,7 @@ use Rattle.unpacker.proofs.unpack_groups.Tie as tie
 returns : tie.Need-returns
 returns c = record {
   clean = c.before.before.before.before.before.before.groups-clean.ensures;
-  labels = λ e. c.before.before.spread-groups.ensures;
+  labels = λ e. labels_in_two _ _ _ _ (λ q. absurd (omega (arith, q))) ∙ c.before.before.spread-groups.ensures;
 }
 
 returns-2 : tie.Need-returns-2

@@ -19,7 +19,7 @@ use Rattle.packing.specs.Groups.{groups_from, undone, values_of}
 use Rattle.packing.proofs.Groups.{undone_other, undone_front, undone_back}
 use Rattle.packing.proofs.Labelled.{labelled_two}
 use Rattle.packing.proofs.Packed.{length_unpack, length_bits, bits_take}
-use Rattle.padding.proofs.Payload.{two, of_kind}
+use Rattle.unpacker.proofs.Payload.{two, of_kind}
 
 -- ---- bits and labels of bytes
 

@@ -1,9 +1,9 @@
 use native.Mathlib.Omega.{arith}
 use mathlib.Core.Path.{◌≡◌}
 use Rattle.packing.specs.Unpack.{digits_of}
-use Rattle.padding.proofs.Fill.{zero_digits}
-use Rattle.padding.proofs.ends_in_zeros.Statement.{statement}
-use Rattle.padding.proofs.ends_in_zeros.Tie as tie
+use Rattle.unpacker.proofs.Fill.{zero_digits}
+use Rattle.unpacker.proofs.ends_in_zeros.Statement.{statement}
+use Rattle.unpacker.proofs.ends_in_zeros.Tie as tie
 
 returns : tie.Need-returns
 unfolding digits_of

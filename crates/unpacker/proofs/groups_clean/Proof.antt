@@ -3,11 +3,11 @@ use native.Mathlib.Omega.{arith}
 use borrow.Author.Tests.{not-true, not-false}
 use Rattle.packing.specs.Payload.{has_labels, payload_clean}
 use Rattle.packing.specs.Groups.{undone, values_of}
-use Rattle.padding.proofs.Payload.{KindTwo, two}
-use Rattle.padding.proofs.Padding.{clean_parts, clean_two}
+use Rattle.unpacker.proofs.Payload.{KindTwo, two}
+use Rattle.unpacker.proofs.Padding.{clean_parts, clean_two}
 use borrow.Author.Rules.{rules}
-use Rattle.padding.proofs.groups_clean.Statement.{statement}
-use Rattle.padding.proofs.groups_clean.Tie as tie
+use Rattle.unpacker.proofs.groups_clean.Statement.{statement}
+use Rattle.unpacker.proofs.groups_clean.Tie as tie
 
 in_two : (c : tie.Start) → KindTwo c.args.payload.now c.args.m
 in_two c = two _ _ c.requires.0

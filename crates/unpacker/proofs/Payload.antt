@@ -4,19 +4,21 @@
 --   bits_room             a payload has room for its tree bits
 --   KindOne, one          the sizes in kind 1
 --   KindTwo, two          the sizes in kind 2
---   of_kind               the sizes, by the kind's number
---   labels_own            no table concerns the labels of kind 1
+--   of_kind, labels_of_kind, labels_own   the sizes and the labels, by the kind's number
 --   label_one_lem             where a label of kind 1 stands among all bits
 --   labels_two            the labels of kind 2 are the first of those in the groups
 --   labels_small          every label is below 3
+--   labels_in_one, labels_in_two, labels_in_same   where the labels stand, by the family
 use Prim.Native.Nat.{ℕ, ◌+◌, ◌*◌, ◌/◌, ◌≤◌, ◌<◌}
 use native.Mathlib.Omega.{arith}
 use mathlib.Core.Path.{◌≡◌, refl, sym, ap, ◌∙◌, subst}
+use mathlib.Core.Logic.{◌≢◌}
 use mathlib.Core.Bool.{Bool, true, false, cond}
 use mathlib.Core.List.{List}
 use lib.Dec.{eqb}
 use lib.ListN.{length, get_or, take, drop}
 use lib.Seq.{length-take-le, get_or-take, get_or-drop}
+use borrow.Author.Tests.{ne_eqb}
 use Rattle.model.specs.Numbers.{all_below}
 use Rattle.model.specs.Record.{bytes_for, payload_length}
 use Rattle.model.proofs.Below.{below_mono, below_take, below_drop}
@@ -27,6 +29,7 @@ use Rattle.packing.proofs.Groups.{undone_other, undone_back}
 use Rattle.packing.proofs.Labelled.{labelled_cases}
 use Rattle.packing.proofs.Packed.{length_bits, bits_below, unpack_below}
 use Rattle.packing.proofs.Payload.{unpayload_parts}
+use Rattle.unpacker.specs.Unpacked.{labels_at, labels_in}
 
 -- ---- tree bits
 
@@ -76,6 +79,9 @@ module _ (ps : List ℕ) (m : ℕ) where
   pub of_kind : (k j : ℕ) → k ≡ j → Sized k m ps → Sized j m ps
   of_kind k j e h = subst (λ (i : ℕ). Sized i m ps) e h
 
+  pub labels_of_kind : (inv : List ℕ) (k j : ℕ) → k ≡ j → payload_labels j m (undone inv j m ps) ≡ payload_labels k m (undone inv k m ps)
+  labels_of_kind inv k j e = ap (λ (i : ℕ). payload_labels i m (undone inv i m ps)) (sym e)
+
   -- nothing is undone in kind 1
   pub labels_own : (inv : List ℕ) → payload_labels 1 m ps ≡ payload_labels 1 m (undone inv 1 m ps)
   labels_own inv = ap (payload_labels 1 m) (sym (undone_other inv ps 1 m (λ two. omega arith) (λ three. omega arith)))
@@ -90,9 +96,21 @@ module _ (ps : List ℕ) (m : ℕ) where
   unfolding payload_labels groups_from
   labels_two inv s = ap (λ (vs : List ℕ). take m (groups vs)) (sym (undone_back inv ps 2 m s))
 
--- ---- their range
+-- ---- where they stand
 
-module _ (f m : ℕ) (ps : List ℕ) where
+module _ (f m : ℕ) (ps w : List ℕ) where
+  pub labels_in_one : f ≡ 1 → labels_in f m ps w ≡ payload_labels 1 m ps
+  unfolding labels_in
+  labels_in_one e = rw e
+
+  pub labels_in_two : f ≢ 1 → labels_in f m ps w ≡ labels_at m w
+  unfolding labels_in
+  labels_in_two n = rw (ne_eqb f 1 n)
+
+  pub labels_in_same : (w' : List ℕ) → labels_at m w' ≡ labels_at m w → labels_in f m ps w' ≡ labels_in f m ps w
+  unfolding labels_in
+  labels_in_same w' e = rw e
+
   pub labels_small : all_below 3 (payload_labels f m ps) ≡ true
   unfolding payload_labels groups
   labels_small = go (eqb f 1)

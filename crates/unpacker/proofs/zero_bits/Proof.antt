@@ -4,10 +4,10 @@ use native.Mathlib.Omega.{arith}
 use lib.ListN.{take, drop}
 use Rattle.model.specs.Numbers.{all_below}
 use Rattle.packing.specs.Unpack.{bits}
-use Rattle.padding.proofs.Padding.{bits_next, bits_stop, bits_end}
+use Rattle.unpacker.proofs.Padding.{bits_next, bits_stop, bits_end}
 use borrow.Author.Rules.{rules}
-use Rattle.padding.proofs.zero_bits.Statement.{statement}
-use Rattle.padding.proofs.zero_bits.Tie as tie
+use Rattle.unpacker.proofs.zero_bits.Statement.{statement}
+use Rattle.unpacker.proofs.zero_bits.Tie as tie
 
 abbrev invariant_loop : tie.invariant-loop
 invariant_loop bytes from to k₀ k = all_below 1 (drop k (take to (bits bytes))) ≡ all_below 1 (drop from (take to (bits bytes)))

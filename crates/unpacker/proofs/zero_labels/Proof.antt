@@ -7,11 +7,11 @@ use Rattle.model.proofs.Below.{below_end}
 use Rattle.packing.specs.Unpack.{digits_of}
 use Rattle.packing.specs.Groups.{values_of}
 use Rattle.packing.proofs.Groups.{values_length, values_at}
-use Rattle.padding.proofs.Fill.{last_labels}
-use Rattle.padding.proofs.Padding.{length_labels}
+use Rattle.unpacker.proofs.Fill.{last_labels}
+use Rattle.unpacker.proofs.Padding.{length_labels}
 use borrow.Author.Rules.{rules}
-use Rattle.padding.proofs.zero_labels.Statement.{statement}
-use Rattle.padding.proofs.zero_labels.Tie as tie
+use Rattle.unpacker.proofs.zero_labels.Statement.{statement}
+use Rattle.unpacker.proofs.zero_labels.Tie as tie
 
 returns : tie.Need-returns
 returns c =

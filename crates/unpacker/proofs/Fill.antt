@@ -1,33 +1,22 @@
--- Groups one after the other, and the labels that fill the last one. Assumes nothing.
+-- The labels that fill the last group. Assumes nothing.
 --
---   groups_more           one group more
 --   zero_digits           the j low digits of g are 0, by a remainder
 --   last_labels           the labels from number m on, where all of them are the last group's
 use Prim.Native.Nat.{ℕ, zero, suc, ◌+◌, ◌*◌, ◌/◌, ◌%◌, ◌^◌, ◌<◌}
 use native.Mathlib.Nat.{zero-mul, suc-mul, one-le-pow, pow-succ'}
-use native.Mathlib.Numerals.{add-one}
 use native.Mathlib.Omega.{arith}
-use mathlib.Core.Path.{◌≡◌, ap, ◌∙◌}
+use mathlib.Core.Path.{◌≡◌, ap}
 use mathlib.Core.Bool.{◌&&◌}
-use mathlib.Core.List.{List, [], ◌∷◌, ◌++◌, append-nil}
+use mathlib.Core.List.{List}
 use lib.Arith.{mod-mul}
 use lib.Dec.{eqb, ltb}
 use lib.ListN.{length, get_or, take, drop, length-drop}
-use lib.Seq.{take-suc, take_all, get_or-drop, drop-append-add, length-take-le}
+use lib.Seq.{take_all, drop-append-add, length-take-le}
 use borrow.Author.Tests.{eq-eqb, ne_eqb, le-ltb}
 use Rattle.model.specs.Numbers.{all_below}
-use Rattle.packing.specs.Unpack.{digits_of, unpack, groups}
-use Rattle.packing.proofs.Packed.{length_unpack, unpack_append}
-
-pub groups_more : (from : ℕ) (r : List ℕ) (i : ℕ) → from + i < length r
-    → groups (take (i + 1) (drop from r)) ≡ groups (take i (drop from r)) ++ digits_of 3 5 (get_or r (from + i) 0)
-unfolding groups unpack
-groups_more from r i h =
-    let d = length-drop from r in
-    let t : take (i + 1) (drop from r) ≡ take i (drop from r) ++ (get_or r (from + i) 0 ∷ [])
-    = rw (add-one, ← get_or-drop from r i 0) (take-suc (drop from r) i 0 (omega arith)) in
-    ap groups t ∙ unpack_append 3 5 (take i (drop from r)) (get_or r (from + i) 0 ∷ [])
-    ∙ ap (λ (x : List ℕ). groups (take i (drop from r)) ++ x) (append-nil (digits_of 3 5 (get_or r (from + i) 0)))
+use Rattle.packing.specs.Unpack.{digits_of, groups}
+use Rattle.packing.proofs.Packed.{length_unpack}
+use Rattle.unpacker.proofs.Labels.{groups_more}
 
 -- x is 0 exactly if its digit a, of weight c, and what is left of it are
 apart : (a c r x : ℕ) → 0 < c → x ≡ a * c + r → eqb x 0 ≡ (ltb a 1 && eqb r 0)
@@ -52,4 +41,4 @@ last_labels from r i m j l e =
     let long = length_unpack 3 5 (length front) front in
     let t = length-take-le i (drop from r) (omega arith) in
     let p : m ≡ length (groups front) + j = omega arith in
-    rw (← whole, groups_more from r i (omega arith), p) (drop-append-add (groups front) (digits_of 3 5 (get_or r (from + i) 0)) j)
+    rw (← whole, groups_more 0 from r i (omega arith), p) (drop-append-add (groups front) (digits_of 3 5 (get_or r (from + i) 0)) j)

@@ -7,8 +7,8 @@ use Rattle.model.proofs.Below.{below_next, below_stop, below_end}
 use Rattle.packing.specs.Groups.{values_of}
 use Rattle.packing.proofs.Groups.{values_length, values_at}
 use borrow.Author.Rules.{rules}
-use Rattle.padding.proofs.groups_fit.Statement.{statement}
-use Rattle.padding.proofs.groups_fit.Tie as tie
+use Rattle.unpacker.proofs.groups_fit.Statement.{statement}
+use Rattle.unpacker.proofs.groups_fit.Tie as tie
 
 abbrev invariant_loop : tie.invariant-loop
 invariant_loop bytes inverse from k₀ k = all_below 243 (drop k (values_of inverse bytes)) ≡ all_below 243 (drop from (values_of inverse bytes))

@@ -1,3 +1,0 @@
-pub mod Fill
-pub mod Payload
-pub mod Padding
