@@ -23,122 +23,122 @@ use Rattle.decoding.proofs.read_core.Tie as tie
 whole_head : (c : tie.Start) → 6 ≤ length c.args.«record».now
 whole_head c = (passes_facts _ c.requires.1).whole_head
 
-bytes : (c : tie.After-slice-known) → all_below 256 c.before.before.args.«record».now ≡ true
-bytes c = all_below_lem 256 _ (λ i h. omega (arith, c.before.shared-slice-known.given i))
+bytes : (c : tie.After-slice_known-1) → all_below 256 c.before.before.args.«record».now ≡ true
+bytes c = all_below_lem 256 _ (λ i h. omega (arith, c.before.shared_slice_known-1.given i))
 
-abbrev start : tie.After-head-length → tie.Start
+abbrev start : tie.After-head_length-at → tie.Start
 start c = c.before.before.before.before.before
 
-head : (c : tie.After-head-length) → let r = (start c).args.«record».now in (c.head-length.result ≡ head_length (kind_of r)) × (c.head-length.result ≤ length r)
+head : (c : tie.After-head_length-at) → let r = (start c).args.«record».now in (c.head_length-at.result ≡ head_length (kind_of r)) × (c.head_length-at.result ≤ length r)
 head c =
-    let e = c.head-length.ensures ∙ ap head_length c.before.before.field.ensures in
+    let e = c.head_length-at.ensures ∙ ap head_length c.before.before.field-kind.ensures in
     let l = head_in _ (start c).requires.1 in
     (e, omega arith)
 
-field-requires : tie.Need-field-requires
-field-requires c κs = let h = whole_head c.before.before in omega arith
+field-kind-requires : tie.Need-field-kind-requires
+field-kind-requires c κs = let h = whole_head c.before.before in omega arith
 
-field-requires-2 : tie.Need-field-requires-2
-field-requires-2 c κs = let h = whole_head c.before.before.before in omega arith
+field-m-requires : tie.Need-field-m-requires
+field-m-requires c κs = let h = whole_head c.before.before.before in omega arith
 
 -- ---- the payload
 
-sub-decode : tie.Need-overflow-sub-decode
-sub-decode c = let h = head c in omega arith
+slice_bounds-decode-count : tie.Need-slice_bounds-decode-count
+slice_bounds-decode-count c = let h = head c in omega arith
 
-part-decode-start : tie.Need-slice-bounds-decode-start
-part-decode-start c = let h = head c in omega arith
+slice_bounds-decode-start : tie.Need-slice_bounds-decode-start
+slice_bounds-decode-start c = let h = head c in omega arith
 
-part-decode-end : tie.Need-slice-bounds-decode-end
-part-decode-end c = let h = head c in omega arith
+slice_bounds-decode-end : tie.Need-slice_bounds-decode-end
+slice_bounds-decode-end c = let h = head c in omega arith
 
 family_is : (c : tie.After-family) → c.family.result ≡ family (kind_of (start c.before.before).args.«record».now)
-family_is c = c.family.ensures ∙ ap family c.before.before.before.before.field.ensures
+family_is c = c.family.ensures ∙ ap family c.before.before.before.before.field-kind.ensures
 
 decode-requires : tie.Need-decode-requires
 decode-requires c κs =
     let h = c.before.before.before in
     let st = start h in
-    let m-is = h.before.field2.ensures in
+    let m-is = h.before.field-m.ensures in
     let room = st.pre.2 in (
       (payload_sized _ st.pre.1 _ _ _ (family_is c.before) m-is (head h).0, (λ three. family_other _ st.pre.1 st.pre.3 (sym (family_is c.before) ∙ three))),
       omega arith,
     )
 
 decoded : (c : tie.After-decode) → let a = (start c.before.before.before.before).args in let r = a.«record».now in
-    Answered (decode_record a.inverse r) (2 * edges_of r) c.decode.result c.decode.new.1.1.1.1.0
+    Answered (decode_record a.inverse r) (2 * edges_of r) c.decode.result c.decode.new.w
 decoded c =
     let h = c.before.before.before.before in
-    record_decoded _ (start h).requires.1 _ _ _ (family_is c.before.before) h.before.field2.ensures (head h).0 _ _ _ c.decode.ensures
+    record_decoded _ (start h).requires.1 _ _ _ (family_is c.before.before) h.before.field-m.ensures (head h).0 _ _ _ c.decode.ensures
 
-returns : tie.Need-returns
-returns c =
+returns-then-not-decode : tie.Need-returns-then-not-decode
+returns-then-not-decode c =
     let d = c.before.before.before in
     let st = start d.before.before.before.before in
-    λ t stands same. core_unreadable t stands _ st.pre.3 _ _ (under t _ _ _ _ same (decoded d)) (not-true _ c.if1.true)
+    λ t stands same. core_unreadable t stands _ st.pre.3 _ _ (under t _ _ _ _ same (decoded d)) (not-true _ c.if-not-decode.true)
 
 -- ---- the outside
 
-outside-of-requires : tie.Need-outside-of-requires
-outside-of-requires c κs =
+outside_of-x-requires : tie.Need-outside_of-x-requires
+outside_of-x-requires c κs =
     let h = c.before.before.before.before.before.before.before in
-    ((start h).requires.1, h.before.before.field.ensures)
+    ((start h).requires.1, h.before.before.field-kind.ensures)
 
-is-face-requires : tie.Need-is-face-requires
-is-face-requires c κs =
+is_face-requires : tie.Need-is_face-requires
+is_face-requires c κs =
     let e = c.before.before in
     let d = e.before.before.before in
     let h = d.before.before.before.before in
     let st = start h in
-    let m-is = h.before.field2.ensures in
+    let m-is = h.field-m.ensures in
     let (t, stands, same) = st.pre.0 in
-    let (count, entries) = face_asked t stands _ st.pre.3 _ _ (under t _ _ _ _ same (decoded d)) st.pre.1 (bytes h.before.before.before) (not-false _ e.if1.false) _ m-is in
+    let (count, entries) = face_asked t stands _ st.pre.3 _ _ (under t _ _ _ _ same (decoded d)) st.pre.1 (bytes h.before.before) (not-false _ e.if1.false) _ m-is in
     let kept = d.decode.auto.1.1.1.1.0 in
     (count, omega (arith, st.pre.2, m-is, kept), entries)
 
-returns-2 : tie.Need-returns-2
-returns-2 c =
+returns-then-is_face : tie.Need-returns-then-is_face
+returns-then-is_face c =
     let o = c.before.before.before in
     let e = o.before in
     let d = e.before.before.before in
     let h = d.before.before.before.before in
     let st = start h in
     λ t stands same.
-    core_read t stands _ st.pre.3 _ _ (under t _ _ _ _ same (decoded d)) st.pre.1 (bytes h.before.before.before) (not-false _ e.if1.false) _ _
-    h.before.field2.ensures o.Outside-of.ensures _ c.before.is-face.ensures c.if2.true
+    core_read t stands _ st.pre.3 _ _ (under t _ _ _ _ same (decoded d)) st.pre.1 (bytes h.before.before) (not-false _ e.if1.false) _ _
+    h.field-m.ensures o.Outside-of.ensures _ c.before.is_face.ensures c.if-is_face.true
 
-returns-3 : tie.Need-returns-3
-returns-3 c =
+returns : tie.Need-returns
+returns c =
     let o = c.before.before.before in
     let e = o.before in
     let d = e.before.before.before in
     let h = d.before.before.before.before in
     let st = start h in
     λ t stands same.
-    core_unsound t stands _ st.pre.3 _ _ (under t _ _ _ _ same (decoded d)) st.pre.1 (bytes h.before.before.before) (not-false _ e.if1.false) _ _
-    h.before.field2.ensures o.Outside-of.ensures _ c.before.is-face.ensures c.if2.false
+    core_unsound t stands _ st.pre.3 _ _ (under t _ _ _ _ same (decoded d)) st.pre.1 (bytes h.before.before) (not-false _ e.if1.false) _ _
+    h.field-m.ensures o.Outside-of.ensures _ c.before.is_face.ensures c.if-is_face.false
 
 pub read_core_spec : {M : Type 1} → statement M
 read_core_spec =
     tie.close
     (tie.spec
-    field-requires
-    field-requires-2
+    field-kind-requires
+    field-m-requires
     (λ c κs. search rules)
-    sub-decode
-    part-decode-start
-    part-decode-end
+    slice_bounds-decode-count
+    slice_bounds-decode-start
+    slice_bounds-decode-end
     (λ c κs. search rules)
     (λ c. search rules)
     decode-requires
     (λ c. search rules)
-    returns
-    outside-of-requires
+    returns-then-not-decode
+    outside_of-x-requires
     (λ c. search rules)
     (λ c. search rules)
     (λ c. search rules)
-    is-face-requires
+    is_face-requires
     (λ c. search rules)
-    returns-2
+    returns-then-is_face
     (λ c. search rules)
-    returns-3)
+    returns)

@@ -15,22 +15,22 @@ all_zero : (w₀ w : List ℕ) (i : ℕ) → w ≡ replicate i 0 ++ drop i w₀ 
 unfolding zeros
 all_zero w₀ w i e h = e ∙ rw (h, drop-length, append-nil)
 
-abbrev invariant_loop : tie.invariant-loop
+abbrev invariant_loop : tie.invariant-loop-i
 invariant_loop w₀ i₀ w i = (i ≤ length w₀) × (w ≡ replicate i 0 ++ drop i w₀) × (length w ≡ length w₀)
 
-abbrev decreases_loop : tie.decreases-loop
+abbrev decreases_loop : tie.decreases-loop-i
 decreases_loop w₀ i₀ w i = length w₀ - i
 
-loop-again : tie.Need-loop-preserved invariant_loop decreases_loop
-loop-again c =
-    let i = c.before.loop.i in
+loop-i-preserved : tie.Need-loop-i-preserved invariant_loop decreases_loop
+loop-i-preserved c =
+    let i = c.before.loop-i.i in
     let w₀ = c.before.before.args.w.now in
-    (search rules, ap (λ (l : List ℕ). set l i 0) c.before.loop.invariant.1 ∙ fill_more i 0 w₀ (omega arith), search rules)
+    (search rules, ap (λ (l : List ℕ). set l i 0) c.before.loop-i.invariant.1 ∙ fill_more i 0 w₀ (omega arith), search rules)
 
 returns : tie.Need-returns invariant_loop decreases_loop
 returns c =
-    let at_end : c.before.loop.i ≡ length c.before.before.args.w.now = omega arith in
-    all_zero _ _ _ c.before.loop.invariant.1 at_end
+    let at_end : c.before.loop-i.i ≡ length c.before.before.args.w.now = omega arith in
+    all_zero _ _ _ c.before.loop-i.invariant.1 at_end
 
 pub clear_spec : {M : Type 1} → statement M
 clear_spec =
@@ -43,6 +43,6 @@ clear_spec =
     (λ c. search rules)
     (λ c. search rules)
     (λ c. search rules)
-    loop-again
+    loop-i-preserved
     (λ c. search rules)
     returns)

@@ -21,20 +21,20 @@ all : (w old out : List ℕ) (n i : ℕ) → n ≤ length w → i ≡ n → out 
 unfolding front region
 all w old out n i h q e = e ∙ rw (q, length-take-le n w h)
 
-abbrev invariant_loop : tie.invariant-loop
+abbrev invariant_loop : tie.invariant-loop-i
 invariant_loop w n out₀ i₀ out i = (i ≤ n) × (out ≡ take i w ++ drop i out₀) × (length out ≡ length out₀)
 
-abbrev decreases_loop : tie.decreases-loop
+abbrev decreases_loop : tie.decreases-loop-i
 decreases_loop w n out₀ i₀ out i = n - i
 
-loop-again : tie.Need-loop-preserved invariant_loop decreases_loop
-loop-again c =
-    let at = c.before.before.loop in
+loop-i-preserved : tie.Need-loop-i-preserved invariant_loop decreases_loop
+loop-i-preserved c =
+    let at = c.before.before.loop-i in
     (search rules, more _ _ _ at.i (omega arith) (omega arith) at.invariant.1, search rules)
 
 returns : tie.Need-returns invariant_loop decreases_loop
 returns c =
-    let at = c.before.loop in
+    let at = c.before.loop-i in
     all _ _ _ _ at.i c.before.before.requires.0 (omega arith) at.invariant.1
 
 pub copy_front_spec : {M : Type 1} → statement M
@@ -50,6 +50,6 @@ copy_front_spec =
     (λ c. search rules)
     (λ c. search rules)
     (λ c. search rules)
-    loop-again
+    loop-i-preserved
     (λ c. search rules)
     returns)

@@ -25,23 +25,23 @@ none a x w₀ = let e : a - a ≡ 0 = omega arith in rw e (sym (placed_none a w�
 all : (a i n x : ℕ) (w₀ w : List ℕ) → i ≡ a + n → w ≡ placed a (replicate (i - a) x) w₀ → w ≡ placed a (replicate n x) w₀
 all a i n x w₀ w h e = let k : i - a ≡ n = omega arith in e ∙ rw k
 
-abbrev invariant_loop : tie.invariant-loop
+abbrev invariant_loop : tie.invariant-loop-i
 invariant_loop w₀ a n x e i₀ w i = (a ≤ i) × (i ≤ e) × (e ≡ a + n) × (w ≡ placed a (replicate (i - a) x) w₀) × (length w ≡ length w₀)
 
-abbrev decreases_loop : tie.decreases-loop
+abbrev decreases_loop : tie.decreases-loop-i
 decreases_loop w₀ a n x e i₀ w i = e - i
 
-loop-holds : tie.Need-loop-init invariant_loop decreases_loop
-loop-holds c = (search rules, search rules, search rules, none _ _ _, search rules)
+loop-i-init : tie.Need-loop-i-init invariant_loop decreases_loop
+loop-i-init c = (search rules, search rules, search rules, none _ _ _, search rules)
 
-loop-again : tie.Need-loop-preserved invariant_loop decreases_loop
-loop-again c =
-    let at = c.before.loop in
+loop-i-preserved : tie.Need-loop-i-preserved invariant_loop decreases_loop
+loop-i-preserved c =
+    let at = c.before.loop-i in
     (search rules, search rules, search rules, more _ at.i _ _ _ at.invariant.0 (omega arith) at.invariant.3, search rules)
 
 returns : tie.Need-returns invariant_loop decreases_loop
 returns c =
-    let at = c.before.loop in
+    let at = c.before.loop-i in
     let st = c.before.before.args in
     all st.a at.i st.n _ _ _ (omega arith) at.invariant.3
 
@@ -52,11 +52,11 @@ fill_spec =
     invariant_loop
     decreases_loop
     (λ c. search rules)
-    loop-holds
+    loop-i-init
     (λ c. search rules)
     (λ c. search rules)
     (λ c. search rules)
     (λ c. search rules)
-    loop-again
+    loop-i-preserved
     (λ c. search rules)
     returns)
