@@ -29,7 +29,7 @@ def snake(name):
 
 def files(root, ends):
     for folder, dirs, names in os.walk(root):
-        dirs[:] = sorted(d for d in dirs if d not in ("out", "target", "build", ".git"))
+        dirs[:] = sorted(d for d in dirs if d not in ("out", ".git"))
         for name in sorted(names):
             if name.endswith(ends):
                 yield os.path.join(folder, name)

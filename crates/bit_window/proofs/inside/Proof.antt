@@ -7,33 +7,33 @@ use borrow.Author.Rules.{rules}
 use Rattle.bit_window.proofs.inside.Statement.{statement}
 use Rattle.bit_window.proofs.inside.Tie as tie
 
-cast-a : tie.Need-overflow-cast-a
-cast-a c = omega (arith, c.shared-slice-known2.given c.before.before.args.q)
+overflow_cast-a : tie.Need-overflow_cast-a
+overflow_cast-a c = omega (arith, c.shared_slice_known-2-1.given c.before.before.args.q)
 
-cast-b : tie.Need-overflow-cast-b
-cast-b c = omega (arith, c.shared-slice-known3.given (c.before.before.before.args.q + 1))
+overflow_cast-b : tie.Need-overflow_cast-b
+overflow_cast-b c = omega (arith, c.shared_slice_known-3-1.given (c.before.before.before.args.q + 1))
 
-cast-c : tie.Need-overflow-cast-c
-cast-c c = omega (arith, c.shared-slice-known4.given (c.before.before.before.before.args.q + 2))
+overflow_cast-c : tie.Need-overflow_cast-c
+overflow_cast-c c = omega (arith, c.shared_slice_known-4-1.given (c.before.before.before.before.args.q + 2))
 
-cast-d : tie.Need-overflow-cast-d
-cast-d c = omega (arith, c.shared-slice-known5.given (c.before.before.before.before.before.args.q + 3))
+overflow_cast-d : tie.Need-overflow_cast-d
+overflow_cast-d c = omega (arith, c.shared_slice_known-5-1.given (c.before.before.before.before.before.args.q + 3))
 
-cast-e : tie.Need-overflow-cast-e
-cast-e c = omega (arith, c.shared-slice-known6.given (c.before.before.before.before.before.before.args.q + 4))
+overflow_cast-e : tie.Need-overflow_cast-e
+overflow_cast-e c = omega (arith, c.shared_slice_known-6-1.given (c.before.before.before.before.before.before.args.q + 4))
 
-cast_f : tie.Need-overflow-cast-f
-cast_f c = omega (arith, c.shared-slice-known7.given (c.before.before.before.before.before.before.before.args.q + 5))
+overflow_cast-f : tie.Need-overflow_cast-f
+overflow_cast-f c = omega (arith, c.shared_slice_known-7-1.given (c.before.before.before.before.before.before.before.args.q + 5))
 
-cast-g : tie.Need-overflow-cast-g
-cast-g c = omega (arith, c.shared-slice-known8.given (c.before.before.before.before.before.before.before.before.args.q + 6))
+overflow_cast-g : tie.Need-overflow_cast-g
+overflow_cast-g c = omega (arith, c.shared_slice_known-8-1.given (c.before.before.before.before.before.before.before.before.args.q + 6))
 
-cast-h : tie.Need-overflow-cast-h
-cast-h c = omega (arith, c.shared-slice-known9.given (c.before.before.before.before.before.before.before.before.before.args.q + 7))
+overflow_cast-h : tie.Need-overflow_cast-h
+overflow_cast-h c = omega (arith, c.shared_slice_known-9-1.given (c.before.before.before.before.before.before.before.before.before.args.q + 7))
 
 joined-requires : tie.Need-joined-requires
 joined-requires c κs =
-    let q = c.before.before.before.before.before.before.before.before.before.args.q in let small = c.shared-slice-known9.given in (
+    let q = c.before.before.before.before.before.before.before.before.before.args.q in let small = c.shared_slice_known-9-1.given in (
       omega (arith, small (q)),
       omega (arith, small (q + 1)),
       omega (arith, small (q + 2)),
@@ -47,7 +47,7 @@ joined-requires c κs =
 returns : tie.Need-returns
 returns c =
     let st = c.before.before.before.before.before.before.before.before.before.before in
-    let q = st.args.q in let small = c.before.shared-slice-known9.given in (
+    let q = st.args.q in let small = c.before.shared_slice_known-9-1.given in (
       holds_bytes _ q _ _ _ _ _ _ _ _
           (refl, omega (arith, small (q))) (refl, omega (arith, small (q + 1))) (refl, omega (arith, small (q + 2))) (refl, omega (arith, small (q + 3)))
           (refl, omega (arith, small (q + 4))) (refl, omega (arith, small (q + 5))) (refl, omega (arith, small (q + 6))) (refl, omega (arith, small (q + 7)))
@@ -60,27 +60,27 @@ inside_spec =
     tie.close
     (tie.spec
     (λ c. search rules)
-    cast-a
+    overflow_cast-a
     (λ c. search rules)
     (λ c. search rules)
-    cast-b
+    overflow_cast-b
     (λ c. search rules)
     (λ c. search rules)
-    cast-c
+    overflow_cast-c
     (λ c. search rules)
     (λ c. search rules)
-    cast-d
+    overflow_cast-d
     (λ c. search rules)
     (λ c. search rules)
-    cast-e
+    overflow_cast-e
     (λ c. search rules)
     (λ c. search rules)
-    cast_f
+    overflow_cast-f
     (λ c. search rules)
     (λ c. search rules)
-    cast-g
+    overflow_cast-g
     (λ c. search rules)
     (λ c. search rules)
-    cast-h
+    overflow_cast-h
     joined-requires
     returns)

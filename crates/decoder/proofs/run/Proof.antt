@@ -8,59 +8,59 @@ use borrow.Author.Rules.{rules}
 use Rattle.decoder.proofs.run.Statement.{statement}
 use Rattle.decoder.proofs.run.Tie as tie
 
-abbrev invariant_loop : tie.invariant-loop
+abbrev invariant_loop : tie.invariant-loop-t
 invariant_loop payload family m w₀ s₀ c₀ w s c = Running family m payload w₀ w s c
 
-abbrev decreases_loop : tie.decreases-loop
+abbrev decreases_loop : tie.decreases-loop-t
 decreases_loop payload family m w₀ s₀ c₀ w s c = length (payload_bits m payload) - c.bits + s.opens
 
-loop-holds : tie.Need-loop-init invariant_loop decreases_loop
-loop-holds c =
+loop-t-init : tie.Need-loop-t-init invariant_loop decreases_loop
+loop-t-init c =
     let p = c.before.before.requires in let z = p.0.sized in
     running_start _ _ _ _ z.some_edge z.few_edges p.1.0 _ _ refl refl
 
 stretch-requires : tie.Need-stretch-requires invariant_loop decreases_loop
-stretch-requires c κs = running_asks _ _ _ _ _ _ _ c.before.loop.invariant c.before.before.before.before.requires.0
+stretch-requires c κs = running_asks _ _ _ _ _ _ _ c.before.loop-t.invariant c.before.before.before.before.requires.0
 
-same_length : tie.Need-same-length invariant_loop decreases_loop
-same_length c =
-    c.before.before.before.before.stretch.auto.1.1.1.0 ∙ running_kept _ _ _ _ _ _ _ c.before.before.before.before.before.before.loop.invariant
+shape_of-w-in-Stuck : tie.Need-shape_of-w-in-Stuck invariant_loop decreases_loop
+shape_of-w-in-Stuck c =
+    c.before.before.before.before.stretch.auto.w ∙ running_kept _ _ _ _ _ _ _ c.before.before.before.before.before.before.loop-t.invariant
 
-returns : tie.Need-returns invariant_loop decreases_loop
-returns c =
+returns-in-Stuck : tie.Need-returns-in-Stuck invariant_loop decreases_loop
+returns-in-Stuck c =
     let v = c.before.before.before.before.stretch in
-    answer_stuck _ _ _ _ _ _ _ c.before.before.before.before.before.before.loop.invariant v.result _ v.ensures c.enum_told.given.1 _
+    answer_stuck _ _ _ _ _ _ _ c.before.before.before.before.before.before.loop-t.invariant v.result _ v.ensures c.enum_told-1.given.1 _
 
 finish-requires : tie.Need-finish-requires invariant_loop decreases_loop
 finish-requires c κs =
     let v = c.before.before.before.before.before.before.before.stretch in
-    (so_far _ _ _ _ _ _ _ c.before.before.before.before.before.before.before.before.before.loop.invariant v.result _ v.ensures _ _ _
-    c.before.before.before.t.given.1).fits
+    (so_far _ _ _ _ _ _ _ c.before.before.before.before.before.before.before.before.before.loop-t.invariant v.result _ v.ensures _ _ _
+    c.before.before.before.t-1.given.1).fits
 
-same-length-2 : tie.Need-same-length-2 invariant_loop decreases_loop
-same-length-2 c =
-    c.before.before.finish.auto.0 ∙ c.before.before.before.before.before.before.before.before.before.before.stretch.auto.1.1.1.0
-    ∙ running_kept _ _ _ _ _ _ _ c.before.before.before.before.before.before.before.before.before.before.before.before.loop.invariant
+shape_of-w-then-m-next : tie.Need-shape_of-w-then-m-next invariant_loop decreases_loop
+shape_of-w-then-m-next c =
+    c.before.before.finish.auto.w ∙ c.before.before.before.before.before.before.before.before.before.before.stretch.auto.w
+    ∙ running_kept _ _ _ _ _ _ _ c.before.before.before.before.before.before.before.before.before.before.before.before.loop-t.invariant
 
-returns-2 : tie.Need-returns-2 invariant_loop decreases_loop
-returns-2 c =
+returns-then-m-next : tie.Need-returns-then-m-next invariant_loop decreases_loop
+returns-then-m-next c =
     let v = c.before.before.before.before.before.before.before.before.before.before.stretch in
     let p = c.before.before.before.before.before.before.before.before.before.before.before.before.before.before.before.requires in
-    let x = so_far _ _ _ _ _ _ _ c.before.before.before.before.before.before.before.before.before.before.before.before.loop.invariant
-    v.result _ v.ensures _ _ _ c.before.before.before.before.before.before.t.given.1 in
-    answer_end _ _ _ _ _ _ _ x p.0 c.before.before.before.before.if1.true p.1.1 _ _ c.before.before.finish.ensures
+    let x = so_far _ _ _ _ _ _ _ c.before.before.before.before.before.before.before.before.before.before.before.before.loop-t.invariant
+    v.result _ v.ensures _ _ _ c.before.before.before.before.before.before.t-1.given.1 in
+    answer_end _ _ _ _ _ _ _ x p.0 c.before.before.before.before.if-m-next.true p.1.1 _ _ c.before.before.finish.ensures
 
-loop-less : tie.Need-loop-smaller invariant_loop decreases_loop
-loop-less c =
+loop-t-smaller : tie.Need-loop-t-smaller invariant_loop decreases_loop
+loop-t-smaller c =
     let v = c.before.before.before.before.before.before.stretch in
-    running_less _ _ _ _ _ _ _ c.before.before.before.before.before.before.before.before.loop.invariant v.result _ v.ensures _ _ _
-    c.before.before.t.given.1
+    running_less _ _ _ _ _ _ _ c.before.before.before.before.before.before.before.before.loop-t.invariant v.result _ v.ensures _ _ _
+    c.before.before.t-1.given.1
 
-loop-again : tie.Need-loop-preserved invariant_loop decreases_loop
-loop-again c =
+loop-t-preserved : tie.Need-loop-t-preserved invariant_loop decreases_loop
+loop-t-preserved c =
     let v = c.before.before.before.before.before.before.stretch in
-    running_on _ _ _ _ _ _ _ c.before.before.before.before.before.before.before.before.loop.invariant v.result _ v.ensures _ _ _
-    c.before.before.t.given.1 (omega arith)
+    running_on _ _ _ _ _ _ _ c.before.before.before.before.before.before.before.before.loop-t.invariant v.result _ v.ensures _ _ _
+    c.before.before.t-1.given.1 (omega arith)
 
 pub run_spec : {M : Type 1} → statement M
 run_spec =
@@ -68,15 +68,15 @@ run_spec =
     (tie.spec
     invariant_loop
     decreases_loop
-    loop-holds
+    loop-t-init
     stretch-requires
     (λ c. search rules)
-    same_length
-    returns
+    shape_of-w-in-Stuck
+    returns-in-Stuck
     (λ c. search rules)
     (λ c. search rules)
     finish-requires
-    same-length-2
-    returns-2
-    loop-less
-    loop-again)
+    shape_of-w-then-m-next
+    returns-then-m-next
+    loop-t-smaller
+    loop-t-preserved)

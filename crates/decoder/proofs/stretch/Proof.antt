@@ -10,62 +10,62 @@ use borrow.Author.Rules.{rules}
 use Rattle.decoder.proofs.stretch.Statement.{statement}
 use Rattle.decoder.proofs.stretch.Tie as tie
 
-abbrev invariant_loop : tie.invariant-loop
+abbrev invariant_loop : tie.invariant-loop-t
 invariant_loop payload family m w₀ end s₀ c₀ w s c = Stretching family m payload w₀ (stage c₀.labels s₀) c₀.bits end w s c
 
-abbrev decreases_loop : tie.decreases-loop
+abbrev decreases_loop : tie.decreases-loop-t
 decreases_loop payload family m w₀ end s₀ c₀ w s c = length (payload_bits m payload) - c.bits + s.opens
 
-window-end-requires : tie.Need-window-end-requires invariant_loop decreases_loop
-window-end-requires c κs = let p = c.before.before.requires in (p.1.few_edges, p.2)
+window_end-end-requires : tie.Need-window_end-end-requires invariant_loop decreases_loop
+window_end-end-requires c κs = let p = c.before.before.requires in (p.1.few_edges, p.2)
 
-filled-requires : tie.Need-filled-requires invariant_loop decreases_loop
-filled-requires c κs = let p = c.before.before.before.requires in let m = p.1.few_edges in let h = p.2 in omega arith
+filled-c-requires : tie.Need-filled-c-requires invariant_loop decreases_loop
+filled-c-requires c κs = let p = c.before.before.before.requires in let m = p.1.few_edges in let h = p.2 in omega arith
 
-loop-holds : tie.Need-loop-init invariant_loop decreases_loop
-loop-holds c =
-    let st = c.before.before.before.before in let e = c.before.window-end.ensures in let d = c.filled.ensures in
-    stretching_start _ _ _ _ _ _ st.args.c c.filled.result d.0 d.1 st.requires.1 d.2 e.0 e.1 e.2
+loop-t-init : tie.Need-loop-t-init invariant_loop decreases_loop
+loop-t-init c =
+    let st = c.before.before.before.before in let e = c.before.window_end-end.ensures in let d = c.filled-c.ensures in
+    stretching_start _ _ _ _ _ _ st.args.c c.filled-c.result d.0 d.1 st.requires.1 d.2 e.0 e.1 e.2
 
 step-requires : tie.Need-step-requires invariant_loop decreases_loop
-step-requires c κs = stretching_asks _ _ _ _ _ _ _ _ _ _ _ c.before.loop.invariant c.before.before.before.before.before.before.requires.0
+step-requires c κs = stretching_asks _ _ _ _ _ _ _ _ _ _ _ c.before.loop-t.invariant c.before.before.before.before.before.before.requires.0
 
-same_length : tie.Need-same-length invariant_loop decreases_loop
-same_length c =
-    c.before.before.before.before.step.auto.1.1.1.0 ∙ stretching_kept _ _ _ _ _ _ _ _ _ _ _
-    c.before.before.before.before.before.before.loop.invariant
+shape_of-w-in-Stuck : tie.Need-shape_of-w-in-Stuck invariant_loop decreases_loop
+shape_of-w-in-Stuck c =
+    c.before.before.before.before.step.auto.w ∙ stretching_kept _ _ _ _ _ _ _ _ _ _ _
+    c.before.before.before.before.before.before.loop-t.invariant
 
-returns : tie.Need-returns invariant_loop decreases_loop
-returns c =
+returns-in-Stuck : tie.Need-returns-in-Stuck invariant_loop decreases_loop
+returns-in-Stuck c =
     let v = c.before.before.before.before.step in
     let f = c.before.before.before.before.before.before.before in
-    filled_turned _ _ _ _ _ _ _ f.before.before.before.before.args.c f.filled.result f.filled.ensures.0 f.filled.ensures.1
-    (stretching_stuck _ _ _ _ _ _ _ _ _ _ _ c.before.before.before.before.before.before.loop.invariant v.result _ v.ensures c.enum_told.given.1 _)
+    filled_turned _ _ _ _ _ _ _ f.before.before.before.before.args.c f.filled-c.result f.filled-c.ensures.0 f.filled-c.ensures.1
+    (stretching_stuck _ _ _ _ _ _ _ _ _ _ _ c.before.before.before.before.before.before.loop-t.invariant v.result _ v.ensures c.enum_told-1.given.1 _)
 
-same-length-2 : tie.Need-same-length-2 invariant_loop decreases_loop
-same-length-2 c =
-    c.before.before.before.before.before.before.step.auto.1.1.1.0 ∙ stretching_kept _ _ _ _ _ _ _ _ _ _ _
-    c.before.before.before.before.before.before.before.before.loop.invariant
+shape_of-w-then-end-next : tie.Need-shape_of-w-then-end-next invariant_loop decreases_loop
+shape_of-w-then-end-next c =
+    c.before.before.before.before.before.before.step.auto.w ∙ stretching_kept _ _ _ _ _ _ _ _ _ _ _
+    c.before.before.before.before.before.before.before.before.loop-t.invariant
 
-returns-2 : tie.Need-returns-2 invariant_loop decreases_loop
-returns-2 c =
+returns-then-end-next : tie.Need-returns-then-end-next invariant_loop decreases_loop
+returns-then-end-next c =
     let v = c.before.before.before.before.before.before.step in
     let f = c.before.before.before.before.before.before.before.before.before in
-    filled_turned _ _ _ _ _ _ _ f.before.before.before.before.args.c f.filled.result f.filled.ensures.0 f.filled.ensures.1
-    (stretching_end _ _ _ _ _ _ _ _ _ _ _ c.before.before.before.before.before.before.before.before.loop.invariant v.result _ v.ensures _ _ _
-    c.before.before.t.given.1)
+    filled_turned _ _ _ _ _ _ _ f.before.before.before.before.args.c f.filled-c.result f.filled-c.ensures.0 f.filled-c.ensures.1
+    (stretching_end _ _ _ _ _ _ _ _ _ _ _ c.before.before.before.before.before.before.before.before.loop-t.invariant v.result _ v.ensures _ _ _
+    c.before.before.t-1.given.1)
 
-loop-less : tie.Need-loop-smaller invariant_loop decreases_loop
-loop-less c =
+loop-t-smaller : tie.Need-loop-t-smaller invariant_loop decreases_loop
+loop-t-smaller c =
     let v = c.before.before.before.before.before.before.step in
-    stretching_less _ _ _ _ _ _ _ _ _ _ _ c.before.before.before.before.before.before.before.before.loop.invariant v.result _ v.ensures _ _ _
-    c.before.before.t.given.1
+    stretching_less _ _ _ _ _ _ _ _ _ _ _ c.before.before.before.before.before.before.before.before.loop-t.invariant v.result _ v.ensures _ _ _
+    c.before.before.t-1.given.1
 
-loop-again : tie.Need-loop-preserved invariant_loop decreases_loop
-loop-again c =
+loop-t-preserved : tie.Need-loop-t-preserved invariant_loop decreases_loop
+loop-t-preserved c =
     let v = c.before.before.before.before.before.before.step in
-    stretching_on _ _ _ _ _ _ _ _ _ _ _ c.before.before.before.before.before.before.before.before.loop.invariant v.result _ v.ensures _ _ _
-    c.before.before.t.given.1 (omega arith)
+    stretching_on _ _ _ _ _ _ _ _ _ _ _ c.before.before.before.before.before.before.before.before.loop-t.invariant v.result _ v.ensures _ _ _
+    c.before.before.t-1.given.1 (omega arith)
 
 pub stretch_spec : {M : Type 1} → statement M
 stretch_spec =
@@ -73,15 +73,15 @@ stretch_spec =
     (tie.spec
     invariant_loop
     decreases_loop
-    window-end-requires
-    filled-requires
-    loop-holds
+    window_end-end-requires
+    filled-c-requires
+    loop-t-init
     step-requires
     (λ c. search rules)
-    same_length
-    returns
+    shape_of-w-in-Stuck
+    returns-in-Stuck
     (λ c. search rules)
-    same-length-2
-    returns-2
-    loop-less
-    loop-again)
+    shape_of-w-then-end-next
+    returns-then-end-next
+    loop-t-smaller
+    loop-t-preserved)

@@ -8,52 +8,52 @@ use borrow.Author.Rules.{rules}
 use Rattle.decoder_ends.proofs.close_last.Statement.{statement}
 use Rattle.decoder_ends.proofs.close_last.Tie as tie
 
-returns : tie.Need-returns
+returns-then-opens-eq0 : tie.Need-returns-then-opens-eq0
 unfolding EndedOne
-returns c = λ e f bs ls k.
-    let a = c.before.args in empty bs ls _ (stage e a.s) k (begun_none a.m a.w.now a.s.depth a.s.opens c.if1.true)
+returns-then-opens-eq0 c = λ e f bs ls k.
+    let a = c.before.args in empty bs ls _ (stage e a.s) k (begun_none a.m a.w.now a.s.depth a.s.opens c.if-opens-eq0.true)
 
-returns-2 : tie.Need-returns-2
+returns-then-v-here : tie.Need-returns-then-v-here
 unfolding EndedOne
-returns-2 c = λ e f bs ls k.
+returns-then-v-here c = λ e f bs ls k.
     let st = c.before.before.before in
     early bs ls _ (stage e st.args.s) k _ _ (begun_is _ _ _ f (omega arith)) (omega arith)
 
-add-dart : tie.Need-overflow-add-dart
-add-dart c =
+overflow_add-dart : tie.Need-overflow_add-dart
+overflow_add-dart c =
     let st = c.before.before.before.before in
     let f = st.requires.fits in let x = open_top _ _ _ f (omega arith) in let e = f.edges_in in let m = f.few_edges in omega arith
 
-cast-t16 : tie.Need-overflow-cast-t16
-cast-t16 c =
+overflow_cast-t : tie.Need-overflow_cast-t
+overflow_cast-t c =
     let st = c.before.before.before.before in
     let f = st.requires.fits in let x = open_top _ _ _ f (omega arith) in let e = f.edges_in in let m = f.few_edges in omega arith
 
-returns-3 : tie.Need-returns-3
+returns : tie.Need-returns
 unfolding EndedOne
-returns-3 c = λ e f bs ls k. (omega arith, closing _ _ _ f (omega arith) (omega arith) _ (omega arith) bs ls k)
+returns c = λ e f bs ls k. (omega arith, closing _ _ _ f (omega arith) (omega arith) _ (omega arith) bs ls k)
 
 pub close_last_spec : {M : Type 1} → statement M
 close_last_spec =
     tie.close
     (tie.spec
-    returns
+    returns-then-opens-eq0
     (λ c. search rules)
     (λ c. search rules)
     (λ c. search rules)
     (λ c. search rules)
     (λ c. search rules)
     (λ c. search rules)
-    returns-2
+    returns-then-v-here
     (λ c. search rules)
     (λ c. search rules)
     (λ c. search rules)
     (λ c. search rules)
     (λ c. search rules)
     (λ c. search rules)
-    add-dart
+    overflow_add-dart
     (λ c. search rules)
     (λ c. search rules)
-    cast-t16
+    overflow_cast-t
     (λ c. search rules)
-    returns-3)
+    returns)

@@ -4,11 +4,11 @@ use borrow.Author.Rules.{rules}
 use Rattle.decoder_turns.proofs.back.Statement.{statement}
 use Rattle.decoder_turns.proofs.back.Tie as tie
 
-slice-write-w-2 : tie.Need-slice-write-w-2
-slice-write-w-2 c = simp length-set (omega arith)
+bounds-w-m : tie.Need-bounds-w-m
+bounds-w-m c = simp length-set (omega arith)
 
-slice-write-w-3 : tie.Need-slice-write-w-3
-slice-write-w-3 c = simp length-set (omega arith)
+bounds-w-m-2 : tie.Need-bounds-w-m-2
+bounds-w-m-2 c = simp length-set (omega arith)
 
 pub back_spec : {M : Type 1} → statement M
 back_spec =
@@ -22,13 +22,13 @@ back_spec =
     (λ c. search rules)
     (λ c. search rules)
     (λ c. search rules)
-    slice-write-w-2
+    bounds-w-m
     (λ c. search rules)
     (λ c. search rules)
     (λ c. search rules)
     (λ c. search rules)
     (λ c. search rules)
-    slice-write-w-3
+    bounds-w-m-2
     (λ c. search rules)
     (λ c. search rules)
     (λ c. search rules))

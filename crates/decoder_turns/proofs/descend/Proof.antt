@@ -7,63 +7,63 @@ use borrow.Author.Rules.{rules}
 use Rattle.decoder_turns.proofs.descend.Statement.{statement}
 use Rattle.decoder_turns.proofs.descend.Tie as tie
 
+returns-then-m-at : tie.Need-returns-then-m-at
+returns-then-m-at c =
+    let p = c.before.before.before.requires in
+    (λ k q o. no_second _ _ _ _ _ _ p.0.0 p.0.1 p.1.0 p.1.1 k q o c.if-m-at.true, slid_none _ _)
+
+returns-then-m-e : tie.Need-returns-then-m-e
+returns-then-m-e c =
+    let p = c.before.before.before.before.requires in
+    (λ k q o. no_more _ _ _ _ _ _ p.0.0 p.0.1 p.1.0 p.1.1 k q o (omega arith) c.if-m-e.true, slid_none _ _)
+
+bit-bit-requires : tie.Need-bit-bit-requires
+bit-bit-requires c κs =
+    let p = c.before.before.before.before.before.before.before.before.before.before.before.requires in let n = p.0.1.few_edges in
+    let e = ap (λ (x : Next). x.cursor.bits) c.before.before.before.before.before.before.label-label.ensures in omega arith
+
+returns-then-l-eq-STAR : tie.Need-returns-then-l-eq-STAR
+returns-then-l-eq-STAR c =
+    let p = c.before.before.before.before.before.before.before.before.before.before.before.before.before.requires in
+    let x = c.before.before.before.before.before.before.before.before.label-label in let y = c.before.bit-bit in let r = c.before.before.before.before.leaf-t.ensures in (
+      λ k q o.
+          to_leaf _ _ _ _ _ _ p.0.0 p.0.1 p.1.0 p.1.1 k q o c.before.before.before.before.before.before.before.before.before.before.if-m-at.false c.before.before.before.before.before.before.before.before.before.if-m-e.false x.result x.ensures
+          y.result y.ensures _ _ c.before.before.before.before.before.before.if-l-eq-STAR.true r.0 r.1,
+      slid_both _ _ _ (ap (λ (z : Next). z.cursor) x.ensures) y.result y.ensures _ _,
+    )
+
+bit-bit-requires-2 : tie.Need-bit-bit-requires-2
+bit-bit-requires-2 c κs =
+    let p = c.before.before.before.before.before.before.before.requires in let n = p.0.1.few_edges in
+    let e = ap (λ (x : Next). x.cursor.bits) c.before.before.label-label.ensures in omega arith
+
+back-t-requires : tie.Need-back-t-requires
+back-t-requires c κs =
+    let p = c.before.before.before.before.before.before.before.before.before.before.before.requires in let x = c.before.before.before.before.before.before.label-label in
+    (p.0.1, omega arith, label_fits _ _ _ _ _ _ p.0.0 p.0.1 p.1.0 p.1.1 (omega arith) x.result x.ensures)
+
+returns-then-bit-eq0 : tie.Need-returns-then-bit-eq0
+returns-then-bit-eq0 c =
+    let p = c.before.before.before.before.before.before.before.before.before.before.before.before.before.before.before.requires in
+    let x = c.before.before.before.before.before.before.before.before.before.before.label-label in let y = c.before.before.before.before.before.before.before.bit-bit-2 in let r = c.before.before.before.back-t.ensures in (
+      λ k q o.
+          to_back _ _ _ _ _ _ p.0.0 p.0.1 p.1.0 p.1.1 k q o c.before.before.before.before.before.before.before.before.before.before.before.before.if-m-at.false c.before.before.before.before.before.before.before.before.before.before.before.if-m-e.false x.result x.ensures
+          y.result y.ensures _ _ c.before.before.before.before.before.before.before.before.if-l-eq-STAR.false c.before.before.before.before.before.if-bit-eq0.true r.0 r.1,
+      slid_both _ _ _ (ap (λ (z : Next). z.cursor) x.ensures) y.result y.ensures _ _,
+    )
+
+enter-t-requires : tie.Need-enter-t-requires
+enter-t-requires c κs =
+    let p = c.before.before.before.before.before.before.before.before.before.before.before.requires in let x = c.before.before.before.before.before.before.label-label in
+    (p.0.1, omega arith, label_fits _ _ _ _ _ _ p.0.0 p.0.1 p.1.0 p.1.1 (omega arith) x.result x.ensures)
+
 returns : tie.Need-returns
 returns c =
-    let p = c.before.before.before.requires in
-    (λ k q o. no_second _ _ _ _ _ _ p.0.0 p.0.1 p.1.0 p.1.1 k q o c.if1.true, slid_none _ _)
-
-returns-2 : tie.Need-returns-2
-returns-2 c =
-    let p = c.before.before.before.before.requires in
-    (λ k q o. no_more _ _ _ _ _ _ p.0.0 p.0.1 p.1.0 p.1.1 k q o (omega arith) c.if2.true, slid_none _ _)
-
-bit-requires : tie.Need-bit-requires
-bit-requires c κs =
-    let p = c.before.before.before.before.before.before.before.before.before.before.before.before.requires in let n = p.0.1.few_edges in
-    let e = ap (λ (x : Next). x.cursor.bits) c.before.before.before.before.before.before.label.ensures in omega arith
-
-returns-3 : tie.Need-returns-3
-returns-3 c =
     let p = c.before.before.before.before.before.before.before.before.before.before.before.before.before.before.requires in
-    let x = c.before.before.before.before.before.before.before.before.label in let y = c.before.bit in let r = c.before.before.before.before.leaf.ensures in (
+    let x = c.before.before.before.before.before.before.before.before.before.label-label in let y = c.before.before.before.before.before.before.bit-bit-2 in let r = c.before.before.enter-t.ensures in (
       λ k q o.
-          to_leaf _ _ _ _ _ _ p.0.0 p.0.1 p.1.0 p.1.1 k q o c.before.before.before.before.before.before.before.before.before.before.before.if1.false c.before.before.before.before.before.before.before.before.before.before.if2.false x.result x.ensures
-          y.result y.ensures _ _ c.before.before.before.before.before.before.if3.true r.0 r.1,
-      slid_both _ _ _ (ap (λ (z : Next). z.cursor) x.ensures) y.result y.ensures _ _,
-    )
-
-bit-requires-2 : tie.Need-bit-requires-2
-bit-requires-2 c κs =
-    let p = c.before.before.before.before.before.before.before.before.requires in let n = p.0.1.few_edges in
-    let e = ap (λ (x : Next). x.cursor.bits) c.before.before.label.ensures in omega arith
-
-back-requires : tie.Need-back-requires
-back-requires c κs =
-    let p = c.before.before.before.before.before.before.before.before.before.before.before.before.requires in let x = c.before.before.before.before.before.before.label in
-    (p.0.1, omega arith, label_fits _ _ _ _ _ _ p.0.0 p.0.1 p.1.0 p.1.1 (omega arith) x.result x.ensures)
-
-returns-4 : tie.Need-returns-4
-returns-4 c =
-    let p = c.before.before.before.before.before.before.before.before.before.before.before.before.before.before.before.before.requires in
-    let x = c.before.before.before.before.before.before.before.before.before.before.label in let y = c.before.before.before.before.before.before.before.bit2 in let r = c.before.before.before.back.ensures in (
-      λ k q o.
-          to_back _ _ _ _ _ _ p.0.0 p.0.1 p.1.0 p.1.1 k q o c.before.before.before.before.before.before.before.before.before.before.before.before.before.if1.false c.before.before.before.before.before.before.before.before.before.before.before.before.if2.false x.result x.ensures
-          y.result y.ensures _ _ c.before.before.before.before.before.before.before.before.if3.false c.before.before.before.before.before.if4.true r.0 r.1,
-      slid_both _ _ _ (ap (λ (z : Next). z.cursor) x.ensures) y.result y.ensures _ _,
-    )
-
-enter-requires : tie.Need-enter-requires
-enter-requires c κs =
-    let p = c.before.before.before.before.before.before.before.before.before.before.before.before.requires in let x = c.before.before.before.before.before.before.label in
-    (p.0.1, omega arith, label_fits _ _ _ _ _ _ p.0.0 p.0.1 p.1.0 p.1.1 (omega arith) x.result x.ensures)
-
-returns-5 : tie.Need-returns-5
-returns-5 c =
-    let p = c.before.before.before.before.before.before.before.before.before.before.before.before.before.before.before.requires in
-    let x = c.before.before.before.before.before.before.before.before.before.label in let y = c.before.before.before.before.before.before.bit2 in let r = c.before.before.enter.ensures in (
-      λ k q o.
-          to_tree _ _ _ _ _ _ p.0.0 p.0.1 p.1.0 p.1.1 k q o c.before.before.before.before.before.before.before.before.before.before.before.before.if1.false c.before.before.before.before.before.before.before.before.before.before.before.if2.false x.result x.ensures
-          y.result y.ensures _ _ c.before.before.before.before.before.before.before.if3.false c.before.before.before.before.if4.false r.0 r.1,
+          to_tree _ _ _ _ _ _ p.0.0 p.0.1 p.1.0 p.1.1 k q o c.before.before.before.before.before.before.before.before.before.before.before.if-m-at.false c.before.before.before.before.before.before.before.before.before.before.if-m-e.false x.result x.ensures
+          y.result y.ensures _ _ c.before.before.before.before.before.before.before.if-l-eq-STAR.false c.before.before.before.before.if-bit-eq0.false r.0 r.1,
       slid_label _ _ _ (ap (λ (z : Next). z.cursor) x.ensures) _ _,
     )
 
@@ -72,17 +72,17 @@ descend_spec =
     tie.close
     (tie.spec
     (λ c. search rules)
-    returns
-    returns-2
+    returns-then-m-at
+    returns-then-m-e
     (λ c κs. search rules)
     (λ c κs. search rules)
-    bit-requires
+    bit-bit-requires
     (λ c. search rules)
-    returns-3
-    bit-requires-2
-    back-requires
+    returns-then-l-eq-STAR
+    bit-bit-requires-2
+    back-t-requires
     (λ c. search rules)
-    returns-4
-    enter-requires
+    returns-then-bit-eq0
+    enter-t-requires
     (λ c. search rules)
-    returns-5)
+    returns)

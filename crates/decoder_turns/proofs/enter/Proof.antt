@@ -4,8 +4,8 @@ use borrow.Author.Rules.{rules}
 use Rattle.decoder_turns.proofs.enter.Statement.{statement}
 use Rattle.decoder_turns.proofs.enter.Tie as tie
 
-slice-write-w-2 : tie.Need-slice-write-w-2
-slice-write-w-2 c = simp length-set (omega arith)
+bounds-w-m : tie.Need-bounds-w-m
+bounds-w-m c = simp length-set (omega arith)
 
 pub enter_spec : {M : Type 1} → statement M
 enter_spec =
@@ -19,7 +19,7 @@ enter_spec =
     (λ c. search rules)
     (λ c. search rules)
     (λ c. search rules)
-    slice-write-w-2
+    bounds-w-m
     (λ c. search rules)
     (λ c. search rules)
     (λ c. search rules)

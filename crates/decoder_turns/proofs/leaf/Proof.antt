@@ -4,8 +4,8 @@ use borrow.Author.Rules.{rules}
 use Rattle.decoder_turns.proofs.leaf.Statement.{statement}
 use Rattle.decoder_turns.proofs.leaf.Tie as tie
 
-slice-write-w-2 : tie.Need-slice-write-w-2
-slice-write-w-2 c = simp length-set (omega arith)
+bounds-w-end : tie.Need-bounds-w-end
+bounds-w-end c = simp length-set (omega arith)
 
 pub leaf_spec : {M : Type 1} → statement M
 leaf_spec =
@@ -18,6 +18,6 @@ leaf_spec =
     (λ c. search rules)
     (λ c. search rules)
     (λ c. search rules)
-    slice-write-w-2
+    bounds-w-end
     (λ c. search rules)
     (λ c. search rules))

@@ -10,19 +10,19 @@ use borrow.Author.Rules.{rules}
 use Rattle.decoder_turns.proofs.rise.Statement.{statement}
 use Rattle.decoder_turns.proofs.rise.Tie as tie
 
-returns : tie.Need-returns
+returns-then-depth-eq0 : tie.Need-returns-then-depth-eq0
 unfolding Turned
-returns c =
+returns-then-depth-eq0 c =
     let a = c.before.args in (
-      λ bs ls k p z. at_root bs ls _ (stage a.c.labels a.s) k z (below_none a.m a.w.now a.s.depth a.s.opens c.if1.true),
+      λ bs ls k p z. at_root bs ls _ (stage a.c.labels a.s) k z (below_none a.m a.w.now a.s.depth a.s.opens c.if-depth-eq0.true),
       λ bs. slid_none bs _,
     )
 
-sub-x : tie.Need-overflow-sub-x
-sub-x c = let t = tree_top _ _ _ c.before.before.requires (omega arith) in omega arith
+overflow_sub-x : tie.Need-overflow_sub-x
+overflow_sub-x c = let t = tree_top _ _ _ c.before.before.requires (omega arith) in omega arith
 
-returns-2 : tie.Need-returns-2
-returns-2 c =
+returns : tie.Need-returns
+returns c =
     let st = c.before.before.before in
     let t = tree_top _ _ _ st.requires (omega arith) in (
       λ bs ls k p z.
@@ -35,11 +35,9 @@ pub rise_spec : {M : Type 1} → statement M
 rise_spec =
     tie.close
     (tie.spec
-    returns
+    returns-then-depth-eq0
     (λ c. search rules)
-    sub-x
-    (λ c. search rules)
-    (λ c. search rules)
+    overflow_sub-x
     (λ c. search rules)
     (λ c. search rules)
     (λ c. search rules)
@@ -51,4 +49,6 @@ rise_spec =
     (λ c. search rules)
     (λ c. search rules)
     (λ c. search rules)
-    returns-2)
+    (λ c. search rules)
+    (λ c. search rules)
+    returns)

@@ -3,26 +3,26 @@ use borrow.Author.Rules.{rules}
 use Rattle.decoder_turns.proofs.step.Statement.{statement}
 use Rattle.decoder_turns.proofs.step.Tie as tie
 
-returns : tie.Need-returns
-returns c = let v = c.before.before.before.before.turn in step_stuck _ _ _ _ _ _ v.result _ v.ensures c.enum_told.given.1 _
+returns-in-Stuck : tie.Need-returns-in-Stuck
+returns-in-Stuck c = let v = c.before.before.before.before.turn in step_stuck _ _ _ _ _ _ v.result _ v.ensures c.enum_told-1.given.1 _
 
-close-all-requires : tie.Need-close-all-requires
-close-all-requires c κs =
-    let v = c.before.before.before.before.before.before.turn in step_fits _ _ _ _ _ _ v.result _ v.ensures _ _ _ c.before.before.t.given.1
+close_all-requires : tie.Need-close_all-requires
+close_all-requires c κs =
+    let v = c.before.before.before.before.before.before.turn in step_fits _ _ _ _ _ _ v.result _ v.ensures _ _ _ c.before.before.t-1.given.1
 
-returns-2 : tie.Need-returns-2
-returns-2 c =
+returns-in-Stays : tie.Need-returns-in-Stays
+returns-in-Stays c =
     let v = c.before.before.before.before.before.before.before.before.before.before.before.turn in
-    let q = c.before.before.before.before.close-all in
-    step_ends _ _ _ _ _ _ v.result _ v.ensures _ _ _ c.before.before.before.before.before.before.before.t.given.1 q.result _
-    q.ensures c.enum-told2.given.1
+    let q = c.before.before.before.before.close_all in
+    step_ends _ _ _ _ _ _ v.result _ v.ensures _ _ _ c.before.before.before.before.before.before.before.t-1.given.1 q.result _
+    q.ensures c.enum_told-in-Stays-1.given.1
 
-returns-3 : tie.Need-returns-3
-returns-3 c =
+returns-in-Ends : tie.Need-returns-in-Ends
+returns-in-Ends c =
     let v = c.before.before.before.before.before.before.before.before.before.before.before.before.turn in
-    let q = c.before.before.before.before.before.close-all in
-    step_goes _ _ _ _ _ _ v.result _ v.ensures _ _ _ c.before.before.before.before.before.before.before.before.t.given.1 q.result _
-    q.ensures _ _ c.before.u.given.1
+    let q = c.before.before.before.before.before.close_all in
+    step_goes _ _ _ _ _ _ v.result _ v.ensures _ _ _ c.before.before.before.before.before.before.before.before.t-1.given.1 q.result _
+    q.ensures _ _ c.before.u-1.given.1
 
 pub step_spec : {M : Type 1} → statement M
 step_spec =
@@ -31,12 +31,12 @@ step_spec =
     (λ c κs. search rules)
     (λ c. search rules)
     (λ c. search rules)
-    returns
+    returns-in-Stuck
     (λ c. search rules)
-    close-all-requires
-    (λ c. search rules)
-    (λ c. search rules)
-    returns-2
+    close_all-requires
     (λ c. search rules)
     (λ c. search rules)
-    returns-3)
+    returns-in-Stays
+    (λ c. search rules)
+    (λ c. search rules)
+    returns-in-Ends)

@@ -3,7 +3,6 @@ use mathlib.Core.Path.{◌≡◌, subst}
 use mathlib.Core.Bool.{true}
 use native.Mathlib.Omega.{arith}
 use lib.ListN.{length}
-use borrow.Author.Tests.{not-true, not-false}
 use Rattle.model.specs.Numbers.{all_below}
 use Rattle.model.proofs.Permutations.{all_below_lem}
 use Rattle.model.proofs.Heads.{passes_facts}
@@ -53,7 +52,7 @@ returns-then-not-found : tie.Need-returns-then-not-found
 returns-then-not-found c =
     let d = c.before.before.before in
     let p = (start d.before.before.before.before).requires in
-    λ t stands same. mesh_not_had t stands _ p.2 _ _ _ _ (spelt_under t _ _ _ _ _ _ same (spelt d)) (not-true _ c.if-not-found.true)
+    λ t stands same. mesh_not_had t stands _ p.2 _ _ _ _ (spelt_under t _ _ _ _ _ _ same (spelt d)) c.if-not-found.true
 
 returns : tie.Need-returns
 returns c =
@@ -61,7 +60,7 @@ returns c =
     let f = d.before.before.before.before in
     let p = (start f).requires in
     λ t stands same.
-    mesh_had t stands _ p.2 _ _ _ _ (spelt_under t _ _ _ _ _ _ same (spelt d)) p.1 (bytes f.before) (not-false _ c.if-not-found.false) f.field-m.ensures
+    mesh_had t stands _ p.2 _ _ _ _ (spelt_under t _ _ _ _ _ _ same (spelt d)) p.1 (bytes f.before) c.if-not-found.false f.field-m.ensures
 
 pub judge_mesh_spec : {M : Type 1} → statement M
 judge_mesh_spec =

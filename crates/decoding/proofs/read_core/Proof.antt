@@ -3,7 +3,6 @@ use mathlib.Core.Path.{◌≡◌, sym, ap, ◌∙◌}
 use mathlib.Core.Bool.{true}
 use native.Mathlib.Omega.{arith}
 use lib.ListN.{length}
-use borrow.Author.Tests.{not-true, not-false}
 use Rattle.model.specs.Numbers.{all_below}
 use Rattle.model.specs.Map.{family}
 use Rattle.model.specs.Record.{head_length}
@@ -75,7 +74,7 @@ returns-then-not-decode : tie.Need-returns-then-not-decode
 returns-then-not-decode c =
     let d = c.before.before.before in
     let st = start d.before.before.before.before in
-    λ t stands same. core_unreadable t stands _ st.pre.3 _ _ (under t _ _ _ _ same (decoded d)) (not-true _ c.if-not-decode.true)
+    λ t stands same. core_unreadable t stands _ st.pre.3 _ _ (under t _ _ _ _ same (decoded d)) c.if-not-decode.true
 
 -- ---- the outside
 
@@ -92,7 +91,7 @@ is_face-requires c κs =
     let st = start h in
     let m-is = h.field-m.ensures in
     let (t, stands, same) = st.pre.0 in
-    let (count, entries) = face_asked t stands _ st.pre.3 _ _ (under t _ _ _ _ same (decoded d)) st.pre.1 (bytes h.before.before) (not-false _ e.if1.false) _ m-is in
+    let (count, entries) = face_asked t stands _ st.pre.3 _ _ (under t _ _ _ _ same (decoded d)) st.pre.1 (bytes h.before.before) e.if1.false _ m-is in
     let kept = d.decode.auto.1.1.1.1.0 in
     (count, omega (arith, st.pre.2, m-is, kept), entries)
 
@@ -104,7 +103,7 @@ returns-then-is_face c =
     let h = d.before.before.before.before in
     let st = start h in
     λ t stands same.
-    core_read t stands _ st.pre.3 _ _ (under t _ _ _ _ same (decoded d)) st.pre.1 (bytes h.before.before) (not-false _ e.if1.false) _ _
+    core_read t stands _ st.pre.3 _ _ (under t _ _ _ _ same (decoded d)) st.pre.1 (bytes h.before.before) e.if1.false _ _
     h.field-m.ensures o.Outside-of.ensures _ c.before.is_face.ensures c.if-is_face.true
 
 returns : tie.Need-returns
@@ -115,7 +114,7 @@ returns c =
     let h = d.before.before.before.before in
     let st = start h in
     λ t stands same.
-    core_unsound t stands _ st.pre.3 _ _ (under t _ _ _ _ same (decoded d)) st.pre.1 (bytes h.before.before) (not-false _ e.if1.false) _ _
+    core_unsound t stands _ st.pre.3 _ _ (under t _ _ _ _ same (decoded d)) st.pre.1 (bytes h.before.before) e.if1.false _ _
     h.field-m.ensures o.Outside-of.ensures _ c.before.is_face.ensures c.if-is_face.false
 
 pub read_core_spec : {M : Type 1} → statement M

@@ -1,7 +1,7 @@
 use native.Mathlib.Omega.{arith}
 use mathlib.Core.Path.{◌≡◌, sym, ap, ap₂, ◌∙◌}
 use mathlib.Core.Bool.{true≢false}
-use borrow.Author.Tests.{eq-eqb, ne_eqb, not-true, not-false}
+use borrow.Author.Tests.{eq-eqb, ne_eqb}
 use Rattle.model.specs.Map.{is_kind}
 use Rattle.model.specs.Record.{record_length}
 use Rattle.model.specs.Shelf.{kind_of, edges_of}
@@ -19,7 +19,7 @@ kind_is : (c : tie.After-is_kind) → is_kind (kind_of c.before.before.before.be
 kind_is c = sym (c.is_kind.ensures ∙ ap is_kind c.before.field-kind.ensures)
 
 kinded : (c : tie.Else-not-is_kind) → Kinded c.before.before.before.before.before.before.before.args.«record».now
-kinded c = record { whole = whole c.before.before.before; kind = kind_is c.before ∙ not-false _ c.if-not-is_kind.false }
+kinded c = record { whole = whole c.before.before.before; kind = kind_is c.before ∙ c.if-not-is_kind.false }
 
 counted_is : (c : tie.Else-m-gt4096) → Counted c.before.before.before.before.before.before.before.before.before.before.args.«record».now
 counted_is c = counted _ (kinded c.before.before.before) _ c.before.before.field-m.ensures c.before.if-m-eq0.false (omega arith)
@@ -43,7 +43,7 @@ returns-then-field-record : tie.Need-returns-then-field-record
 returns-then-field-record c = refuse_length _ (omega arith) (λ e. c.if-field-record.true (c.before.field.ensures ∙ e))
 
 returns-then-not-is_kind : tie.Need-returns-then-not-is_kind
-returns-then-not-is_kind c = refuse_kind _ (whole c.before.before.before) (kind_is c.before ∙ not-true _ c.if-not-is_kind.true)
+returns-then-not-is_kind c = refuse_kind _ (whole c.before.before.before) (kind_is c.before ∙ c.if-not-is_kind.true)
 
 returns-then-m-eq0 : tie.Need-returns-then-m-eq0
 returns-then-m-eq0 c = refuse_none _ (kinded c.before.before) _ c.before.field-m.ensures c.if-m-eq0.true

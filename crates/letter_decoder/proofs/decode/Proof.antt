@@ -1,5 +1,4 @@
 use mathlib.Core.Path.{sym, ◌∙◌}
-use borrow.Author.Tests.{not-true, not-false}
 use Rattle.builder.proofs.Whole.{blank_area}
 use Rattle.letter_decoder.proofs.Runs.{answer_unclean, answer_clean}
 use borrow.Author.Rules.{rules}
@@ -7,7 +6,7 @@ use Rattle.letter_decoder.proofs.decode.Statement.{statement}
 use Rattle.letter_decoder.proofs.decode.Tie as tie
 
 returns-then-not-clean : tie.Need-returns-then-not-clean
-returns-then-not-clean c = answer_unclean _ _ _ _ (sym c.before.clean-clean.ensures ∙ not-true _ c.if-not-clean.true)
+returns-then-not-clean c = answer_unclean _ _ _ _ (sym c.before.clean-clean.ensures ∙ c.if-not-clean.true)
 
 run-requires : tie.Need-run-requires
 run-requires c κs =
@@ -18,7 +17,7 @@ run-requires c κs =
 returns : tie.Need-returns
 returns c =
     let test = c.before.before.before.before.before.before.before.before in
-    answer_clean _ _ _ _ _ (sym test.before.clean-clean.ensures ∙ not-false _ test.if-not-clean.false) c.before.before.run.ensures
+    answer_clean _ _ _ _ _ (sym test.before.clean-clean.ensures ∙ test.if-not-clean.false) c.before.before.run.ensures
 
 pub decode_spec : {M : Type 1} → statement M
 decode_spec =

@@ -1,7 +1,6 @@
 use mathlib.Core.Path.{◌≡◌, sym, ◌∙◌}
 use mathlib.Core.Bool.{true}
 use lib.ListN.{length}
-use borrow.Author.Tests.{not-true, not-false}
 use Rattle.model.specs.Numbers.{is_permutation}
 use Rattle.model.specs.Map.{dart_count_fits}
 use Rattle.model.proofs.Fitness.{count_parts}
@@ -13,21 +12,21 @@ use Rattle.measure_checks.proofs.early.Tie as tie
 -- ---- what is known once 3, then 6 is passed
 
 count : (c : tie.Else-not-dart_count_fits) → dart_count_fits (length c.before.before.before.args.order.now) ≡ true
-count c = sym c.before.dart_count_fits.ensures ∙ not-false _ c.if-not-dart_count_fits.false
+count c = sym c.before.dart_count_fits.ensures ∙ c.if-not-dart_count_fits.false
 
 entries : (c : tie.Else-not-is_permutation) → is_permutation c.before.before.before.before.before.args.order.now ≡ true
-entries c = sym c.before.is_permutation.ensures ∙ not-false _ c.if-not-is_permutation.false
+entries c = sym c.before.is_permutation.ensures ∙ c.if-not-is_permutation.false
 
 -- ---- the refusals
 
 returns-then-not-dart_count_fits : tie.Need-returns-then-not-dart_count_fits
-returns-then-not-dart_count_fits c = three _ _ (sym c.before.dart_count_fits.ensures ∙ not-true _ c.if-not-dart_count_fits.true)
+returns-then-not-dart_count_fits c = three _ _ (sym c.before.dart_count_fits.ensures ∙ c.if-not-dart_count_fits.true)
 
 is_permutation-requires : tie.Need-is_permutation-requires
 is_permutation-requires c κs = (count_parts _ (count c)).2
 
 returns-then-not-is_permutation : tie.Need-returns-then-not-is_permutation
-returns-then-not-is_permutation c = six _ _ (count c.before.before) (sym c.before.is_permutation.ensures ∙ not-true _ c.if-not-is_permutation.true)
+returns-then-not-is_permutation c = six _ _ (count c.before.before) (sym c.before.is_permutation.ensures ∙ c.if-not-is_permutation.true)
 
 overflow_mul-n : tie.Need-overflow_mul-n
 overflow_mul-n c = let n = count_parts _ (count c.before.before) in search rules

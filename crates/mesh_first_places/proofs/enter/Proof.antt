@@ -3,7 +3,6 @@ use Rattle.mesh_second_places.proofs.Turns.{stepped_since}
 use Rattle.mesh_first_places.proofs.Firsts.{down_ranges, down_in, down_over, down_next}
 use Rattle.mesh_first_places.proofs.Faces.{next_below}
 use Rattle.model.specs.Map.{face_next}
-use borrow.Author.Tests.{not-true, not-false}
 use native.Mathlib.Omega.{arith}
 use lib.ListN.{length-set}
 use mathlib.Core.Path.{refl, sym, ap, ◌∙◌}
@@ -32,7 +31,7 @@ shape_of-w-then-not-mark_face : tie.Need-shape_of-w-then-not-mark_face
 shape_of-w-then-not-mark_face c = c.before.before.before.mark_face.auto.w
 
 returns-then-not-mark_face : tie.Need-returns-then-not-mark_face
-returns-then-not-mark_face c = let f = c.before.before.before.mark_face in enter_unfit _ _ _ c.before.before.before.before.before.before.before.before.before.before.requires _ _ _ c.before.before.before.before.before.before.before.other-o.ensures _ _ f.ensures (not-true _ c.if-not-mark_face.true) f.auto.1.0
+returns-then-not-mark_face c = let f = c.before.before.before.mark_face in enter_unfit _ _ _ c.before.before.before.before.before.before.before.before.before.before.requires _ _ _ c.before.before.before.before.before.before.before.other-o.ensures _ _ f.ensures c.if-not-mark_face.true f.auto.1.0
 
 overflow_cast-w : tie.Need-overflow_cast-w
 overflow_cast-w c = let s = c.before.before.before.before.before.before.before.before.before.before in let a = s.requires in let r = down_ranges _ _ _ a in let m = a.held.view.room in omega (arith, r.few_darts, r.edges)
@@ -53,7 +52,7 @@ overflow_add-faces : tie.Need-overflow_add-faces
 overflow_add-faces c = let s = c.before.before.before.before.before.before.before.before.before.before.before in let a = s.requires in let r = down_ranges _ _ _ a in let m = a.held.view.room in omega (arith, r.few_darts, r.faces)
 
 first_place-requires : tie.Need-first_place-requires
-first_place-requires c κs = let s = c.before.before.before.before.before.before.before.before.before.before.before in let a = s.requires in let r = down_ranges _ _ _ a in let m = a.held.view.room in let o = c.before.before.before.before.before.before.before.before.other-o.ensures in enters _ _ _ a _ _ _ o (down_next _ _ _ a ∙ ap (face_next _) (sym o)) c.before.before.before.before.before.before.step-y.ensures _ _ c.before.before.before.before.mark_face.ensures (not-false _ c.before.if-not-mark_face.false)
+first_place-requires c κs = let s = c.before.before.before.before.before.before.before.before.before.before.before in let a = s.requires in let r = down_ranges _ _ _ a in let m = a.held.view.room in let o = c.before.before.before.before.before.before.before.before.other-o.ensures in enters _ _ _ a _ _ _ o (down_next _ _ _ a ∙ ap (face_next _) (sym o)) c.before.before.before.before.before.before.step-y.ensures _ _ c.before.before.before.before.mark_face.ensures c.before.if-not-mark_face.false
 
 shape_of-w : tie.Need-shape_of-w
 shape_of-w c = c.before.before.first_place.auto.w ∙ simp length-set c.before.before.before.before.before.before.before.mark_face.auto.w

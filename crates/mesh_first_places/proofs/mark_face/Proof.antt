@@ -1,4 +1,4 @@
-use borrow.Author.Tests.{eqb-true, eqb-false}
+use borrow.Author.Tests.{eqb-true}
 use Rattle.mesh_first_places.proofs.Faces.{faced, unfaced, next_below}
 use Rattle.trace_steps.proofs.Grounds.{few}
 use native.Mathlib.Omega.{arith}
@@ -46,7 +46,7 @@ shape_of-w : tie.Need-shape_of-w
 shape_of-w c = simp length-set
 
 returns : tie.Need-returns
-returns c = let s = c.before.before.before.before.before.before.before in faced _ _ _ _ _ s.requires.2 s.requires.3 c.before.before.before.before.step-z.ensures c.before.before.before.if-z-o.false (eqb-false _ _ c.before.before.if-o-x.false) (eqb-false _ _ c.before.if-x-y.false) (eqb-false _ _ c.if-y-o.false) _
+returns c = let s = c.before.before.before.before.before.before.before in faced _ _ _ _ _ s.requires.2 s.requires.3 c.before.before.before.before.step-z.ensures c.before.before.before.if-z-o.false c.before.before.if-o-x.false c.before.if-x-y.false c.if-y-o.false _
 
 pub mark_face_spec : {M : Type 1} → statement M
 mark_face_spec =

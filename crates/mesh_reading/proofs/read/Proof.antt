@@ -1,11 +1,10 @@
 use Rattle.mesh_reading.proofs.Spelling.{word_there, mesh_there, mesh_found, mesh_not_found}
 use borrow.Author.Rules.{rules}
-use borrow.Author.Tests.{not-true, not-false}
 use Rattle.mesh_reading.proofs.read.Statement.{statement}
 use Rattle.mesh_reading.proofs.read.Tie as tie
 
 returns-then-not-found : tie.Need-returns-then-not-found
-returns-then-not-found c = mesh_not_found _ _ _ _ _ c.before.before.before.spell-found.ensures _ (not-true _ c.if-not-found.true)
+returns-then-not-found c = mesh_not_found _ _ _ _ _ c.before.before.before.spell-found.ensures _ c.if-not-found.true
 
 put-requires : tie.Need-put-requires
 put-requires c κs =
@@ -13,7 +12,7 @@ put-requires c κs =
     let k = e.before.before.before in
     let st = k.before.before.before.before.before.before in
     let p = st.requires in
-    (word_there _ _ _ _ _ k.spell-found.ensures st.args.out.now (not-false _ e.if-not-found.false) p.1 p.2 p.4, p.5)
+    (word_there _ _ _ _ _ k.spell-found.ensures st.args.out.now e.if-not-found.false p.1 p.2 p.4, p.5)
 
 turn-requires : tie.Need-turn-requires
 turn-requires c κs =
@@ -21,7 +20,7 @@ turn-requires c κs =
     let e = u.before.before.before in
     let k = e.before.before.before in
     let p = k.before.before.before.before.before.before.requires in
-    mesh_there _ _ _ _ _ k.spell-found.ensures _ (not-false _ e.if-not-found.false) p.1 p.2 p.4 _ _ u.put.ensures p.5
+    mesh_there _ _ _ _ _ k.spell-found.ensures _ e.if-not-found.false p.1 p.2 p.4 _ _ u.put.ensures p.5
 
 returns : tie.Need-returns
 returns c =
@@ -30,7 +29,7 @@ returns c =
     let e = u.before.before.before in
     let k = e.before.before.before in
     let p = k.before.before.before.before.before.before.requires in
-    mesh_found _ _ _ _ _ k.spell-found.ensures _ (not-false _ e.if-not-found.false) p.1 p.2 p.4 _ _ u.put.ensures _ v.turn.ensures
+    mesh_found _ _ _ _ _ k.spell-found.ensures _ e.if-not-found.false p.1 p.2 p.4 _ _ u.put.ensures _ v.turn.ensures
 
 pub read_spec : {M : Type 1} → statement M
 read_spec =

@@ -1,6 +1,6 @@
 use Rattle.mesh_second_places.proofs.Seconds.{second_ranges, second_in, second_over, second_index, last_few}
 use Rattle.mesh_second_places.proofs.Turns.{second_ends, few_unfit, last_unfit}
-use borrow.Author.Tests.{ltb-true, ltb-false}
+use borrow.Author.Tests.{ltb-true}
 use native.Mathlib.Omega.{arith}
 use lib.ListN.{length-set}
 use mathlib.Core.Logic.{inl, inr, ⊎_elim}
@@ -74,7 +74,7 @@ shape_of-w : tie.Need-shape_of-w
 shape_of-w c = simp length-set
 
 returns : tie.Need-returns
-returns c = let s = c.before.before.before.before.before.before.before.before.before in let a = s.requires.0 in let r = second_ranges _ _ _ _ _ _ a in let i = second_index _ _ _ _ _ _ a in let m = a.held.view.room in let t = c.before.before.before.before.before.before.if-waiting-lt2.false in second_ends _ _ _ _ _ a _ c.before.before.before.before.before.other.ensures (omega arith) c.before.if-mark-last.false (ltb-false _ _ c.if-before-e.false)
+returns c = let s = c.before.before.before.before.before.before.before.before.before in let a = s.requires.0 in let r = second_ranges _ _ _ _ _ _ a in let i = second_index _ _ _ _ _ _ a in let m = a.held.view.room in let t = c.before.before.before.before.before.before.if-waiting-lt2.false in second_ends _ _ _ _ _ a _ c.before.before.before.before.before.other.ensures (omega arith) c.before.if-mark-last.false c.if-before-e.false
 
 pub end_edge_spec : {M : Type 1} → statement M
 end_edge_spec =

@@ -3,7 +3,7 @@ use Rattle.mesh_first_places.proofs.Faces.{next_below}
 use Rattle.model.proofs.Opposite.{opposite_bound}
 use Rattle.model.proofs.Fitness.{count_parts, count_even, count_positive}
 use Rattle.model.specs.Map.{opposite, face_next}
-use borrow.Author.Tests.{eqb-true, eqb-false, not-true, not-false}
+use borrow.Author.Tests.{eqb-false, not-true}
 use lib.ListN.{length}
 use mathlib.Core.Path.{sym, ap, subst, ◌∙◌}
 use mathlib.Core.Logic.{inl, inr, ⊎_elim}
@@ -28,7 +28,7 @@ is_end-requires : tie.Need-is_end-requires
 is_end-requires c κs = let a = c.before.before.before.before.before.before.before.before.before.requires in let n = (count_parts _ a.held.count).2 in let two = count_even _ a.held.count in let some = count_positive _ a.held.count in let k = a.held.root_in in let x = next_below _ a.held.count a.held.perm _ k in let y = next_below _ a.held.count a.held.perm _ x in let e = c.before.before.before.before.before.before.step-x.ensures in let o = c.other.ensures in let l = opposite_bound _ _ two x in (n, a.held.view.room, subst (λ (i : ℕ). i < length c.before.before.before.before.before.before.before.before.before.args.order.now) (sym (o ∙ ap opposite e)) l, omega arith)
 
 returns-then-not-is_end : tie.Need-returns-then-not-is_end
-returns-then-not-is_end c = mark_unfit _ _ _ c.before.before.before.before.before.before.before.before.before.before.before.requires _ _ c.before.before.before.before.before.before.before.before.step-x.ensures c.before.before.other.ensures _ c.before.is_end.ensures (not-true _ c.if-not-is_end.true)
+returns-then-not-is_end c = mark_unfit _ _ _ c.before.before.before.before.before.before.before.before.before.before.before.requires _ _ c.before.before.before.before.before.before.before.before.step-x.ensures c.before.before.other.ensures _ c.before.is_end.ensures c.if-not-is_end.true
 
 other-requires-2 : tie.Need-other-requires-2
 other-requires-2 c κs = let a = c.before.before.before.before.before.before.before.before.before.before.before.requires in let n = (count_parts _ a.held.count).2 in let two = count_even _ a.held.count in let some = count_positive _ a.held.count in let k = a.held.root_in in let x = next_below _ a.held.count a.held.perm _ k in let y = next_below _ a.held.count a.held.perm _ x in let e = c.before.before.before.before.before.before.before.before.step-x.ensures in let f = c.before.before.before.before.before.before.before.step-y.ensures ∙ ap (face_next _) e in omega arith
@@ -39,7 +39,7 @@ is_end-requires-2 c κs = let a = c.before.before.before.before.before.before.be
 returns : tie.Need-returns
 returns c =
     is_meshed _ _ _ c.before.before.before.before.before.before.before.before.before.before.before.before.before.requires _ _ c.before.before.before.before.before.before.before.before.before.before.step-x.ensures c.before.before.before.before.other.ensures _ c.before.before.before.is_end.ensures c.before.before.before.before.before.before.before.if-s-ne2.false
-    (eqb-true _ _ (not-false _ c.before.before.before.before.before.if-s-n.false)) (not-false _ c.before.before.if-not-is_end.false) _ _ c.before.before.before.before.before.before.before.before.before.step-y.ensures c.before.other-2.ensures _ c.is_end-2.ensures
+    c.before.before.before.before.before.if-s-n.false c.before.before.if-not-is_end.false _ _ c.before.before.before.before.before.before.before.before.before.step-y.ensures c.before.other-2.ensures _ c.is_end-2.ensures
 
 pub at_end_spec : {M : Type 1} → statement M
 at_end_spec =

@@ -4,7 +4,7 @@ use Rattle.mesh_tracing.proofs.Homes.{back_at}
 use Rattle.mesh_second_places.proofs.Seconds.{second_ranges, second_in, second_over, second_index}
 use native.Mathlib.Omega.{arith}
 use mathlib.Core.Logic.{inl, inr, ⊎_elim}
-use borrow.Author.Tests.{leb-true, leb-false}
+use borrow.Author.Tests.{leb-true}
 use Rattle.mesh_tracing.proofs.back.Statement.{statement}
 use Rattle.mesh_tracing.proofs.back.Tie as tie
 
@@ -72,7 +72,7 @@ returns-then-mark-eq0 : tie.Need-returns-then-mark-eq0
 returns-then-mark-eq0 c = c.before.before.second_place.ensures
 
 end_edge-requires : tie.Need-end_edge-requires
-end_edge-requires c κs = let s = c.before.before.before.before.before.before.before.before.before.before.before in let a = back_at _ _ _ s.requires.0 s.requires.1 in let r = second_ranges _ _ _ _ _ _ a in let m = a.held.view.room in (a, ending s.args.w.now _ _ c.before.before.before.before.other.ensures c.before.before.if-mark-eq0.false (leb-false _ _ c.before.if-mark-ge-SEEN.false))
+end_edge-requires c κs = let s = c.before.before.before.before.before.before.before.before.before.before.before in let a = back_at _ _ _ s.requires.0 s.requires.1 in let r = second_ranges _ _ _ _ _ _ a in let m = a.held.view.room in (a, ending s.args.w.now _ _ c.before.before.before.before.other.ensures c.before.before.if-mark-eq0.false c.before.if-mark-ge-SEEN.false)
 
 shape_of-w : tie.Need-shape_of-w
 shape_of-w c = c.before.before.end_edge.auto.w

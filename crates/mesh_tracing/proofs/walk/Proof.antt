@@ -1,6 +1,5 @@
 use Rattle.mesh_tracing.proofs.Turns.{Walking, faced_begun, walking_on, walking_home, meshed_since, root_unfit, turn_unfit, walk_ends}
 use Rattle.mesh_first_places.proofs.Faces.{next_below}
-use borrow.Author.Tests.{not-true, not-false}
 use mathlib.Core.Path.{◌∙◌}
 use Prim.Native.Nat.{◌-◌}
 use native.Mathlib.Omega.{arith}
@@ -32,7 +31,7 @@ mark_face-requires c κs =
 returns-then-not-mark_face : tie.Need-returns-then-not-mark_face invariant_loop decreases_loop
 returns-then-not-mark_face c =
     let f = c.before.before.before.mark_face in
-    root_unfit _ _ _ _ _ c.before.before.before.before.before.before.before.before.before.requires.2 f.ensures (not-true _ c.if-not-mark_face.true) f.auto.1.0
+    root_unfit _ _ _ _ _ c.before.before.before.before.before.before.before.before.before.requires.2 f.ensures c.if-not-mark_face.true f.auto.1.0
 
 shape_of-w-then-not-mark_face : tie.Need-shape_of-w-then-not-mark_face invariant_loop decreases_loop
 shape_of-w-then-not-mark_face c = (returns-then-not-mark_face c).kept
@@ -40,7 +39,7 @@ shape_of-w-then-not-mark_face c = (returns-then-not-mark_face c).kept
 loop-s-init : tie.Need-loop-s-init invariant_loop decreases_loop
 loop-s-init c =
     let p = c.before.before.before.before.before.before.before.before.before.requires in
-    faced_begun _ _ _ _ p.0 p.1 p.2 p.3 p.4 _ c.before.before.before.mark_face.ensures (not-false _ c.if-not-mark_face.false)
+    faced_begun _ _ _ _ p.0 p.1 p.2 p.3 p.4 _ c.before.before.before.mark_face.ensures c.if-not-mark_face.false
 
 turn-requires : tie.Need-turn-requires invariant_loop decreases_loop
 turn-requires c κs = c.before.before.before.loop-s.invariant.at

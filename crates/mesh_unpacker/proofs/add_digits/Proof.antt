@@ -11,10 +11,10 @@ use borrow.Author.Rules.{rules}
 use Rattle.mesh_unpacker.proofs.add_digits.Statement.{statement}
 use Rattle.mesh_unpacker.proofs.add_digits.Tie as tie
 
-abbrev invariant_loop : tie.invariant-loop
+abbrev invariant_loop : tie.invariant-loop-i
 invariant_loop payload inverse from n at w₀ j₀ i₀ w j i = Adding (groups (drop from (values_of inverse payload))) n at w₀ w j i
 
-abbrev decreases_loop : tie.decreases-loop
+abbrev decreases_loop : tie.decreases-loop-i
 decreases_loop payload inverse from n at w₀ j₀ i₀ w j i = n - i
 
 -- how many digits there are
@@ -26,56 +26,56 @@ many c =
     let l = values_length a.inverse.now a.payload.now in
     omega arith
 
-loop-holds : tie.Need-loop-init invariant_loop decreases_loop
-loop-holds c =
+loop-i-init : tie.Need-loop-i-init invariant_loop decreases_loop
+loop-i-init c =
     let st = c.before.before.before in
     let n = many st in
     let p = st.requires in
     adding_start _ _ _ _ p.1.0.0 p.1.0.1 (let f = p.1.1 in omega arith)
 
-slice-read-t : tie.Need-slice-read-t invariant_loop decreases_loop
-slice-read-t c = let k = c.before.before.loop.invariant.kept in omega arith
+bounds-w-at : tie.Need-bounds-w-at invariant_loop decreases_loop
+bounds-w-at c = let k = c.before.before.loop-i.invariant.kept in omega arith
 
-with-digit-requires : tie.Need-with-digit-requires invariant_loop decreases_loop
-with-digit-requires c κs =
+with_digit-requires : tie.Need-with_digit-requires invariant_loop decreases_loop
+with_digit-requires c κs =
     let st = c.before.before.before.before.before.before in
-    let at = c.before.before.loop in
-    let h = c.before.loop-test.true in
+    let at = c.before.before.loop-i in
+    let h = c.before.loop-i-test.true in
     let n = many st in
     let p = st.requires in
     (p.0.0, p.0.2, λ e. let j = adding_there _ _ _ _ p.1.0.0 _ _ _ at.invariant h e in omega arith, adding_below _ _ _ _ p.1.0.0 _ _ _ at.invariant h)
 
-slice-write-w : tie.Need-slice-write-w invariant_loop decreases_loop
-slice-write-w c = let k = c.before.before.before.loop.invariant.kept in omega arith
+bounds-w-at-in-loop-i : tie.Need-bounds-w-at-in-loop-i invariant_loop decreases_loop
+bounds-w-at-in-loop-i c = let k = c.before.before.before.loop-i.invariant.kept in omega arith
 
 -- the codeword that was read is small
-low : (c : tie.After-with-digit invariant_loop decreases_loop) → let at = c.before.before.before.loop in
+low : (c : tie.After-with_digit invariant_loop decreases_loop) → let at = c.before.before.before.loop-i in
     get_or at.w (c.before.before.before.before.before.before.before.args.at + at.i) 0 < 4
 low c =
     let st = c.before.before.before.before.before.before.before in
-    adding_below _ _ _ _ st.requires.1.0.0 _ _ _ c.before.before.before.loop.invariant c.before.before.loop-test.true
+    adding_below _ _ _ _ st.requires.1.0.0 _ _ _ c.before.before.before.loop-i.invariant c.before.before.loop-i-test.true
 
-cast-j : tie.Need-overflow-cast-j invariant_loop decreases_loop
-cast-j c = let t = low c in omega arith
+overflow_cast-j : tie.Need-overflow_cast-j invariant_loop decreases_loop
+overflow_cast-j c = let t = low c in omega arith
 
-add-j : tie.Need-overflow-add-j invariant_loop decreases_loop
-add-j c =
+overflow_add-j : tie.Need-overflow_add-j invariant_loop decreases_loop
+overflow_add-j c =
     let n = many c.before.before.before.before.before.before.before in
-    let f = c.before.before.before.loop.invariant.few in
+    let f = c.before.before.before.loop-i.invariant.few in
     let t = low c in
     omega arith
 
-loop-again : tie.Need-loop-preserved invariant_loop decreases_loop
-loop-again c =
+loop-i-preserved : tie.Need-loop-i-preserved invariant_loop decreases_loop
+loop-i-preserved c =
     let st = c.before.before.before.before.before.before.before in
-    let at = c.before.before.before.loop in
-    adding_on _ _ _ _ st.requires.1.0.0 _ _ _ at.invariant c.before.before.loop-test.true _ c.with-digit.ensures
+    let at = c.before.before.before.loop-i in
+    adding_on _ _ _ _ st.requires.1.0.0 _ _ _ at.invariant c.before.before.loop-i-test.true _ c.with_digit.ensures
 
-same_length : tie.Need-same-length invariant_loop decreases_loop
-same_length c = c.before.loop.invariant.kept
+shape_of-w : tie.Need-shape_of-w invariant_loop decreases_loop
+shape_of-w c = c.before.loop-i.invariant.kept
 
 returns : tie.Need-returns invariant_loop decreases_loop
-returns c = adding_end _ _ _ _ c.before.before.before.before.before.requires.1.0.0 _ _ _ c.before.loop.invariant (omega arith)
+returns c = adding_end _ _ _ _ c.before.before.before.before.before.requires.1.0.0 _ _ _ c.before.loop-i.invariant (omega arith)
 
 pub add_digits_spec : {M : Type 1} → statement M
 add_digits_spec =
@@ -83,18 +83,18 @@ add_digits_spec =
     (tie.spec
     invariant_loop
     decreases_loop
-    loop-holds
+    loop-i-init
     (λ c. search rules)
     (λ c. search rules)
-    slice-read-t
-    with-digit-requires
+    bounds-w-at
+    with_digit-requires
     (λ c. search rules)
     (λ c. search rules)
-    slice-write-w
-    cast-j
-    add-j
+    bounds-w-at-in-loop-i
+    overflow_cast-j
+    overflow_add-j
     (λ c. search rules)
     (λ c. search rules)
-    loop-again
-    same_length
+    loop-i-preserved
+    shape_of-w
     returns)

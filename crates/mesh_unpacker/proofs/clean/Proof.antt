@@ -4,7 +4,7 @@ use mathlib.Core.Path.{◌≡◌, sym, ◌∙◌}
 use mathlib.Core.Bool.{true}
 use lib.Dec.{eqb}
 use lib.ListN.{length}
-use borrow.Author.Tests.{eq-eqb, ne_eqb, not-true, not-false}
+use borrow.Author.Tests.{eq-eqb, ne_eqb}
 use Rattle.model.specs.Record.{bytes_for}
 use Rattle.packing.specs.Types.{clean}
 use Rattle.mesh_unpacker.specs.Reading.{values_from}
@@ -18,34 +18,34 @@ in_parts : (c : tie.Start) → let a = c.args in
 in_parts c = let a = c.args in clean_parts_lem a.inverse.now a.payload.now a.c a.l c.requires.2
 
 -- the length is right
-long : (c : tie.Else1) → let a = c.before.before.before.args in eqb (length a.payload.now) (bytes_for a.c 8 + bytes_for a.l 5) ≡ true
+long : (c : tie.Else-payload-from) → let a = c.before.before.before.args in eqb (length a.payload.now) (bytes_for a.c 8 + bytes_for a.l 5) ≡ true
 long c = let a = c.before.before.before.args in eq-eqb (length a.payload.now) (bytes_for a.c 8 + bytes_for a.l 5) (omega arith)
 
-returns : tie.Need-returns
-returns c =
+returns-then-payload-from : tie.Need-returns-then-payload-from
+returns-then-payload-from c =
     let a = c.before.before.before.args in
     let q = ne_eqb (length a.payload.now) (bytes_for a.c 8 + bytes_for a.l 5) (λ e. omega arith) in
     rw (in_parts c.before.before.before, q)
 
-returns-2 : tie.Need-returns-2
-returns-2 c =
+returns-then-not-padded : tie.Need-returns-then-not-padded
+returns-then-not-padded c =
     let q = long c.before.before in
-    let p = sym c.before.zero_bits.ensures ∙ not-true _ c.if2.true in
+    let p = sym c.before.zero_bits-padded.ensures ∙ c.if-not-padded.true in
     rw (in_parts c.before.before.before.before.before, q, p)
 
-returns-3 : tie.Need-returns-3
-returns-3 c =
+returns-then-not-fit : tie.Need-returns-then-not-fit
+returns-then-not-fit c =
     let q = long c.before.before.before.before in
-    let p = sym c.before.before.before.zero_bits.ensures ∙ not-false _ c.before.before.if2.false in
-    let g = sym c.before.groups-fit.ensures ∙ not-true _ c.if3.true in
+    let p = sym c.before.before.before.zero_bits-padded.ensures ∙ c.before.before.if-not-padded.false in
+    let g = sym c.before.groups_fit-fit.ensures ∙ c.if-not-fit.true in
     rw (in_parts c.before.before.before.before.before.before.before, q, p, g)
 
-returns-4 : tie.Need-returns-4
-returns-4 c =
+returns : tie.Need-returns
+returns c =
     let q = long c.before.before.before.before.before in
-    let p = sym c.before.before.before.before.zero_bits.ensures ∙ not-false _ c.before.before.before.if2.false in
-    let g = sym c.before.before.groups-fit.ensures ∙ not-false _ c.before.if3.false in
-    rw (in_parts c.before.before.before.before.before.before.before.before, q, p, g) c.zero-labels.ensures
+    let p = sym c.before.before.before.before.zero_bits-padded.ensures ∙ c.before.before.before.if-not-padded.false in
+    let g = sym c.before.before.groups_fit-fit.ensures ∙ c.before.if-not-fit.false in
+    rw (in_parts c.before.before.before.before.before.before.before.before, q, p, g) c.zero_labels.ensures
 
 pub clean_spec : {M : Type 1} → statement M
 clean_spec =
@@ -54,11 +54,11 @@ clean_spec =
     (λ c. search rules)
     (λ c. search rules)
     (λ c. search rules)
-    returns
+    returns-then-payload-from
     (λ c. search rules)
     (λ c κs. search rules)
-    returns-2
+    returns-then-not-padded
     (λ c κs. search rules)
-    returns-3
+    returns-then-not-fit
     (λ c κs. search rules)
-    returns-4)
+    returns)

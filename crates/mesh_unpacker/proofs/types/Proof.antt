@@ -1,7 +1,6 @@
 use Prim.Native.Nat.{◌*◌, ◌-◌, ◌/◌}
 use native.Mathlib.Omega.{arith}
 use mathlib.Core.Path.{◌≡◌, sym, ◌∙◌}
-use borrow.Author.Tests.{not-true, not-false}
 use Rattle.model.specs.Record.{bytes_for}
 use Rattle.packing.specs.Types.{clean}
 use Rattle.work.specs.Map.{TYPES}
@@ -13,89 +12,89 @@ use Rattle.mesh_unpacker.proofs.types.Statement.{statement}
 use Rattle.mesh_unpacker.proofs.types.Tie as tie
 
 -- what the codewords are
-found : (c : tie.After-known-told) →
+found : (c : tie.In-Counted) →
     let a = c.before.before.before.before.before.before.before.before.before.before.before.args in
-    let r = c.before.before.before.before.before.read-codewords in
-    let x = c.before.c.given in
+    let r = c.before.before.before.before.before.read_codewords in
+    let x = c.before.c-1.given in
     Found a.payload.now (2 * (a.m / 3) - 1) (TYPES * (2 * a.m)) r.new.1.1.1.0 x.0.0 x.0.1.0
 found c =
-    let r = c.before.before.before.before.before.read-codewords in
+    let r = c.before.before.before.before.before.read_codewords in
     let k = r.auto.1.1.1.0 in
     let room = c.before.before.before.before.before.before.before.before.before.before.before.requires.4 in
-    counted _ _ _ _ _ r.ensures _ _ c.before.c.given.1 (omega arith)
+    counted _ _ _ _ _ r.ensures _ _ c.before.c-1.given.1 (omega arith)
 
 -- the answer about the rest, for the codewords that were read
-rest_is : (c : tie.After-clean) →
+rest_is : (c : tie.After-clean-clean) →
     let a = c.before.before.before.before.before.before.before.before.before.before.before.before.args in
-    let x = c.before.before.c.given in
-    c.clean.result ≡ clean (values_from (bytes_for x.0.0 8) a.inverse.now a.payload.now) x.0.0 x.0.1.0
-rest_is c = c.clean.ensures
+    let x = c.before.before.c-1.given in
+    c.clean-clean.result ≡ clean (values_from (bytes_for x.0.0 8) a.inverse.now a.payload.now) x.0.0 x.0.1.0
+rest_is c = c.clean-clean.ensures
 
-returns : tie.Need-returns
-returns c = typed_other _ _ _ _ c.if1.true
+returns-then-m-ne0 : tie.Need-returns-then-m-ne0
+returns-then-m-ne0 c = typed_other _ _ _ _ c.if-m-ne0.true
 
-clean-requires : tie.Need-clean-requires
-clean-requires c κs =
+clean-clean-requires : tie.Need-clean-clean-requires
+clean-clean-requires c κs =
     let f = found c in
     let p = c.before.before.before.before.before.before.before.before.before.before.before.requires in
     let few = f.few in
     (p.0, p.3, f.fits, omega arith)
 
-returns-2 : tie.Need-returns-2
-returns-2 c =
+returns-then-not-clean : tie.Need-returns-then-not-clean
+returns-then-not-clean c =
     let f = found c.before.before in
-    let thirds = c.before.before.before.before.before.before.before.before.before.if1.false in
-    let k = c.before.before.before.before.before.before.before.read-codewords.auto.1.1.1.0 in
-    typed_unclean _ _ _ _ thirds _ _ _ f.codes f.digits f.fits _ k (sym (rest_is c.before) ∙ not-true _ c.if2.true)
+    let thirds = c.before.before.before.before.before.before.before.before.before.if-m-ne0.false in
+    let k = c.before.before.before.before.before.before.before.read_codewords.auto.w in
+    typed_unclean _ _ _ _ thirds _ _ _ f.codes f.digits f.fits _ k (sym (rest_is c.before) ∙ c.if-not-clean.true)
 
-add-add-digits : tie.Need-overflow-add-add-digits
-add-add-digits c = let f = (found c.before.before).fits in let p = c.before.before.before.before.before.before.before.before.before.before.before.before.before.requires.3 in omega arith
+overflow_add-c : tie.Need-overflow_add-c
+overflow_add-c c = let f = (found c.before.before).fits in let p = c.before.before.before.before.before.before.before.before.before.before.before.before.before.requires.3 in omega arith
 
-add-digits-requires : tie.Need-add-digits-requires
-add-digits-requires c κs =
+add_digits-requires : tie.Need-add_digits-requires
+add_digits-requires c κs =
     let st = c.before.before.before.before.before.before.before.before.before.before.before.before.before.before in
     let f = found c.before.before.before in
     let p = st.requires in
-    let k = c.before.before.before.before.before.before.before.before.read-codewords.auto.1.1.1.0 in
+    let k = c.before.before.before.before.before.before.before.before.read_codewords.auto.w in
     let fits = f.fits in
     let d = f.digits in
-    let long = clean_room st.args.inverse.now st.args.payload.now _ _ fits (sym (rest_is c.before.before) ∙ not-false _ c.before.if2.false) in
+    let long = clean_room st.args.inverse.now st.args.payload.now _ _ fits (sym (rest_is c.before.before) ∙ c.before.if-not-clean.false) in
     ((p.0, p.3, omega arith, omega arith), ((omega arith, f.below), omega arith))
 
-returns-3 : tie.Need-returns-3
-returns-3 c =
+returns-in-Counted : tie.Need-returns-in-Counted
+returns-in-Counted c =
     let st = c.before.before.before.before.before.before.before.before.before.before.before.before.before.before.before.before.before in
     let f = found c.before.before.before.before.before.before in
-    let thirds = c.before.before.before.before.before.before.before.before.before.before.before.before.before.if1.false in
-    let d = c.before.before.add-digits in
-    let k = d.auto.1.1.1.1.1.0 ∙ c.before.before.before.before.before.before.before.before.before.before.before.read-codewords.auto.1.1.1.0 in
-    let clean_is = sym (rest_is c.before.before.before.before.before) ∙ not-false _ c.before.before.before.before.if2.false in
+    let thirds = c.before.before.before.before.before.before.before.before.before.before.before.before.before.if-m-ne0.false in
+    let d = c.before.before.add_digits in
+    let k = d.auto.1.1.1.1.1.0 ∙ c.before.before.before.before.before.before.before.before.before.before.before.read_codewords.auto.w in
+    let clean_is = sym (rest_is c.before.before.before.before.before) ∙ c.before.before.before.before.if-not-clean.false in
     let p = st.requires.4 in
     typed_clean _ _ _ _ thirds _ _ _ f.codes f.digits f.fits _ k clean_is (omega arith) d.ensures
 
-returns-4 : tie.Need-returns-4
-returns-4 c =
-    let r = c.before.before.before.before.read-codewords in
-    typed_short _ _ _ _ c.before.before.before.before.before.before.if1.false _ r.auto.1.1.1.0 (ran_out _ _ _ _ _ r.ensures c.enum_told.given.1)
+returns-in-Short : tie.Need-returns-in-Short
+returns-in-Short c =
+    let r = c.before.before.before.before.read_codewords in
+    typed_short _ _ _ _ c.before.before.before.before.before.before.if-m-ne0.false _ r.auto.1.1.1.0 (ran_out _ _ _ _ _ r.ensures c.enum_told-1.given.1)
 
 pub types_spec : {M : Type 1} → statement M
 types_spec =
     tie.close
     (tie.spec
-    returns
+    returns-then-m-ne0
     (λ c. search rules)
     (λ c. search rules)
     (λ c. search rules)
     (λ c. search rules)
     (λ c κs. search rules)
     (λ c. search rules)
-    clean-requires
+    clean-clean-requires
     (λ c. search rules)
-    returns-2
-    add-add-digits
-    add-digits-requires
+    returns-then-not-clean
+    overflow_add-c
+    add_digits-requires
     (λ c. search rules)
-    returns-3
+    returns-in-Counted
     (λ c. search rules)
     (λ c. search rules)
-    returns-4)
+    returns-in-Short)

@@ -13,13 +13,13 @@ use Rattle.read_checks.proofs.refusal.Tie as tie
 
 -- a table of which this is said
 stands : (c : tie.Else-not-loaded) (t : Table) → c.before.before.args.loaded ≡ not (table_refused t) → table_refused t ≡ false
-stands c t told = not-true _ (sym told ∙ not-false _ c.if-not-loaded.false)
+stands c t told = not-true _ (sym told ∙ c.if-not-loaded.false)
 
 passed : (c : tie.Else-h-ne0) → head_refusal c.before.before.before.before.args.«record».now ≡ 0
 passed c = sym c.before.head_refusal-h.ensures ∙ omega arith
 
 returns-then-not-loaded : tie.Need-returns-then-not-loaded
-returns-then-not-loaded c = λ t told. record_table t _ _ (not-false _ (sym told ∙ not-true _ c.if-not-loaded.true))
+returns-then-not-loaded c = λ t told. record_table t _ _ (not-false _ (sym told ∙ c.if-not-loaded.true))
 
 returns-then-h-ne0 : tie.Need-returns-then-h-ne0
 returns-then-h-ne0 c =

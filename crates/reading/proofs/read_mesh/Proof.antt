@@ -12,7 +12,6 @@ use Rattle.mesh_reading.specs.Read.{MeshRead}
 use Rattle.decoding.proofs.Payloads.{mesh_asked, mesh_decoded}
 use Rattle.decoding.proofs.Outcomes.{inverse_wide}
 use Rattle.reading.proofs.Outcomes.{mesh_under, mesh_read, mesh_unreadable}
-use borrow.Author.Tests.{not-true, not-false}
 use borrow.Author.Rules.{rules}
 use Rattle.reading.proofs.read_mesh.Statement.{statement}
 use Rattle.reading.proofs.read_mesh.Tie as tie
@@ -54,7 +53,7 @@ returns-then-not-found : tie.Need-returns-then-not-found
 returns-then-not-found c =
     let d = c.before.before.before.before.before in
     let p = d.before.before.before.before.before.before.before.before.before.requires in
-    λ t stands same. mesh_unreadable t stands _ p.2 _ _ _ (mesh_under t _ _ _ _ _ same (decoded d)) (not-true _ c.if-not-found.true)
+    λ t stands same. mesh_unreadable t stands _ p.2 _ _ _ (mesh_under t _ _ _ _ _ same (decoded d)) c.if-not-found.true
 
 returns : tie.Need-returns
 returns c =
@@ -62,7 +61,7 @@ returns c =
     let f = d.before.before.before.before.before in
     let p = f.before.before.before.before.requires in
     λ t stands same.
-    mesh_read t stands _ p.2 _ _ _ (mesh_under t _ _ _ _ _ same (decoded d)) p.1 (bytes f.before) (not-false _ c.if-not-found.false) _ f.field-m.ensures
+    mesh_read t stands _ p.2 _ _ _ (mesh_under t _ _ _ _ _ same (decoded d)) p.1 (bytes f.before) c.if-not-found.false _ f.field-m.ensures
 
 pub read_mesh_spec : {M : Type 1} → statement M
 read_mesh_spec =

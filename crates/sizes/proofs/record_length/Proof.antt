@@ -1,7 +1,6 @@
 use mathlib.Core.Path.{◌≡◌, sym, ◌∙◌}
 use mathlib.Core.Bool.{true}
 use native.Mathlib.Omega.{arith}
-use borrow.Author.Tests.{not-true, not-false}
 use Rattle.model.specs.Map.{is_kind}
 use Rattle.sizes.proofs.Sizes.{no_kind, not_fixed, no_edges, too_many, length_there, length_fits}
 use borrow.Author.Rules.{rules}
@@ -9,10 +8,10 @@ use Rattle.sizes.proofs.record_length.Statement.{statement}
 use Rattle.sizes.proofs.record_length.Tie as tie
 
 kind : (c : tie.Else-not-is_kind) → is_kind c.before.before.args.kind ≡ true
-kind c = sym c.before.is_kind.ensures ∙ not-false _ c.if-not-is_kind.false
+kind c = sym c.before.is_kind.ensures ∙ c.if-not-is_kind.false
 
 returns-then-not-is_kind : tie.Need-returns-then-not-is_kind
-returns-then-not-is_kind c = no_kind _ _ (sym c.before.is_kind.ensures ∙ not-true _ c.if-not-is_kind.true)
+returns-then-not-is_kind c = no_kind _ _ (sym c.before.is_kind.ensures ∙ c.if-not-is_kind.true)
 
 returns-then-kind-eq3 : tie.Need-returns-then-kind-eq3
 returns-then-kind-eq3 c = not_fixed _ _ (kind c.before) c.if-kind-eq3.true

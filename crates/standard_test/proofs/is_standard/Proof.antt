@@ -1,5 +1,4 @@
 use mathlib.Core.Bool.{false≢true}
-use borrow.Author.Tests.{not-false}
 use Rattle.standard_test.proofs.Entries.{standard_is}
 use borrow.Author.Rules.{rules}
 use Rattle.standard_test.proofs.is_standard.Statement.{statement}
@@ -17,8 +16,8 @@ returns c =
     let f = l.before.before in
     let st = f.before.before.before in
     λ e.
-    let first = f.first_places.ensures (not-false _ l.before.if-not-first_places.false) in
-    let last = l.last_bytes.ensures (not-false _ c.before.if-not-last_bytes.false) in
+    let first = f.first_places.ensures l.before.if-not-first_places.false in
+    let last = l.last_bytes.ensures c.before.if-not-last_bytes.false in
     standard_is st.args.bytes.now st.args.inverse.now st.requires.0 st.requires.1 first.0 first.1 last (c.last_entries.ensures e)
 
 pub is_standard_spec : {M : Type 1} → statement M

@@ -1,5 +1,4 @@
 use mathlib.Core.Path.{◌∙◌}
-use borrow.Author.Tests.{not-true, not-false}
 use Rattle.striking.proofs.Tested.{too_large, marks_small, all_below_lem}
 use borrow.Author.Rules.{rules}
 use Rattle.striking.proofs.is_permutation_in.Statement.{statement}
@@ -10,14 +9,14 @@ returns-then-not-below c =
     let s = c.before.before.before.strike-below in
     let f = c.before.before.before.before.before.before.before.fill in
     let st = c.before.before.before.before.before.before.before.before.before.before.before in
-    too_large _ _ _ _ st.requires.1 f.ensures s.result s.ensures (s.auto.1.0 ∙ f.auto.0) (not-true s.result c.if-not-below.true)
+    too_large _ _ _ _ st.requires.1 f.ensures s.result s.ensures (s.auto.1.0 ∙ f.auto.0) c.if-not-below.true
 
 none_left-requires : tie.Need-none_left-requires
 none_left-requires c κs =
     let s = c.before.before.before.strike-below in
     let f = c.before.before.before.before.before.before.before.fill in
     let st = c.before.before.before.before.before.before.before.before.before.before.before.before in
-    let m = marks_small _ _ _ _ st.requires.1 f.ensures s.result s.ensures (s.auto.1.0 ∙ f.auto.0) (not-false s.result c.if-not-below.false) in
+    let m = marks_small _ _ _ _ st.requires.1 f.ensures s.result s.ensures (s.auto.1.0 ∙ f.auto.0) c.if-not-below.false in
     (search rules, search rules, m)
 
 returns : tie.Need-returns
@@ -25,7 +24,7 @@ returns c =
     let s = c.before.before.before.before.strike-below in
     let f = c.before.before.before.before.before.before.before.before.fill in
     let st = c.before.before.before.before.before.before.before.before.before.before.before.before.before in
-    all_below_lem _ _ _ _ st.requires.1 f.ensures s.result s.ensures (s.auto.1.0 ∙ f.auto.0) (not-false s.result c.before.if-not-below.false) _ c.none_left.ensures
+    all_below_lem _ _ _ _ st.requires.1 f.ensures s.result s.ensures (s.auto.1.0 ∙ f.auto.0) c.before.if-not-below.false _ c.none_left.ensures
 
 pub is_permutation_in_spec : {M : Type 1} → statement M
 is_permutation_in_spec =

@@ -1,6 +1,5 @@
 use native.Mathlib.Omega.{arith}
 use mathlib.Core.Path.{sym, ◌∙◌}
-use borrow.Author.Tests.{not-true, not-false}
 use Rattle.trace_steps.proofs.Grounds.{few}
 use Rattle.tracing.proofs.Stepping as stepping
 use Rattle.tracing.proofs.Visits as visits
@@ -136,7 +135,7 @@ returns-then-not-is_last c =
     let a = c.before.before.before.before.before.before in
     let hi = c.before.before.if-mark-ge-DOWN.false in
     let some = c.before.before.before.before.if-mark-eq0.false in
-    visits.unfit_second (met a) (omega arith) (omega arith) (sym c.before.is_last.ensures ∙ not-true _ c.if-not-is_last.true)
+    visits.unfit_second (met a) (omega arith) (omega arith) (sym c.before.is_last.ensures ∙ c.if-not-is_last.true)
 
 overflow_cast-f : tie.Need-overflow_cast-f
 overflow_cast-f c = search rules
@@ -146,7 +145,7 @@ go_second-requires c κs =
     let a = c.before.before.before.before.before.before.before in
     let hi = c.before.before.before.if-mark-ge-DOWN.false in
     let no = c.before.before.before.before.before.if-mark-eq0.false in
-    ((met a).traced.ground, visits.ranges (met a), (visits.end_range (met a) (omega arith) (omega arith)).1, visits.has_waiting (met a) (omega arith) (omega arith) (sym c.before.before.is_last.ensures ∙ not-false _ c.before.if-not-is_last.false))
+    ((met a).traced.ground, visits.ranges (met a), (visits.end_range (met a) (omega arith) (omega arith)).1, visits.has_waiting (met a) (omega arith) (omega arith) (sym c.before.before.is_last.ensures ∙ c.before.if-not-is_last.false))
 
 shape_of-w : tie.Need-shape_of-w
 shape_of-w c = search rules
@@ -157,7 +156,7 @@ returns c =
     let v = c.before.before.go_second in
     let hi = c.before.before.before.before.before.before.if-mark-ge-DOWN.false in
     let no = c.before.before.before.before.before.before.before.before.if-mark-eq0.false in
-    visits.visited_second (met a) (omega arith) (omega arith) (sym c.before.before.before.before.before.is_last.ensures ∙ not-false _ c.before.before.before.before.if-not-is_last.false) _ _ v.auto.1.1.0 v.ensures.0 v.ensures.1
+    visits.visited_second (met a) (omega arith) (omega arith) (sym c.before.before.before.before.before.is_last.ensures ∙ c.before.before.before.before.if-not-is_last.false) _ _ v.auto.1.1.0 v.ensures.0 v.ensures.1
 
 pub visit_spec : {M : Type 1} → statement M
 visit_spec =

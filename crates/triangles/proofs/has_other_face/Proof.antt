@@ -3,7 +3,6 @@ use native.Mathlib.Omega.{arith}
 use mathlib.Core.Path.{◌≡◌, refl, sym, ◌∙◌}
 use mathlib.Core.Bool.{false}
 use lib.ListN.{length}
-use borrow.Author.Tests.{not-true, not-false}
 use Rattle.model.specs.Numbers.{some}
 use Rattle.triangles.proofs.Search.{other_at, other_here, triangle_here, other_none}
 use borrow.Author.Rules.{rules}
@@ -23,12 +22,12 @@ loop-d-init c = (omega arith, refl)
 returns-then-not-is_triangle : tie.Need-returns-then-not-is_triangle invariant_loop decreases_loop
 returns-then-not-is_triangle c =
     other_here _ c.before.before.before.loop-d.d c.before.before.loop-d-test.true
-    (sym c.before.is_triangle.ensures ∙ not-true _ c.if-not-is_triangle.true)
+    (sym c.before.is_triangle.ensures ∙ c.if-not-is_triangle.true)
 
 loop-d-preserved : tie.Need-loop-d-preserved invariant_loop decreases_loop
 loop-d-preserved c =
     let at = c.before.before.before.loop-d in
-    (omega arith, triangle_here _ at.d (sym c.before.is_triangle.ensures ∙ not-false _ c.if-not-is_triangle.false) at.invariant.1)
+    (omega arith, triangle_here _ at.d (sym c.before.is_triangle.ensures ∙ c.if-not-is_triangle.false) at.invariant.1)
 
 returns : tie.Need-returns invariant_loop decreases_loop
 returns c = let at = c.before.loop-d in other_none _ at.d (omega arith) at.invariant.1

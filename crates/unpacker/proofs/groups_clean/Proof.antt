@@ -1,6 +1,5 @@
 use mathlib.Core.Path.{◌≡◌, refl, sym, ◌∙◌}
 use native.Mathlib.Omega.{arith}
-use borrow.Author.Tests.{not-true, not-false}
 use Rattle.packing.specs.Payload.{has_labels, payload_clean}
 use Rattle.packing.specs.Groups.{undone, values_of}
 use Rattle.unpacker.proofs.Payload.{KindTwo, two}
@@ -17,28 +16,28 @@ in_parts : (c : tie.Start) → let a = c.args in
 unfolding has_labels
 in_parts c = clean_two _ _ _ _ refl c.requires.0 (λ e. absurd (omega (arith, e)))
 
-zero-bits-requires : tie.Need-zero-bits-requires
-zero-bits-requires c κs = let z = in_two c.before.before in omega arith
+zero_bits-padded-requires : tie.Need-zero_bits-padded-requires
+zero_bits-padded-requires c κs = let z = in_two c.before.before in omega arith
+
+returns-then-not-padded : tie.Need-returns-then-not-padded
+returns-then-not-padded c =
+    let p = sym c.before.zero_bits-padded.ensures ∙ c.if-not-padded.true in
+    rw (in_parts c.before.before.before.before, p)
+
+returns-then-not-fit : tie.Need-returns-then-not-fit
+returns-then-not-fit c =
+    let p = sym c.before.before.before.zero_bits-padded.ensures ∙ c.before.before.if-not-padded.false in
+    let q = sym c.before.groups_fit-fit.ensures ∙ c.if-not-fit.true in
+    rw (in_parts c.before.before.before.before.before.before, p, q)
+
+zero_labels-requires : tie.Need-zero_labels-requires
+zero_labels-requires c κs = let st = c.before.before.before.before.before.before in let z = in_two st in (st.requires.1, omega arith, omega arith, omega arith)
 
 returns : tie.Need-returns
 returns c =
-    let p = sym c.before.zero_bits.ensures ∙ not-true _ c.if1.true in
-    rw (in_parts c.before.before.before.before, p)
-
-returns-2 : tie.Need-returns-2
-returns-2 c =
-    let p = sym c.before.before.before.zero_bits.ensures ∙ not-false _ c.before.before.if1.false in
-    let q = sym c.before.groups-fit.ensures ∙ not-true _ c.if2.true in
-    rw (in_parts c.before.before.before.before.before.before, p, q)
-
-zero-labels-requires : tie.Need-zero-labels-requires
-zero-labels-requires c κs = let st = c.before.before.before.before.before.before in let z = in_two st in (st.requires.1, omega arith, omega arith, omega arith)
-
-returns-3 : tie.Need-returns-3
-returns-3 c =
-    let p = sym c.before.before.before.before.zero_bits.ensures ∙ not-false _ c.before.before.before.if1.false in
-    let q = sym c.before.before.groups-fit.ensures ∙ not-false _ c.before.if2.false in
-    rw (in_parts c.before.before.before.before.before.before.before, p, q) c.zero-labels.ensures
+    let p = sym c.before.before.before.before.zero_bits-padded.ensures ∙ c.before.before.before.if-not-padded.false in
+    let q = sym c.before.before.groups_fit-fit.ensures ∙ c.before.if-not-fit.false in
+    rw (in_parts c.before.before.before.before.before.before.before, p, q) c.zero_labels.ensures
 
 pub groups_clean_spec : {M : Type 1} → statement M
 groups_clean_spec =
@@ -48,9 +47,9 @@ groups_clean_spec =
     (λ c. search rules)
     (λ c. search rules)
     (λ c. search rules)
-    zero-bits-requires
-    returns
+    zero_bits-padded-requires
+    returns-then-not-padded
     (λ c κs. search rules)
-    returns-2
-    zero-labels-requires
-    returns-3)
+    returns-then-not-fit
+    zero_labels-requires
+    returns)

@@ -8,20 +8,20 @@ use borrow.Author.Rules.{rules}
 use Rattle.unpacker.proofs.label_at.Statement.{statement}
 use Rattle.unpacker.proofs.label_at.Tie as tie
 
-bit-at-requires : tie.Need-bit-at-requires
-bit-at-requires c κs =
-    let p = c.before.before.before.requires in let z = one _ _ (of_kind _ _ _ _ c.if1.true p.1) in let h = p.3 in
+bit_at-l-requires : tie.Need-bit_at-l-requires
+bit_at-l-requires c κs =
+    let p = c.before.before.before.requires in let z = one _ _ (of_kind _ _ _ _ c.if-family-eq1.true p.1) in let h = p.3 in
     omega arith
+
+returns-then-family-eq1 : tie.Need-returns-then-family-eq1
+returns-then-family-eq1 c =
+    let a = c.before.before.before.before.args in let h = c.before.before.before.before.requires.3 in
+    c.bit_at-l.ensures ∙ label_one_lem _ _ a.e h ∙ ap (λ (ls : List _). get_or ls a.e 0) (sym (labels_in_one _ _ _ a.w.now c.before.if-family-eq1.true))
 
 returns : tie.Need-returns
 returns c =
     let a = c.before.before.before.before.args in let h = c.before.before.before.before.requires.3 in
-    c.bit_at.ensures ∙ label_one_lem _ _ a.e h ∙ ap (λ (ls : List _). get_or ls a.e 0) (sym (labels_in_one _ _ _ a.w.now c.before.if1.true))
-
-returns-2 : tie.Need-returns-2
-returns-2 c =
-    let a = c.before.before.before.before.args in let h = c.before.before.before.before.requires.3 in
-    sym (getD-region _ _ _ _ h) ∙ ap (λ (ls : List _). get_or ls a.e 0) (sym (labels_in_two _ _ a.payload.now _ c.before.if1.false))
+    sym (getD-region _ _ _ _ h) ∙ ap (λ (ls : List _). get_or ls a.e 0) (sym (labels_in_two _ _ a.payload.now _ c.before.if-family-eq1.false))
 
 pub label_at_spec : {M : Type 1} → statement M
 label_at_spec =
@@ -29,12 +29,12 @@ label_at_spec =
     (tie.spec
     (λ c. search rules)
     (λ c. search rules)
-    bit-at-requires
+    bit_at-l-requires
     (λ c. search rules)
-    returns
-    (λ c. search rules)
-    (λ c. search rules)
+    returns-then-family-eq1
     (λ c. search rules)
     (λ c. search rules)
     (λ c. search rules)
-    returns-2)
+    (λ c. search rules)
+    (λ c. search rules)
+    returns)

@@ -7,17 +7,17 @@ use borrow.Author.Rules.{rules}
 use Rattle.unpacker.proofs.put_group.Statement.{statement}
 use Rattle.unpacker.proofs.put_group.Tie as tie
 
-slice-write-w-2 : tie.Need-slice-write-w-2
-slice-write-w-2 c = simp length-set (omega arith)
+bounds-w-at-2 : tie.Need-bounds-w-at-2
+bounds-w-at-2 c = simp length-set (omega arith)
 
-slice-write-w-3 : tie.Need-slice-write-w-3
-slice-write-w-3 c = simp length-set (omega arith)
+bounds-w-at-3 : tie.Need-bounds-w-at-3
+bounds-w-at-3 c = simp length-set (omega arith)
 
-slice-write-w-4 : tie.Need-slice-write-w-4
-slice-write-w-4 c = simp length-set (omega arith)
+bounds-w-at-4 : tie.Need-bounds-w-at-4
+bounds-w-at-4 c = simp length-set (omega arith)
 
-slice-write-w-5 : tie.Need-slice-write-w-5
-slice-write-w-5 c = simp length-set (omega arith)
+bounds-w-at-5 : tie.Need-bounds-w-at-5
+bounds-w-at-5 c = simp length-set (omega arith)
 
 returns : tie.Need-returns
 returns c =
@@ -38,21 +38,21 @@ put_group_spec =
     (λ c. search rules)
     (λ c. search rules)
     (λ c. search rules)
-    slice-write-w-2
+    bounds-w-at-2
     (λ c. search rules)
     (λ c. search rules)
     (λ c. search rules)
     (λ c. search rules)
-    slice-write-w-3
+    bounds-w-at-3
     (λ c. search rules)
     (λ c. search rules)
     (λ c. search rules)
     (λ c. search rules)
-    slice-write-w-4
+    bounds-w-at-4
     (λ c. search rules)
     (λ c. search rules)
     (λ c. search rules)
     (λ c. search rules)
-    slice-write-w-5
+    bounds-w-at-5
     (λ c. search rules)
     returns)

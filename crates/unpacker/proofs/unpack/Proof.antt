@@ -9,32 +9,32 @@ use borrow.Author.Rules.{rules}
 use Rattle.unpacker.proofs.unpack.Statement.{statement}
 use Rattle.unpacker.proofs.unpack.Tie as tie
 
-in_one : (c : tie.Then1) → KindOne c.before.before.before.args.payload.now c.before.before.before.args.m
-in_one c = one _ _ (of_kind _ _ _ _ c.if1.true c.before.before.before.requires.1)
+in_one : (c : tie.Then-family-eq1) → KindOne c.before.before.before.args.payload.now c.before.before.before.args.m
+in_one c = one _ _ (of_kind _ _ _ _ c.if-family-eq1.true c.before.before.before.requires.1)
 
-is_two : (c : tie.Else1) → c.before.before.before.args.family ≡ 2
-is_two c = labelled_two _ c.before.before.before.requires.0 c.if1.false
+is_two : (c : tie.Else-family-eq1) → c.before.before.before.args.family ≡ 2
+is_two c = labelled_two _ c.before.before.before.requires.0 c.if-family-eq1.false
 
-mul-zero-bits-2 : tie.Need-overflow-mul-zero-bits-2
-mul-zero-bits-2 c = let z = in_one c in omega arith
+overflow_mul-payload : tie.Need-overflow_mul-payload
+overflow_mul-payload c = let z = in_one c in omega arith
 
-zero-bits-requires : tie.Need-zero-bits-requires
-zero-bits-requires c κs = let z = in_one c in omega arith
+zero_bits-requires : tie.Need-zero_bits-requires
+zero_bits-requires c κs = let z = in_one c in omega arith
 
-returns : tie.Need-returns
-returns c =
-    let a = c.before.before.before.before.args in let f = c.before.if1.true in
+returns-then-family-eq1 : tie.Need-returns-then-family-eq1
+returns-then-family-eq1 c =
+    let a = c.before.before.before.before.args in let f = c.before.if-family-eq1.true in
     record {
       clean = c.zero_bits.ensures ∙ clean_one a.inverse _ _ a.payload.now f;
       labels = λ e. labels_in_one _ _ _ _ f ∙ labels_own a.payload.now a.m a.inverse ∙ labels_of_kind a.payload.now a.m a.inverse _ _ f;
     }
 
-unpack-groups-requires : tie.Need-unpack-groups-requires
-unpack-groups-requires c κs = let p = c.before.before.before.before.requires in (of_kind _ _ _ _ (is_two c.before) p.1, p.2)
+unpack_groups-requires : tie.Need-unpack_groups-requires
+unpack_groups-requires c κs = let p = c.before.before.before.before.requires in (of_kind _ _ _ _ (is_two c.before) p.1, p.2)
 
-returns-2 : tie.Need-returns-2
-returns-2 c =
-    let a = c.before.before.before.before.before.before.before.args in let v = c.before.before.unpack-groups in
+returns : tie.Need-returns
+returns c =
+    let a = c.before.before.before.before.before.before.before.args in let v = c.before.before.unpack_groups in
     subst (λ (f : ℕ). Unpacks f a.m a.inverse a.payload.now v.result v.new.1.1.1.0) (sym (is_two c.before.before.before.before)) v.ensures
 
 pub unpack_spec : {M : Type 1} → statement M
@@ -42,9 +42,9 @@ unpack_spec =
     tie.close
     (tie.spec
     (λ c. search rules)
-    mul-zero-bits-2
-    zero-bits-requires
-    returns
-    unpack-groups-requires
+    overflow_mul-payload
+    zero_bits-requires
+    returns-then-family-eq1
+    unpack_groups-requires
     (λ c. search rules)
-    returns-2)
+    returns)

@@ -6,14 +6,14 @@ use borrow.Author.Rules.{rules}
 use Rattle.unpacker.proofs.unpack_groups.Statement.{statement}
 use Rattle.unpacker.proofs.unpack_groups.Tie as tie
 
-returns : tie.Need-returns
-returns c = record {
-  clean = c.before.before.before.before.before.before.groups-clean.ensures;
-  labels = λ e. labels_in_two _ _ _ _ (λ q. absurd (omega (arith, q))) ∙ c.before.before.spread-groups.ensures;
+returns-then-clean : tie.Need-returns-then-clean
+returns-then-clean c = record {
+  clean = c.before.before.before.before.before.before.groups_clean-clean.ensures;
+  labels = λ e. labels_in_two _ _ _ _ (λ q. absurd (omega (arith, q))) ∙ c.before.before.spread_groups.ensures;
 }
 
-returns-2 : tie.Need-returns-2
-returns-2 c = record { clean = c.before.groups-clean.ensures; labels = λ e. absurd (false≢true (sym c.if1.false ∙ e)) }
+returns-else-clean : tie.Need-returns-else-clean
+returns-else-clean c = record { clean = c.before.groups_clean-clean.ensures; labels = λ e. absurd (false≢true (sym c.if-clean.false ∙ e)) }
 
 pub unpack_groups_spec : {M : Type 1} → statement M
 unpack_groups_spec =
@@ -24,5 +24,5 @@ unpack_groups_spec =
     (λ c. search rules)
     (λ c κs. search rules)
     (λ c. search rules)
-    returns
-    returns-2)
+    returns-then-clean
+    returns-else-clean)

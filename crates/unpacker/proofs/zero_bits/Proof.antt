@@ -9,29 +9,29 @@ use borrow.Author.Rules.{rules}
 use Rattle.unpacker.proofs.zero_bits.Statement.{statement}
 use Rattle.unpacker.proofs.zero_bits.Tie as tie
 
-abbrev invariant_loop : tie.invariant-loop
+abbrev invariant_loop : tie.invariant-loop-k
 invariant_loop bytes from to k₀ k = all_below 1 (drop k (take to (bits bytes))) ≡ all_below 1 (drop from (take to (bits bytes)))
 
-abbrev decreases_loop : tie.decreases-loop
+abbrev decreases_loop : tie.decreases-loop-k
 decreases_loop bytes from to k₀ k = to - k
 
-loop-holds : tie.Need-loop-init invariant_loop decreases_loop
-loop-holds c = refl
+loop-k-init : tie.Need-loop-k-init invariant_loop decreases_loop
+loop-k-init c = refl
+
+returns-then-b-ne0 : tie.Need-returns-then-b-ne0 invariant_loop decreases_loop
+returns-then-b-ne0 c =
+    let at = c.before.before.before.loop-k in
+    let p = c.before.before.before.before.before.requires in
+    sym (bits_stop _ _ at.k p (omega arith) (λ z. c.if-b-ne0.true (c.before.bit_at-b.ensures ∙ z))) ∙ at.invariant
+
+loop-k-preserved : tie.Need-loop-k-preserved invariant_loop decreases_loop
+loop-k-preserved c =
+    let at = c.before.before.before.loop-k in
+    let p = c.before.before.before.before.before.requires in
+    sym (bits_next _ _ at.k p (omega arith) (sym c.before.bit_at-b.ensures ∙ c.if-b-ne0.false)) ∙ at.invariant
 
 returns : tie.Need-returns invariant_loop decreases_loop
-returns c =
-    let at = c.before.before.before.loop in
-    let p = c.before.before.before.before.before.requires in
-    sym (bits_stop _ _ at.k p (omega arith) (λ z. c.if1.true (c.before.bit_at.ensures ∙ z))) ∙ at.invariant
-
-loop-again : tie.Need-loop-preserved invariant_loop decreases_loop
-loop-again c =
-    let at = c.before.before.before.loop in
-    let p = c.before.before.before.before.before.requires in
-    sym (bits_next _ _ at.k p (omega arith) (sym c.before.bit_at.ensures ∙ c.if1.false)) ∙ at.invariant
-
-returns-2 : tie.Need-returns-2 invariant_loop decreases_loop
-returns-2 c = sym (bits_end _ _ c.before.loop.k c.before.before.before.requires (omega arith)) ∙ c.before.loop.invariant
+returns c = sym (bits_end _ _ c.before.loop-k.k c.before.before.before.requires (omega arith)) ∙ c.before.loop-k.invariant
 
 pub zero_bits_spec : {M : Type 1} → statement M
 zero_bits_spec =
@@ -39,10 +39,10 @@ zero_bits_spec =
     (tie.spec
     invariant_loop
     decreases_loop
-    loop-holds
+    loop-k-init
     (λ c κs. search rules)
-    returns
+    returns-then-b-ne0
     (λ c. search rules)
     (λ c. search rules)
-    loop-again
-    returns-2)
+    loop-k-preserved
+    returns)

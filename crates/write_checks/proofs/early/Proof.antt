@@ -3,7 +3,6 @@ use native.Mathlib.Omega.{arith}
 use mathlib.Core.Path.{◌≡◌, sym, ◌∙◌}
 use mathlib.Core.Bool.{true, false}
 use lib.ListN.{length}
-use borrow.Author.Tests.{not-true, not-false}
 use Rattle.model.specs.Numbers.{is_permutation}
 use Rattle.model.specs.Map.{edges, is_kind, dart_count_fits, outside_refused}
 use Rattle.model.proofs.Fitness.{count_parts}
@@ -15,10 +14,10 @@ use Rattle.write_checks.proofs.early.Tie as tie
 -- ---- what is known once 2, then 3, then 4 and 17, then 6 are passed
 
 kind : (c : tie.Else-not-is_kind) → is_kind c.before.before.before.args.kind ≡ true
-kind c = sym c.before.is_kind.ensures ∙ not-false _ c.if-not-is_kind.false
+kind c = sym c.before.is_kind.ensures ∙ c.if-not-is_kind.false
 
 count : (c : tie.Else-not-dart_count_fits) → dart_count_fits (length c.before.before.before.before.before.args.order.now) ≡ true
-count c = sym c.before.dart_count_fits.ensures ∙ not-false _ c.if-not-dart_count_fits.false
+count c = sym c.before.dart_count_fits.ensures ∙ c.if-not-dart_count_fits.false
 
 named : (c : tie.Else-outside_refused) → let a = c.before.before.before.before.before.before.before.before.args in
     (is_kind a.kind ≡ true) × (dart_count_fits (length a.order.now) ≡ true) × (a.root < length a.order.now)
@@ -35,15 +34,15 @@ good : (c : tie.Else-outside_refused) → let a = c.before.before.before.before.
 good c = c.before.before.before.before.before.before.before.before.requires (count_parts _ (named c).1).2
 
 entries : (c : tie.Else-not-good) → is_permutation c.before.before.before.before.before.before.before.before.before.args.order.now ≡ true
-entries c = sym (good c.before) ∙ not-false _ c.if-not-good.false
+entries c = sym (good c.before) ∙ c.if-not-good.false
 
 -- ---- the refusals
 
 returns-then-not-is_kind : tie.Need-returns-then-not-is_kind
-returns-then-not-is_kind c = two _ _ _ _ (sym c.before.is_kind.ensures ∙ not-true _ c.if-not-is_kind.true)
+returns-then-not-is_kind c = two _ _ _ _ (sym c.before.is_kind.ensures ∙ c.if-not-is_kind.true)
 
 returns-then-not-dart_count_fits : tie.Need-returns-then-not-dart_count_fits
-returns-then-not-dart_count_fits c = three _ _ _ _ (kind c.before.before) (sym c.before.dart_count_fits.ensures ∙ not-true _ c.if-not-dart_count_fits.true)
+returns-then-not-dart_count_fits c = three _ _ _ _ (kind c.before.before) (sym c.before.dart_count_fits.ensures ∙ c.if-not-dart_count_fits.true)
 
 returns-then-root-n : tie.Need-returns-then-root-n
 returns-then-root-n c = four _ _ _ _ (kind c.before.before.before) (count c.before) c.if-root-n.true
@@ -57,7 +56,7 @@ returns-then-outside_refused c =
 returns-then-not-good : tie.Need-returns-then-not-good
 returns-then-not-good c =
     let q = named c.before in
-    six _ _ _ _ q.0 q.1 q.2 q.3 (sym (good c.before) ∙ not-true _ c.if-not-good.true)
+    six _ _ _ _ q.0 q.1 q.2 q.3 (sym (good c.before) ∙ c.if-not-good.true)
 
 overflow_mul-m : tie.Need-overflow_mul-m
 overflow_mul-m c = let n = count_parts _ (named c.before).1 in search rules

@@ -15,7 +15,7 @@ use Rattle.writing.proofs.made.Tie as tie
 
 -- a table of which this is said
 stands : (c : tie.Else-not-loaded) (t : Table) → c.before.before.before.before.before.args.loaded ≡ not (table_refused t) → table_refused t ≡ false
-stands c t told = not-true _ (sym told ∙ not-false _ c.if-not-loaded.false)
+stands c t told = not-true _ (sym told ∙ c.if-not-loaded.false)
 
 -- the early refusals are passed
 abbrev start : tie.Else-r-ne0 → tie.Start
@@ -41,7 +41,7 @@ stood : (c : tie.After-walked) (t : Table) → (start c.before.before).args.load
 stood c = stands c.before.before.before.before.before.before.before.before
 
 returns-then-not-loaded : tie.Need-returns-then-not-loaded
-returns-then-not-loaded c = λ t told same. no_table (not-false _ (sym told ∙ not-true _ c.if-not-loaded.true))
+returns-then-not-loaded c = λ t told same. no_table (not-false _ (sym told ∙ c.if-not-loaded.true))
 
 entries_good-good-requires : tie.Need-entries_good-good-requires
 entries_good-good-requires c κs = search rules
@@ -68,7 +68,7 @@ walked-requires c κs =
 refused-requires : tie.Need-refused-requires
 refused-requires c κs =
     let a = c.before.before.before.before in
-    walk_unfit (begun a) (not-true _ c.before.if-not-walked.true)
+    walk_unfit (begun a) c.before.if-not-walked.true
 
 shape_of-w-then-not-walked : tie.Need-shape_of-w-then-not-walked
 shape_of-w-then-not-walked c = search rules
@@ -76,12 +76,12 @@ shape_of-w-then-not-walked c = search rules
 returns-then-not-walked : tie.Need-returns-then-not-walked
 returns-then-not-walked c =
     let a = c.before.before.before.before.before.before.before in
-    λ t told same. made_refused (begun a) (not-true _ c.before.before.before.before.if-not-walked.true) t (stood a t told) _ _ c.before.before.refused.ensures
+    λ t told same. made_refused (begun a) c.before.before.before.before.if-not-walked.true t (stood a t told) _ _ c.before.before.refused.ensures
 
 laid-requires : tie.Need-laid-requires
 laid-requires c κs =
     let a = c.before.before.before.before.before in
-    ((start a.before.before).requires, walk_fits (begun a) (not-false _ c.before.before.if-not-walked.false))
+    ((start a.before.before).requires, walk_fits (begun a) c.before.before.if-not-walked.false)
 
 shape_of-w : tie.Need-shape_of-w
 shape_of-w c = search rules
@@ -93,7 +93,7 @@ returns : tie.Need-returns
 returns c =
     let a = c.before.before.before.before.before.before.before.before.before.before in
     λ t told same.
-    made_laid (begun a) (not-false _ c.before.before.before.before.before.before.before.if-not-walked.false) t (stood a t told) _ _ _
+    made_laid (begun a) c.before.before.before.before.before.before.before.if-not-walked.false t (stood a t told) _ _ _
     (c.before.before.before.before.laid.ensures t same)
 
 pub made_spec : {M : Type 1} → statement M
