@@ -1,5 +1,4 @@
 use mathlib.Core.Path.{◌≡◌, ap, ◌∙◌}
-use mathlib.Core.Logic.{⊎_elim}
 use Prim.Native.Nat.{◌-◌, ◌≤◌}
 use native.Mathlib.Omega.{arith}
 use lib.ListN.{length}
@@ -7,6 +6,7 @@ use Rattle.dart_steps.specs.Steps.{step_of}
 use Rattle.cycles.proofs.Turns.{Half, half_start, half_end, Turn, turn_count, turn_room, turn_ready, turn_size, turn_length, turn_new, turn_old}
 use borrow.Author.Rules.{rules}
 use Rattle.cycles.proofs.name.Statement.{statement}
+use Rattle.cycles.proofs.name.Lts.{then-w-a, else-w-a}
 use Rattle.cycles.proofs.name.Tie as tie
 
 abbrev invariant_loop : tie.invariant-loop-d
@@ -61,10 +61,10 @@ overflow_add-count c = let k = turn_count (turn c.before.before.before.before.be
 loop-d-preserved : tie.Need-loop-d-preserved invariant_loop decreases_loop
 loop-d-preserved c =
     let t = turn c.before in
-    ⊎_elim
-    (λ u. (omega arith, turn_length t u.2.ensures u.5, turn_new t u.2.ensures u.0.taken u.6 u.5))
-    (λ v. (omega arith, ap length v.1 ∙ t.as_long, turn_old t v.0.left v.2 v.1))
-    c.if-w-a.branch
+    elim c.if-w-a.branch [
+      then-w-a u ↦ (omega arith, turn_length t u.follow-size.ensures u.w-is, turn_new t u.follow-size.ensures u.if-w-a.true u.count-is u.w-is)
+    | else-w-a v ↦ (omega arith, ap length v.w-is ∙ t.as_long, turn_old t v.if-w-a.false v.count-is v.w-is)
+    ]
 
 returns : tie.Need-returns invariant_loop decreases_loop
 returns c =
