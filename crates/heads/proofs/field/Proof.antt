@@ -12,7 +12,8 @@ overflow_cast-high : tie.Need-overflow_cast-high
 overflow_cast-high c = omega (arith, c.shared_slice_known-2-1.given (c.before.before.args.i + 1))
 
 overflow_mul-result : tie.Need-overflow_mul-result
-overflow_mul-result c = omega (arith, c.shared_slice_known-2-1.given (c.before.before.args.i + 1))
+overflow_mul-result c = let i = c.before.before.args.i in
+    omega (arith, c.shared_slice_known-2-1.given (i + 1), c.before.shared_slice_known-1.given i)
 
 overflow_add-result : tie.Need-overflow_add-result
 overflow_add-result c = let i = c.before.before.args.i in
