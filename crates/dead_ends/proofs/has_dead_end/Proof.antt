@@ -1,14 +1,15 @@
 use Prim.Native.Nat.{◌-◌, ◌≤◌}
 use native.Mathlib.Omega.{arith}
-use mathlib.Core.Path.{◌≡◌, refl}
-use mathlib.Core.Logic.{⊎_elim}
-use mathlib.Core.Bool.{false}
+use mathlib.Core.Path.{◌≡◌, refl, ap}
+use mathlib.Core.Bool.{false, not}
 use lib.ListN.{length}
 use Rattle.model.specs.Numbers.{some}
 use Rattle.model.specs.Map.{Plan}
 use Rattle.dead_ends.proofs.Search.{dead_end_at, dead_end_here, root_alone, not_alone, none_here, dead_end_none}
 use borrow.Author.Rules.{rules}
+use borrow.Author.Tests.{eq-eqb, ne_eqb}
 use Rattle.dead_ends.proofs.has_dead_end.Statement.{statement}
+use Rattle.dead_ends.proofs.has_dead_end.Lts.{else-order-d-via-then-order-d+else-d-root, else-order-d-via-else-order-d}
 use Rattle.dead_ends.proofs.has_dead_end.Tie as tie
 
 abbrev invariant_loop : tie.invariant-loop-d
@@ -28,7 +29,7 @@ returns-then-d-root : tie.Need-returns-then-d-root invariant_loop decreases_loop
 returns-then-d-root c =
     let st = c.before.before.before.before.before in
     dead_end_here _ c.before.before.before.before.loop-d.d st.requires.0 st.requires.1 c.before.before.before.loop-d-test.true
-    c.before.if-order-d.true c.if-d-root.true
+    c.before.if-order-d.true (ap not (ne_eqb _ _ c.if-d-root.true))
 
 loop-d-preserved : tie.Need-loop-d-preserved invariant_loop decreases_loop
 loop-d-preserved c =
@@ -37,7 +38,11 @@ loop-d-preserved c =
     let p : Plan = record { rotation = st.args.order.now; root = st.args.root; outside = 0 } in (
       omega arith,
       none_here p at.d
-          (⊎_elim (λ u. root_alone p at.d u.0.taken u.1.left) (λ u. not_alone p at.d u.left) c.else-order-d.branch) at.invariant.1,
+          (elim c.else-order-d.branch [
+            else-order-d-via-then-order-d+else-d-root u ↦ root_alone p at.d u.if-order-d.true (ap not (eq-eqb _ _ u.if-d-root.false))
+          | else-order-d-via-else-order-d u ↦ not_alone p at.d u.if-order-d.false
+          ])
+          at.invariant.1,
     )
 
 returns : tie.Need-returns invariant_loop decreases_loop

@@ -21,13 +21,13 @@ looked c =
 -- every dart is met, and the faces are counted
 counted : (c : tie.After-name-faces) → let a = c.before.before.before.before.before.before.before.before.before.args in
     let s = c.before.before.before.before.before.surveyed-s in
-    Counted a.family (record { rotation = a.order.now; root = a.root; outside = 0 }) a.w.now s.result s.new.1.1.1.0 c.name-faces.result
+    Counted a.family (record { rotation = a.order.now; root = a.root; outside = 0 }) a.w.now s.result s.new.w c.name-faces.result
     c.name-faces.new.w
 counted c = record { looked = looked c.before.before.before.before.before; all = c.before.before.if-met-n.false; named = c.name-faces.ensures }
 
 -- the characteristic is a small number
 small : (c : tie.After-euler-x) → SFits w32 c.euler-x.result
-small c = record { sfits = c.euler-x.type-inv }
+small c = record { sfits = c.euler-x.type_inv }
 
 returns-then-met-n : tie.Need-returns-then-met-n
 returns-then-met-n c = parted (looked c.before.before.before) c.if-met-n.true

@@ -23,20 +23,18 @@ judge-v-requires c κs =
     (q.count, q.entries, (count_parts _ q.count).0, q.room)
 
 copied-requires : tie.Need-copied-requires
-copied-requires c κs = to_copy (told c.before.before.before.before.before.before) c.before.before.v-in-Fits-1.given.1
+copied-requires c κs = to_copy (told c.before.before.before.before) c.in-Fits.is
 
 returns-in-Refused : tie.Need-returns-in-Refused
-returns-in-Refused c = judged_refused (told c.before.before.before.before.before) c.before.v-1.given.1
+returns-in-Refused c = judged_refused (told c.before.before.before) c.in-Refused.is
 
 returns-in-NotPlanar : tie.Need-returns-in-NotPlanar
 returns-in-NotPlanar c =
-    let fits : SFits w32 c.before.v-in-NotPlanar-1.given.0.0 = record { sfits = c.known_told-in-NotPlanar-1.given.0.1 } in
-    rw (to_z-of_z fits) (judged_curved (told c.before.before.before.before.before) c.before.v-in-NotPlanar-1.given.1)
+    let fits : SFits w32 c.in-NotPlanar.x = record { sfits = c.in-NotPlanar.known_told-in-NotPlanar-1-own.given.0.1 } in
+    rw (to_z-of_z fits) (judged_curved (told c.before.before.before) c.in-NotPlanar.is)
 
 returns-in-Fits : tie.Need-returns-in-Fits
-returns-in-Fits c =
-    let v = c.before.before.before.before.before.before in
-    made (told v.before.before.before) v.v3.given.1 _ c.before.before.copied.ensures
+returns-in-Fits c = made (told c.before.before.before.before.before.before.before) c.in-Fits.is _ c.copied.ensures
 
 pub made_spec : {M : Type 1} → statement M
 made_spec =

@@ -1,13 +1,13 @@
 use Prim.Native.Nat.{◌-◌, ◌<◌}
 use native.Mathlib.Omega.{arith}
 use mathlib.Core.Path.{sym, ◌∙◌}
-use mathlib.Core.Logic.{⊎_elim}
 use lib.ListN.{length}
 use Rattle.model.specs.Map.{face_next}
 use Rattle.outer_face.specs.Marks.{number_by}
 use Rattle.outer_face.proofs.Along.{Along, along_start, along_low, along_keep, along_few, along_end}
 use Rattle.outer_face.proofs.Outer.{count_fits, few, inside, along_faces, marks_there, found}
 use Rattle.outer_face.proofs.lowest.Statement.{statement}
+use Rattle.outer_face.proofs.lowest.Lts.{then-e-least, else-e-least}
 use Rattle.outer_face.proofs.lowest.Tie as tie
 
 abbrev invariant_loop : tie.invariant-loop-x
@@ -69,10 +69,10 @@ loop-x-preserved c =
     let e = c.before.before.standard-e.ensures in
     rw c.step-x-in-loop-x.ensures (
       (along_faces m).bound at.x at.invariant.0,
-      ⊎_elim
-          (λ u. rw (u.1, e) (along_low _ _ _ at.invariant.1 away (omega (arith, e, u.0.taken))))
-          (λ u. rw u.1 (along_keep _ _ _ at.invariant.1 away (omega (arith, e, u.0.left))))
-          c.before.if-e-least.branch,
+      elim c.before.if-e-least.branch [
+        then-e-least u ↦ rw (u.least-is, e) (along_low _ _ _ at.invariant.1 away (omega (arith, e, u.if-e-least.true)))
+      | else-e-least u ↦ rw u.least-is (along_keep _ _ _ at.invariant.1 away (omega (arith, e, u.if-e-least.false)))
+      ],
     )
 
 returns : tie.Need-returns invariant_loop decreases_loop

@@ -1,4 +1,5 @@
-use mathlib.Core.Path.{◌≡◌, refl}
+use mathlib.Core.Path.{◌≡◌, refl, ap}
+use mathlib.Core.Bool.{not}
 use Rattle.model.specs.declared.Table.{Table}
 use Rattle.model.specs.Groups.{loaded}
 use Rattle.tables.proofs.Loading.{made_loaded, load_short, load_equal, load_good}
@@ -17,10 +18,10 @@ returns-then-bytes-ne243 c = load_short _ _ _ c.before.before.if-bytes-ne243.tru
 returns-then-not-leads_all_back : tie.Need-returns-then-not-leads_all_back
 returns-then-not-leads_all_back c =
     let l = c.before.before.before in
-    load_equal _ _ _ _ (made l) _ l.leads_all_back.ensures c.before.before.if-not-leads_all_back.true c.no_table-then-not-leads_all_back.ensures.0 c.no_table-then-not-leads_all_back.ensures.1
+    load_equal _ _ _ _ (made l) _ l.leads_all_back.ensures (ap not c.before.before.if-not-leads_all_back.true) c.no_table-then-not-leads_all_back.ensures.0 c.no_table-then-not-leads_all_back.ensures.1
 
 returns : tie.Need-returns
-returns c = load_good _ _ _ _ (made c.before) _ c.before.leads_all_back.ensures c.if-not-leads_all_back.false refl refl
+returns c = load_good _ _ _ _ (made c.before) _ c.before.leads_all_back.ensures (ap not c.if-not-leads_all_back.false) refl refl
 
 pub load_spec : {M : Type 1} → statement M
 load_spec =

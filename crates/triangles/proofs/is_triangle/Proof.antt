@@ -1,6 +1,5 @@
 use Prim.Native.Nat.{◌/◌}
 use mathlib.Core.Path.{◌≡◌, refl, ◌∙◌}
-use mathlib.Core.Logic.{⊎_elim}
 use mathlib.Core.Bool.{not, ◌&&◌}
 use lib.Dec.{eqb}
 use borrow.Author.Tests.{eq-eqb, ne_eqb}
@@ -8,6 +7,7 @@ use Rattle.model.specs.Map.{is_triangle}
 use Rattle.triangles.proofs.Search.{step_bound, and_goes_on, and_stops, triangle}
 use borrow.Author.Rules.{rules}
 use Rattle.triangles.proofs.is_triangle.Statement.{statement}
+use Rattle.triangles.proofs.is_triangle.Lts.{then-g-d, else-g-d, then-d-e, else-d-e}
 use Rattle.triangles.proofs.is_triangle.Tie as tie
 
 step-f-requires : tie.Need-step-f-requires
@@ -23,17 +23,25 @@ step-g-requires c κs =
 
 -- the first two tests
 two : (c : tie.Joined-g-d) → let d = c.before.before.before.before.before.args.d in
-    c.if-g-d.if2 ≡ (eqb c.before.step-g.result d && not (eqb (d / 2) (c.before.before.before.step-e.result / 2)))
-two c = ⊎_elim (λ u. and_goes_on _ _ (eq-eqb _ _ u.0.taken) u.1) (λ u. and_stops _ _ (ne_eqb _ _ u.0.left) u.1) c.if-g-d.branch
+    c.if-g-d.value ≡ (eqb c.before.step-g.result d && not (eqb (d / 2) (c.before.before.before.step-e.result / 2)))
+two c =
+    elim c.if-g-d.branch [
+      then-g-d u ↦ and_goes_on _ _ (eq-eqb _ _ u.if-g-d.true) u.value-is
+    | else-g-d u ↦ and_stops _ _ (ne_eqb _ _ u.if-g-d.false) u.value-is
+    ]
 
 -- the first three
 three : (c : tie.Joined-d-e) → let st = c.before.before.before in
-    c.if-d-e.if3 ≡ (c.before.if-g-d.if2 && not (eqb (st.before.step-e.result / 2) (st.step-f.result / 2)))
-three c = ⊎_elim (λ u. and_goes_on _ _ u.0.taken u.1) (λ u. and_stops _ _ u.0.left u.1) c.if-d-e.branch
+    c.if-d-e.value ≡ (c.before.if-g-d.value && not (eqb (st.before.step-e.result / 2) (st.step-f.result / 2)))
+three c =
+    elim c.if-d-e.branch [
+      then-d-e u ↦ and_goes_on _ _ u.if-d-e.true u.value-is
+    | else-d-e u ↦ and_stops _ _ u.if-d-e.false u.value-is
+    ]
 
 -- all four
 four : (c : tie.Joined-d-e) → let st = c.before.before.before in let a = st.before.before.before.args in
-    (c.if-d-e.if3 && not (eqb (st.step-f.result / 2) (a.d / 2))) ≡ is_triangle a.order.now a.d
+    (c.if-d-e.value && not (eqb (st.step-f.result / 2) (a.d / 2))) ≡ is_triangle a.order.now a.d
 four c =
     let st = c.before.before in
     triangle _ _ _ _ _ _ _ st.before.before.step-e.ensures st.before.step-f.ensures st.step-g.ensures (two c.before) (three c)
