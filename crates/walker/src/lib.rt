@@ -27,7 +27,7 @@ pub fn onward<'a>(w: Walker<'a>) -> Walker<'a>
 
 // A walk from record n on. Refused as fetching is, the walker stands where no record is left.
 pub fn begin<'a>(bytes: &'a [u8], used: usize, n: usize, refusal: &mut u16) -> Walker<'a>
-    ensures { (result.src.now ≡ take used bytes.now) × (result.src.ptr ≡ bytes.entry.ref_ptr) × Begun bytes.now used n result.at refusal.new }
+    ensures { (result.src.now ≡ take used bytes.now) × (result.src.ref_ptr ≡ bytes.entry.ref_ptr) × Begun bytes.now used n result.at refusal.new }
 {
     let at = shelf::walk_begin(bytes, used, n, refusal);
     let src = shelf::used_part(bytes, used);
