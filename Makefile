@@ -1,7 +1,7 @@
 # `make` proves and builds the library and the tool, and shelves the sample plans; `make help` lists the targets. The library
 # needs `rt` of the Rattle kit on the PATH, the tool cargo, the tests cc and python3 too. With JURNADEL_LIB_DIR a folder that has
 # libjurnadel.a, that library is taken in place of crates/jurnadel/out, and `rt` is not needed but for `make test`.
-VERSION := 0.9.3
+VERSION := 0.9.2
 
 # Where things are installed: full paths, behind DESTDIR.
 PREFIX ?= /usr/local

@@ -1,3 +1,5 @@
+#![tactic(auto)]
+
 // A walker over a shelf: it holds the used bytes and the place that it has come to. Each function over it is thin and
 // leaves the work to a function of `shelf` or `records` with plain parameters.
 ghost use Rattle.std.specs.Prelude.{◌≡◌, take};

@@ -7,7 +7,10 @@ use mathlib.Core.Logic.{inl, inr}
 use Prim.Native.Nat.{ℕ, ◌<◌}
 use Rattle.mesh_first_places.proofs.mark_face.Statement.{statement}
 use Rattle.mesh_first_places.proofs.mark_face.Lts.{
-  then-z-o-via-then-z-o, then-z-o-via-else-z-o+then-o-x, then-z-o-via-else-z-o+else-o-x+then-x-y, then-z-o-via-else-z-o+else-o-x+else-x-y+then-y-o,
+  then-z-o-via-then-z-o,
+  then-z-o-via-else-z-o+then-o-x,
+  then-z-o-via-else-z-o+else-o-x+then-x-y,
+  then-z-o-via-else-z-o+else-o-x+else-x-y+then-y-o,
 }
 use Rattle.mesh_first_places.proofs.mark_face.Tie as tie
 
@@ -24,10 +27,10 @@ returns-then-z-o : tie.Need-returns-then-z-o
 returns-then-z-o c =
     unfaced _ _ _ _ _ c.requires.2 c.requires.3 c.step-z.ensures
     (elim c.then-z-o.branch [
-      then-z-o-via-then-z-o u ↦ inl u.if-z-o.true
-    | then-z-o-via-else-z-o+then-o-x u ↦ inr (inl u.if-o-x.true)
-    | then-z-o-via-else-z-o+else-o-x+then-x-y u ↦ inr (inr (inl u.if-x-y.true))
-    | then-z-o-via-else-z-o+else-o-x+else-x-y+then-y-o u ↦ inr (inr (inr u.if-y-o.true))
+      | then-z-o-via-then-z-o u ↦ inl u.if-z-o.true
+      | then-z-o-via-else-z-o+then-o-x u ↦ inr (inl u.if-o-x.true)
+      | then-z-o-via-else-z-o+else-o-x+then-x-y u ↦ inr (inr (inl u.if-x-y.true))
+      | then-z-o-via-else-z-o+else-o-x+else-x-y+then-y-o u ↦ inr (inr (inr u.if-y-o.true))
     ])
     _
 

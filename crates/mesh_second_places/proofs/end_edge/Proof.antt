@@ -53,8 +53,8 @@ returns-then-mark-last : tie.Need-returns-then-mark-last
 returns-then-mark-last c =
     last_unfit _ _ _ _ _ c.requires.0 c.requires.1 _ c.other.ensures
     (elim c.then-mark-last.branch [
-      then-mark-last-via-then-mark-last u ↦ inl u.if-mark-last.true
-    | then-mark-last-via-else-mark-last+then-before-e u ↦ inr u.if-before-e.true
+      | then-mark-last-via-then-mark-last u ↦ inl u.if-mark-last.true
+      | then-mark-last-via-else-mark-last+then-before-e u ↦ inr u.if-before-e.true
     ])
 
 overflow_mul-w : tie.Need-overflow_mul-w

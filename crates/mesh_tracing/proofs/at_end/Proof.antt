@@ -22,8 +22,8 @@ returns-then-s-ne2 : tie.Need-returns-then-s-ne2
 returns-then-s-ne2 c =
     home_unfit _ _ _ c.requires
     (elim c.then-s-ne2.branch [
-      then-s-ne2-via-then-s-ne2 u ↦ inl u.if-s-ne2.true
-    | then-s-ne2-via-else-s-ne2+then-s-n u ↦ inr u.if-s-n.true
+      | then-s-ne2-via-then-s-ne2 u ↦ inl u.if-s-ne2.true
+      | then-s-ne2-via-else-s-ne2+then-s-n u ↦ inr u.if-s-n.true
     ])
 
 other-requires : tie.Need-other-requires

@@ -66,8 +66,8 @@ second_place-requires : tie.Need-second_place-requires
 second_place-requires c κs =
     half_tells _ _ _ _ _ (back_at _ _ _ c.requires.0 c.requires.1) _ c.other.ensures
     (elim c.then-mark-eq0.branch [
-      then-mark-eq0-via-then-mark-eq0 u ↦ inl u.if-mark-eq0.true
-    | then-mark-eq0-via-else-mark-eq0+then-mark-ge-SEEN u ↦ inr u.if-mark-ge-SEEN.true
+      | then-mark-eq0-via-then-mark-eq0 u ↦ inl u.if-mark-eq0.true
+      | then-mark-eq0-via-else-mark-eq0+then-mark-ge-SEEN u ↦ inr u.if-mark-ge-SEEN.true
     ])
 
 shape_of-w-then-mark-eq0 : tie.Need-shape_of-w-then-mark-eq0

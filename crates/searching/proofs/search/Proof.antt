@@ -78,13 +78,13 @@ loop-at-preserved c = let k = c.before.before in
     let l = k.before.before.loop-at in
     let f = fits c.before in
     elim c.if-size-length.branch [
-      then-size-length+else-equal u ↦
-        let t = search_goes_on _ _ l.at l.n l.compared _ k.length_at-size.ensures c.before.if-size-eq0.false u.if-size-length.true (sym u.equal.ensures ∙ u.if-equal.false)
-        _ u.compared-is in
-        (omega arith, omega arith, omega (arith, u.compared-is), sym t ∙ l.invariant.3)
-    | else-size-length v ↦
-        let t = search_passes _ _ l.at l.n l.compared _ k.length_at-size.ensures c.before.if-size-eq0.false v.if-size-length.false _ v.compared-is in
-        (omega arith, omega arith, omega (arith, v.compared-is), sym t ∙ l.invariant.3)
+      | then-size-length+else-equal u ↦
+          let t = search_goes_on _ _ l.at l.n l.compared _ k.length_at-size.ensures c.before.if-size-eq0.false u.if-size-length.true (sym u.equal.ensures ∙ u.if-equal.false)
+          _ u.compared-is in
+          (omega arith, omega arith, omega (arith, u.compared-is), sym t ∙ l.invariant.3)
+      | else-size-length v ↦
+          let t = search_passes _ _ l.at l.n l.compared _ k.length_at-size.ensures c.before.if-size-eq0.false v.if-size-length.false _ v.compared-is in
+          (omega arith, omega arith, omega (arith, v.compared-is), sym t ∙ l.invariant.3)
     ]
 
 returns : tie.Need-returns invariant_loop decreases_loop
