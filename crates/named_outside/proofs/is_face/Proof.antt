@@ -9,24 +9,21 @@ use Rattle.named_outside.proofs.is_face.Statement.{statement}
 use Rattle.named_outside.proofs.is_face.Tie as tie
 
 returns-then-x-eq0 : tie.Need-returns-then-x-eq0
-returns-then-x-eq0 c = face_zero_is _ _ _ c.before.before.requires.0 c.if-x-eq0.true
+returns-then-x-eq0 c = face_zero_is _ _ _ c.requires.0 c.if-x-eq0.true
 
 returns-then-x-n : tie.Need-returns-then-x-n
 returns-then-x-n c = face_past _ _ _ c.if-x-n.true
 
 slice_bounds-is_lowest-end : tie.Need-slice_bounds-is_lowest-end
-slice_bounds-is_lowest-end c = let st = c.before.before.before.before in sym (length-take-le _ _ st.requires.1)
+slice_bounds-is_lowest-end c = sym (length-take-le _ _ c.requires.1)
 
 is_lowest-requires : tie.Need-is_lowest-requires
-is_lowest-requires c κs =
-    let st = c.before.before.before.before in
-    lowest_asked _ _ _ st.requires.0 st.requires.1 st.requires.2 c.if-x-n.false
+is_lowest-requires c κs = lowest_asked _ _ _ c.requires.0 c.requires.1 c.requires.2 c.if-x-n.false
 
 returns : tie.Need-returns
 returns c =
-    let a = c.before.before.before.before.args in
-    face_told _ _ _ c.before.if-x-n.false _
-    (c.is_lowest.ensures ∙ ap (λ (rot : List ℕ). eqb (face_of rot a.x) a.x) (taken a.n a.w.now))
+    face_told _ _ _ c.if-x-n.false _
+    (c.is_lowest.ensures ∙ ap (λ (rot : List ℕ). eqb (face_of rot c.args.x) c.args.x) (taken c.args.n c.args.w.now))
 
 pub is_face_spec : {M : Type 1} → statement M
 is_face_spec = tie.close (tie.spec returns-then-x-eq0 returns-then-x-n slice_bounds-is_lowest-end is_lowest-requires returns)
