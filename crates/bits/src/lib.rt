@@ -2,8 +2,6 @@
 
 // Bits and labels of byte slices: a bit or a label read at its place, a bit put where 0 stands. Labels stand in groups, under a table's inverse.
 // It knows bytes and digits, no heads of records and no plans.
-#![tactic(auto)]
-
 ghost use Rattle.std.specs.Prelude.{◌≡◌, ◌-◌, ◌*◌, ◌/◌, ◌%◌, ◌^◌, ◌<◌, ◌≤◌, length, get_or, set, drop};
 ghost use Rattle.packing.specs.Unpack.{bits, groups};
 ghost use Rattle.packing.specs.Groups.{values_of};
