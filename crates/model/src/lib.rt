@@ -2,6 +2,7 @@
 
 // The definitions of document 01, in specs/, and the answers of the calls and the group table, which those definitions speak of. No code stands here:
 // what the calls do is in the crates above, and their contracts cite these definitions.
+
 // The answer of writing: the record's length; a refusal other than 10; refusal 10 with the characteristic.
 #[derive(Drop)]
 pub enum Written {
