@@ -1,10 +1,7 @@
 # `make` proves and builds the library and the tool, and shelves the sample plans; `make help` lists the targets. The library
 # needs `rt` of the Rattle kit on the PATH, the tool cargo, the tests cc and python3 too. With JURNADEL_LIB_DIR a folder that has
-# libjurnadel.a, that library is taken in place of target/staticlib, and `rt` is not needed but for `make test`.
-VERSION := 0.9.3
-
-# Crates are proved, and edits tried, in batches of so many: a batch waits for its longest, so two for each processor leave none idle.
-export RT_JOBS ?= $(shell echo $$((2 * $$(nproc 2> /dev/null || echo 1))))
+# libjurnadel.a, that library is taken in place of crates/jurnadel/out, and `rt` is not needed but for `make test`.
+VERSION := 0.9.2
 
 # Where things are installed: full paths, behind DESTDIR.
 PREFIX ?= /usr/local
@@ -16,7 +13,7 @@ DOCDIR ?= $(PREFIX)/share/doc/jurnadel
 DESTDIR ?=
 FOLDERS := BINDIR LIBDIR INCLUDEDIR MANDIR DOCDIR
 
-PROVED := $(CURDIR)/target/staticlib
+PROVED := $(CURDIR)/crates/jurnadel/out
 export JURNADEL_LIB_DIR ?= $(PROVED)
 override JURNADEL_LIB_DIR := $(abspath $(JURNADEL_LIB_DIR))
 LIBRARY := $(JURNADEL_LIB_DIR)/libjurnadel.a
@@ -39,10 +36,9 @@ all: tool ## proves and builds library and tool, and shelves the sample plans (t
 	$(TOOL) shelve $(SHELF) examples/*.plan
 	$(TOOL) verify $(SHELF)
 
-# `rt check` proves crates that do not need each other side by side, `rt staticlib` one after the other.
-$(PROVED)/libjurnadel.a: crates.txt $(shell find crates -type f)
-	rt check jurnadel
-	rt staticlib jurnadel
+# For any x86-64 processor: Rattle's default has some instructions more.
+$(PROVED)/libjurnadel.a: crates.txt $(shell find crates -name out -prune -o -type f -print)
+	cd crates/jurnadel && rt lib --cpu x86-64
 	@touch $@
 
 library: $(LIBRARY) ## proves and builds the library
@@ -74,7 +70,7 @@ test: vectors rust-tests ## the gate: all tests, then every proof from nothing
 	tests/compare
 	tests/tool/run
 	tests/scale
-	rt ci
+	tests/proofs
 
 install: tool man install-lib ## installs the tool, its man page and all of install-lib
 	install -d "$(DESTDIR)$(BINDIR)" "$(DESTDIR)$(MANDIR)/man1"
@@ -101,8 +97,8 @@ uninstall: ## removes what install put there; takes the same folders
 	rm -f $(patsubst %,"$(DESTDIR)$(DOCDIR)/%",$(DOCUMENTS) $(patsubst $(SPECS)/%,definitions/%,$(wildcard $(SPECS)/*.antt)))
 	rmdir "$(DESTDIR)$(DOCDIR)/definitions" "$(DESTDIR)$(DOCDIR)" 2> /dev/null || true
 
-clean: ## removes all that is built, the proved library too: build/, target/, tests/second_coder/target/
-	rm -rf build target tests/second_coder/target
+clean: ## removes all that is built, the proved library too: build/, crates/*/out/, tests/second_coder/target/
+	rm -rf build crates/*/out tests/second_coder/target
 
 help: ## lists the targets and the folders
 	@echo 'make [TARGET] [FOLDER=PATH ..]'

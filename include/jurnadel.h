@@ -58,8 +58,8 @@ extern "C" {
 
 #define JURNADEL_VERSION_MAJOR 0
 #define JURNADEL_VERSION_MINOR 9
-#define JURNADEL_VERSION_PATCH 3
-#define JURNADEL_VERSION "0.9.3"
+#define JURNADEL_VERSION_PATCH 2
+#define JURNADEL_VERSION "0.9.2"
 
 /* ---- Sizes ------------------------------------------------------------------------ */
 

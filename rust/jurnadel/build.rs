@@ -1,4 +1,4 @@
-//! Links `libjurnadel.a` from the folder `JURNADEL_LIB_DIR`, or from target/staticlib at the top of the tree.
+//! Links `libjurnadel.a` from the folder `JURNADEL_LIB_DIR`, or from crates/jurnadel/out at the top of the tree.
 
 use std::env;
 use std::path::PathBuf;
@@ -7,7 +7,7 @@ fn main() {
     println!("cargo:rerun-if-env-changed=JURNADEL_LIB_DIR");
     let folder = match env::var_os("JURNADEL_LIB_DIR") {
         Some(folder) => PathBuf::from(folder),
-        None => PathBuf::from(env::var_os("CARGO_MANIFEST_DIR").unwrap_or_default()).join("../../target/staticlib"),
+        None => PathBuf::from(env::var_os("CARGO_MANIFEST_DIR").unwrap_or_default()).join("../../crates/jurnadel/out"),
     };
     if folder.is_relative() {
         println!(
@@ -19,7 +19,7 @@ fn main() {
     println!("cargo:rerun-if-changed={}", archive.display());
     if !archive.exists() {
         println!(
-            "cargo:warning=no {}: make it by `rt staticlib jurnadel`, or set JURNADEL_LIB_DIR to the folder that has it",
+            "cargo:warning=no {}: make it by `make library`, or set JURNADEL_LIB_DIR to the folder that has it",
             archive.display()
         );
     }

@@ -1,3 +1,5 @@
+#![tactic(auto)]
+
 // A window of 64 bits on the bits of a byte slice: its highest bit is the next one. It knows bytes, no records and no plans.
 ghost use Rattle.std.specs.Prelude.{◌≡◌, ◌+◌, ◌-◌, ◌*◌, ◌/◌, ◌%◌, ◌^◌, ◌≤◌, ◌<◌, length, get_or, drop};
 ghost use Rattle.model.specs.Record.{digits};

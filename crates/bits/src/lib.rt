@@ -1,3 +1,5 @@
+#![tactic(auto)]
+
 // Bits and labels of byte slices: a bit or a label read at its place, a bit put where 0 stands. Labels stand in groups, under a table's inverse.
 // It knows bytes and digits, no heads of records and no plans.
 ghost use Rattle.std.specs.Prelude.{◌≡◌, ◌-◌, ◌*◌, ◌/◌, ◌%◌, ◌^◌, ◌<◌, ◌≤◌, length, get_or, set, drop};

@@ -1,3 +1,5 @@
+#![tactic(auto)]
+
 // The standard rotation, built in the lent work area letter by letter as a contour word is read: each dart is entered where the dart before it waits for
 // its successor. It knows letters and the edges that are open, no payloads and no labels. Its stacks are the reading parts of the map in `work`.
 ghost use Rattle.std.specs.Prelude.{◌≡◌, ◌<◌};

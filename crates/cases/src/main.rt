@@ -1,3 +1,5 @@
+#![tactic(auto)]
+
 // Writes and measures the plans that documents 01 and 02 leave to a run, plans at their limits and plans that are refused, and prints each answer on a line:
 // the refusal; or the record's length and its bytes, of a long record a checksum; or the number of areas and their lengths, of many their sum. The file stdout
 // has what it must write; tests/cases.py holds it to the second coder.

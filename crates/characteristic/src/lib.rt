@@ -1,3 +1,5 @@
+#![tactic(auto)]
+
 // The characteristic of a plan, from how many vertices, edges and faces it has: a signed number of 32 bits. It knows no rotations.
 ghost use Rattle.std.specs.Prelude.{◌≡◌, ◌≤◌, pos, ◌+ℤ◌, ◌-ℤ◌};
 

@@ -1,3 +1,5 @@
+#![tactic(auto)]
+
 // The contour walk of a rotation, in the work area, by the names of its vertices that are there: how many darts it meets. It knows the walk, not what is
 // read off its letters.
 ghost use Rattle.std.specs.Prelude.{◌≡◌, true, ◌*◌, ◌≤◌, ◌<◌, length};

@@ -1,3 +1,5 @@
+#![tactic(auto)]
+
 // Reads every payload of a record with one, two or three edges, in all kinds, and every payload of two bytes of a mesh with up to six, and prints kind, edges,
 // payloads and how many records are read: that is how many plans there are up to renumbering. In a kind with the outside each payload is read behind every
 // number from 0 to 2m. The file stdout has what it must write.

@@ -1,3 +1,5 @@
+#![tactic(auto)]
+
 // The cycles of a rotation, its vertices, and of its face walk, its faces: each dart gets the name of its cycle, and the cycles are counted and measured.
 // It knows rotations, not traversals or records.
 ghost use Rattle.std.specs.Prelude.{◌≡◌, true, ◌+◌, ◌≤◌, length};

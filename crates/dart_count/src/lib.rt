@@ -1,3 +1,5 @@
+#![tactic(auto)]
+
 // Refusal 3: whether so many darts are a plan's. It knows numbers alone.
 ghost use Rattle.std.specs.Prelude.{◌≡◌};
 ghost use Rattle.model.specs.Map.{dart_count_fits};

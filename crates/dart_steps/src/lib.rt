@@ -1,3 +1,5 @@
+#![tactic(auto)]
+
 // From a dart to the next: the other one of its edge, the next round its vertex, the next along its face. It knows rotations dart by dart, no whole cycles.
 ghost use Rattle.std.specs.Prelude.{◌≡◌, true, ◌<◌, length};
 ghost use Rattle.model.specs.Map.{opposite, dart_count_fits};

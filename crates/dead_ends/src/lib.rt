@@ -1,3 +1,5 @@
+#![tactic(auto)]
+
 // Whether a rotation has a dead end: a dart alone at its vertex that is not the root. It needs no names of vertices, and knows no kinds.
 ghost use Rattle.std.specs.Prelude.{◌≡◌, true, ◌<◌, length};
 ghost use Rattle.model.specs.Numbers.{is_permutation};

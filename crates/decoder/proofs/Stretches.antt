@@ -8,7 +8,6 @@ use native.Mathlib.Omega.{arith}
 use mathlib.Core.Path.{◌≡◌, sym, subst}
 use mathlib.Core.List.{List}
 use lib.ListN.{length}
-use Rattle.words.specs.Word.{none}
 use Rattle.packing.specs.Unpack.{bits}
 use Rattle.packing.specs.Payload.{payload_bits}
 use Rattle.unpacker.specs.Unpacked.{labels_in}

@@ -1,3 +1,5 @@
+#![tactic(auto)]
+
 // A payload of kind 1 or 2 decoded into the standard plan, in the lent work area, by a machine that reads tree bits and labels in step: its turns one after the
 // other, and where the cursor's word is filled anew.
 ghost use Rattle.std.specs.Prelude.{◌≡◌, true, ◌+◌, ◌*◌, ◌≤◌, ◌<◌, length, replicate};

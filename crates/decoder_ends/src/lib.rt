@@ -1,3 +1,5 @@
+#![tactic(auto)]
+
 // The state of the machine that decodes families 1 and 2, in the lent work area, and what ends in it: edges outside the tree, where an edge of label 1 has
 // ended, and the traversal. An open edge is stacked with its label, and a vertex is named by what is stacked of the tree edge above it, so that later ones have
 // higher names. It knows no bits.

@@ -1,3 +1,5 @@
+#![tactic(auto)]
+
 // The turns of the machine that decodes families 1 and 2: up, or down to a leaf, into the tree or along an edge outside it, and the edges that end after each.
 // The cursor hands out tree bits and labels; as many edges have begun as labels are read.
 ghost use Rattle.std.specs.Prelude.{◌≡◌, ◌+◌, ◌*◌, ◌≤◌, ◌<◌};

@@ -1,3 +1,5 @@
+#![tactic(auto)]
+
 // Whether a record is a fit plan's, as reading and shelving ask it: 13, with the standard plan in the work area or, of a mesh, the verdict alone. How a payload of
 // a family is decoded is not known here, nor what else is refused.
 ghost use Rattle.std.specs.Prelude.{◌≡◌, ◌≢◌, true, ◌*◌, ◌≤◌, length};

@@ -1,3 +1,5 @@
+#![tactic(auto)]
+
 // The dual of a rotation that stands in the work area, put to the output: the two entries of each edge change places.
 ghost use Rattle.std.specs.Prelude.{◌≡◌, ◌*◌, ◌≤◌, length};
 ghost use Rattle.model.specs.Mesh.{dual_of};

@@ -1,3 +1,5 @@
+#![tactic(auto)]
+
 // Refusals 9 to 12 and 18, and of a plan that fits the lengths of its faces. Names and letters in the work area are its own matter. It knows no records, and
 // nothing of the outside.
 ghost use Rattle.std.specs.Prelude.{◌≡◌, true, ◌*◌, ◌≤◌, ◌<◌, length};

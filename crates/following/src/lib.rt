@@ -1,3 +1,5 @@
+#![tactic(auto)]
+
 // One cycle of a rotation or of its face walk followed, in the work area: its darts get its name and are counted. It does not look for cycles.
 ghost use Rattle.std.specs.Prelude.{length};
 ghost use Rattle.dart_steps.specs.Steps.{step_of};

@@ -1,3 +1,5 @@
+#![tactic(auto)]
+
 // Groups put under a table: values that stand in a row, each replaced by its byte. It knows the bytes of a table, no inverse and no records.
 ghost use Rattle.std.specs.Prelude.{◌≡◌, true, map, ◌+◌, ◌^◌, ◌≤◌, length, get_or};
 ghost use Rattle.model.specs.Numbers.{all_below};

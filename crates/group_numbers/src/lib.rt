@@ -1,3 +1,5 @@
+#![tactic(auto)]
+
 // The number that a group of digits in the work area makes, in a base, highest first: digit by digit, filled up with 0 behind the last, and at once where the
 // group is full. It knows digits and places, and not where the numbers go.
 ghost use Rattle.std.specs.Prelude.{◌≡◌, true, ◌+◌, ◌^◌, ◌≤◌, ◌<◌, length, get_or};

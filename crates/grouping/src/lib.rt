@@ -1,3 +1,5 @@
+#![tactic(auto)]
+
 // Digits in the work area packed in groups, each into a byte: a group's number is its digits in a base, highest first, and the last group is filled up with 0.
 // It knows digits and places, no letters.
 ghost use Rattle.std.specs.Prelude.{◌≡◌, true, ◌+◌, ◌*◌, ◌^◌, ◌≤◌, ◌<◌, length};

@@ -1,3 +1,5 @@
+#![tactic(auto)]
+
 // The heads of records: their fields, and refusals 1, 2, 3 and 5. Payloads and shelves are not known here.
 ghost use Rattle.std.specs.Prelude.{◌≡◌, suc, ◌<◌, length};
 ghost use Rattle.model.specs.Shelf.{word16, head_refusal};

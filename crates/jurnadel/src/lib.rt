@@ -1,3 +1,5 @@
+#![tactic(auto)]
+
 // The calls as exported C functions. Numbers and slices go over as they are, a slice as pointer and length, a table by value; an answer's values go out
 // through references to numbers. Each function is total: any content and any length of what is lent. Nothing is worked out here: each call is that of a
 // crate below.

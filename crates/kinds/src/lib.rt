@@ -1,3 +1,5 @@
+#![tactic(auto)]
+
 // Kinds of records and their families, and refusal 2. A kind is a number here: what a record of it holds is not known.
 ghost use Rattle.std.specs.Prelude.{◌≡◌};
 ghost use Rattle.model.specs.Map.{is_family, stores_outside, is_kind, family};

@@ -1,3 +1,5 @@
+#![tactic(auto)]
+
 // The record of a plan that fits a kind other than 3, from what the walk has put in the work area. A plan that does not fit is not known here.
 ghost use Rattle.std.specs.Prelude.{◌≡◌, true, length};
 ghost use Rattle.model.specs.Map.{stores_outside};

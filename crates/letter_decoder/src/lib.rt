@@ -1,3 +1,5 @@
+#![tactic(auto)]
+
 // A payload of kind 4 decoded into the standard plan, in the lent work area: each letter of its word, two bits, is a step of `letter_steps`. It knows where
 // letters stand; no heads of records, no tree bits and no labels.
 ghost use Rattle.std.specs.Prelude.{◌≡◌, ◌*◌, ◌≤◌, ◌<◌, length, replicate};

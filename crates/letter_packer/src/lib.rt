@@ -1,3 +1,5 @@
+#![tactic(auto)]
+
 // From the contour word in the work area to the payload of a record of family 4: two bits a letter, four letters a byte. It knows letters and places, no plans.
 ghost use Rattle.std.specs.Prelude.{◌≡◌, ◌+◌, ◌*◌, ◌/◌, ◌^◌, ◌≤◌, ◌<◌, length};
 ghost use Rattle.model.specs.Record.{digits, pack, bytes_for};

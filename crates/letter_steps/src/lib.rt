@@ -1,3 +1,5 @@
+#![tactic(auto)]
+
 // One letter of a word read, as a step of the builder in the lent work area, if a nested word goes on with it. It knows which words are nested; not where letters
 // stand.
 ghost use Rattle.std.specs.Prelude.{◌∷◌, [], ◌*◌, ◌<◌};

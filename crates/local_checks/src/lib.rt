@@ -1,3 +1,5 @@
+#![tactic(auto)]
+
 // Refusals 11, 18 and 12, which look at one edge, face or vertex at a time: which of them is the first that concerns a plan of a family. Whether it has a loop is
 // told by the caller. It knows nothing of the whole plan, of whether it is connected or planar.
 ghost use Rattle.std.specs.Prelude.{◌≡◌, true, ◌<◌, length};

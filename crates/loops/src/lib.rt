@@ -1,3 +1,5 @@
+#![tactic(auto)]
+
 // Refusal 11: whether some edge is a loop, by the names of the vertices in the work area, and whether the family takes it. It names no vertices itself, and
 // walks nowhere.
 ghost use Rattle.std.specs.Prelude.{◌≡◌, true, ◌≤◌, length};

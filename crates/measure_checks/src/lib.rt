@@ -1,3 +1,5 @@
+#![tactic(auto)]
+
 // The refusals of measuring but those of the plan itself: 3, 6 and 7 before them, and 8 after them, with the list where it has room. It knows no faces.
 ghost use Rattle.std.specs.Prelude.{◌≡◌};
 ghost use Rattle.measure_checks.specs.Early.{early_refusal, Lengths, Copied};

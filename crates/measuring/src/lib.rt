@@ -1,3 +1,5 @@
+#![tactic(auto)]
+
 // The public call of measuring: the refusals in document 02's order, the lengths of the faces, and a cleared work area. It knows no records.
 ghost use Rattle.model.specs.Calls.{Measures};
 ghost use Rattle.measuring.specs.Made.{Made};

@@ -1,3 +1,5 @@
+#![tactic(auto)]
+
 // The codewords of code A at the front of a mesh's payload, put into the lent work area: one by one, and many at once from eight bytes. It knows bits; no digits
 // and no table.
 ghost use Rattle.std.specs.Prelude.{◌≡◌, ◌+◌, ◌*◌, ◌/◌, ◌≤◌, ◌<◌, length, drop};

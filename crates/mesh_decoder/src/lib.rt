@@ -1,3 +1,5 @@
+#![tactic(auto)]
+
 // Node types spelled as the contour word of a mesh's dual, in the lent work area: each type read puts letters, and a node that gets its last letters is
 // complete, as may be the nodes above it. It knows which letters a type puts; no payloads, no plans and no rotations.
 ghost use Rattle.std.specs.Prelude.{◌≡◌, ◌+◌, ◌-◌, ◌*◌, ◌/◌, ◌%◌, ◌≤◌, ◌<◌, length};

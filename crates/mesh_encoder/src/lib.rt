@@ -1,3 +1,5 @@
+#![tactic(auto)]
+
 // From the node types of a mesh in the work area to the bits of code A and the digits, there too. It knows types, no letters and no bytes.
 ghost use Rattle.std.specs.Prelude.{◌≡◌, ◌+◌, ◌*◌, ◌≤◌, true, length};
 ghost use Rattle.packing.specs.Types.{all_types};

@@ -12,7 +12,7 @@ use mathlib.Core.List.{List}
 use lib.ListN.{length}
 use Rattle.model.specs.Traversal.{Letter, down, up, first, second, opens}
 use Rattle.model.specs.Mesh.{dual_of}
-use Rattle.traversal.specs.Steps.{dart, letter_after}
+use Rattle.traversal.specs.Steps.{letter_after}
 use Rattle.mesh_trails.proofs.Strolls.{within}
 use Rattle.mesh_trails.proofs.Meshes.{mesh_first, mesh_leaf, mesh_face}
 use Rattle.mesh_second_places.specs.declared.Stroll.{Stroll}

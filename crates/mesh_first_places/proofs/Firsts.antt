@@ -14,7 +14,7 @@ use mathlib.Core.Bool.{true}
 use mathlib.Core.List.{List, ◌∷◌, map}
 use lib.ListN.{length, get_or, set}
 use Rattle.model.specs.Map.{opposite, next, face_next, vertex_of, is_triangle}
-use Rattle.model.specs.Traversal.{Letter, down, first, second, opens}
+use Rattle.model.specs.Traversal.{Letter, down, first, opens}
 use Rattle.model.specs.Mesh.{dual_of}
 use Rattle.model.proofs.Opposite.{opposite_opposite}
 use Rattle.orbits.specs.Permutation.{Perm}

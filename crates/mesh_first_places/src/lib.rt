@@ -1,3 +1,5 @@
+#![tactic(auto)]
+
 // The walk of a mesh's dual by marks goes down to a face: the face is marked, and at its first place the walk goes down again, or begins an edge outside the
 // tree and is at the second. It knows no way up.
 ghost use Rattle.std.specs.Prelude.{◌≡◌, suc, ◌*◌, ◌≤◌, ◌<◌, length, get_or};

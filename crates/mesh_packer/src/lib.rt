@@ -1,3 +1,5 @@
+#![tactic(auto)]
+
 // The payload of a mesh, from the bits and digits of its node types in the work area. It knows digits and places, no letters and no types.
 ghost use Rattle.std.specs.Prelude.{◌≡◌, true, ◌++◌, ◌+◌, ◌*◌, ◌^◌, ◌≤◌, length};
 ghost use Rattle.model.specs.Numbers.{all_below};

@@ -1,3 +1,5 @@
+#![tactic(auto)]
+
 // The payload of a record of kind 3 read as the mesh in standard numbers. It puts the parts in order: payload, node types, the dual's word, the dual, the plan in the
 // dual's numbers, and from there the plan's own walk, which gives its own standard numbers. Nothing is written before the word is found.
 ghost use Rattle.std.specs.Prelude.{◌≡◌, true, ◌*◌, ◌≤◌, ◌<◌, length};

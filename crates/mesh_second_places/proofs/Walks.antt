@@ -12,7 +12,6 @@ use mathlib.Core.Path.{◌≡◌, sym, ap, subst, ◌∙◌}
 use mathlib.Core.Logic.{inl, inr, ◌≢◌}
 use mathlib.Core.List.{List, [], ◌∷◌}
 use lib.ListN.{length, get_or, length-map}
-use Rattle.model.specs.Numbers.{count}
 use Rattle.model.specs.Map.{opposite}
 use Rattle.model.specs.Traversal.{Letter}
 use Rattle.model.specs.Mesh.{dual_of}

@@ -1,3 +1,5 @@
+#![tactic(auto)]
+
 // Where the walk of a mesh's dual by marks stands, in the lent work area, and what it does at the second place of a face. Every face has three places: the one
 // that it is entered by, which is also the last, its first and its second. It knows how a second place is left, and not how one is come to.
 ghost use Rattle.std.specs.Prelude.{◌≡◌, ◌*◌, ◌≤◌, ◌<◌, length};

@@ -15,7 +15,7 @@ use lib.ListN.{length, get_or, set, take, replicate, length-replicate}
 use lib.Seq.{get_or-set_other}
 use Rattle.model.specs.Numbers.{is_permutation, count}
 use Rattle.model.specs.Map.{opposite, next, face_next, vertex_of, dart_count_fits, is_triangle, fit}
-use Rattle.model.specs.Traversal.{Letter, up, opens}
+use Rattle.model.specs.Traversal.{Letter, up}
 use Rattle.model.specs.Mesh.{dual_of, types}
 use Rattle.model.proofs.Opposite.{opposite_ne, opposite_bound, opposite_edge}
 use Rattle.model.proofs.Fitness.{count_even}

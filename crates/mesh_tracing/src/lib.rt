@@ -1,3 +1,5 @@
+#![tactic(auto)]
+
 // The contour walk of a mesh's dual by marks, face by face, which says of a plan whether it is a mesh: from face to face down, and up again to the second places
 // that are still to come, until the root's face. What is done at the places of a face, the crates below know.
 ghost use Rattle.std.specs.Prelude.{◌≡◌, true, suc, ◌+◌, ◌-◌, ◌*◌, ◌≤◌, ◌<◌, eqb, length, get_or, replicate};

@@ -1,1 +1,3 @@
+#![tactic(auto)]
+
 // Theory: the walk of a mesh's dual, face by face.

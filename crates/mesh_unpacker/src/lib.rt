@@ -1,3 +1,5 @@
+#![tactic(auto)]
+
 // The payload of a mesh taken apart into node types, put into the lent work area: its codewords are read, then padding, groups and fill are looked at, then
 // types 3 to 5 get their digits. It knows digits and the inverse of a table; no heads of records, no letters and no plans.
 ghost use Rattle.std.specs.Prelude.{◌≡◌, true, ◌+◌, ◌-◌, ◌*◌, ◌≤◌, ◌<◌, length, get_or, drop};

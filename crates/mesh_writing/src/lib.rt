@@ -1,3 +1,5 @@
+#![tactic(auto)]
+
 // The record of a mesh whose node types are in the work area: their codes there, then head and payload in the output. How types are found is not known here.
 ghost use Rattle.std.specs.Prelude.{◌≡◌, ◌+◌, ◌/◌, ◌^◌, ◌≤◌, length};
 ghost use Rattle.model.specs.Mesh.{types};

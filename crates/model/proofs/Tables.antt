@@ -22,7 +22,6 @@ use borrow.Author.Tests.{eqb-true, eq-eqb, not-false}
 use Rattle.model.specs.declared.Table.{Table}
 use Rattle.model.specs.Numbers.{elem, distinct, all_below, position, tabulate}
 use Rattle.model.specs.Groups.{byte_for, is_table, inverse_of, loaded, standard_table, no_table}
-use Rattle.model.specs.Shelf.{same}
 use Rattle.model.specs.Calls.{table_refused}
 use Rattle.model.proofs.Booleans.{and_left, and_right, both, or_none, not_intro}
 use Rattle.model.proofs.Permutations.{below_all, all_below_lem, elem_at, at_distinct, position_bound, position_le, position_found, position_lacks, position_entry}

@@ -1,3 +1,5 @@
+#![tactic(auto)]
+
 // The definitions of document 01, in specs/, and the answers of the calls and the group table, which those definitions speak of. No code stands here:
 // what the calls do is in the crates above, and their contracts cite these definitions.
 

@@ -1,3 +1,5 @@
+#![tactic(auto)]
+
 // The outside that a record names: its number in the record, and whether that is the lowest dart of a face of the plan that was read. It knows heads of records and
 // rotations; no payloads.
 ghost use Rattle.std.specs.Prelude.{◌≡◌, true, ◌&&◌, ◌≤◌, eqb, ltb, length};

@@ -1,3 +1,5 @@
+#![tactic(auto)]
+
 // Where the reading of node types as the word of a mesh's dual stands, in the lent work area, and what ends in it: a node that gets its last letters, and the
 // tree below the start node. It knows letters and nodes that are not complete, and no types.
 ghost use Rattle.std.specs.Prelude.{◌≡◌, ◌<◌};

@@ -9,7 +9,7 @@ use Prim.Native.Nat.{ℕ, suc, ◌+◌, ◌-◌, ◌*◌, ◌≤◌, ◌<◌}
 use native.Mathlib.Omega.{arith}
 use lib.ListN.{length, get_or, set, length-set}
 use lib.Seq.{get_or-set_other}
-use Rattle.model.specs.Numbers.{is_permutation, count}
+use Rattle.model.specs.Numbers.{is_permutation}
 use Rattle.model.specs.Map.{opposite, next, vertex_of, dart_count_fits}
 use Rattle.model.specs.Traversal.{Letter, down, up, first, second, opens, onward, standard_numbers, standard_rotation}
 use Rattle.model.proofs.Fitness.{count_even, count_parts}

@@ -1,3 +1,5 @@
+#![tactic(auto)]
+
 // The contour walk by marks of a connected rotation, which puts its standard rotation on the way: each dart gets its number when it is met, and is entered where
 // the dart before it waits for its successor. It knows marks and standard numbers; no words, and no records.
 ghost use Rattle.std.specs.Prelude.{◌≡◌, true, ℕ, suc, ◌*◌, ◌≤◌, ◌<◌, length, get_or};

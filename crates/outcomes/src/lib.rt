@@ -1,3 +1,5 @@
+#![tactic(auto)]
+
 // The values of each answer as out-numbers: the refusal's number is returned, 0 if none, and each value goes through a reference to a number. How an answer
 // is come by is not known here.
 ghost use Rattle.std.specs.Prelude.{◌≡◌};

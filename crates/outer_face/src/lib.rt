@@ -1,3 +1,5 @@
+#![tactic(auto)]
+
 // The outer face of a plan: the number that stands for it in a record, the least standard number along it, and whether a number is one. It knows rotations and the
 // marks of darts in the work area; no words, no bytes.
 ghost use Rattle.std.specs.Prelude.{◌≡◌, true, ◌<◌, eqb, length};

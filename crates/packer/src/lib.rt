@@ -1,3 +1,5 @@
+#![tactic(auto)]
+
 // The head of a record, and its payload from the tree bits and labels in the work area. It knows where groups of digits go, not how they are packed.
 ghost use Rattle.std.specs.Prelude.{◌≡◌, true, ◌++◌, ◌+◌, ◌*◌, ◌^◌, ◌≤◌, length};
 ghost use Rattle.model.specs.Numbers.{all_below};

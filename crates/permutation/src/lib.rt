@@ -1,3 +1,5 @@
+#![tactic(auto)]
+
 // Refusal 6: whether the entries of a rotation are a permutation, without a work area. It knows lists of numbers, no plans.
 ghost use Rattle.std.specs.Prelude.{◌≡◌, ◌*◌, ◌≤◌, length, replicate};
 ghost use Rattle.model.specs.Numbers.{is_permutation};

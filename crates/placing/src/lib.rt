@@ -1,3 +1,5 @@
+#![tactic(auto)]
+
 // A record found on the shelf, or put just past its used bytes: where it belongs, and the bytes. Its payload is not looked at, and how records are searched for is
 // not known here.
 ghost use Rattle.std.specs.Prelude.{◌≡◌, ◌++◌, ◌+◌, ◌≤◌, length, take, drop};

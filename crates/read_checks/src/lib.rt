@@ -1,3 +1,5 @@
+#![tactic(auto)]
+
 // The refusals that reading and shelving share and that need no payload: 19, 1, 2, 3, 5, 7. It knows heads of records and whether a table is one that loading
 // gives; no payloads and no plans.
 ghost use Rattle.read_checks.specs.Refused.{RefusedUnder};

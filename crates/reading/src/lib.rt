@@ -1,3 +1,5 @@
+#![tactic(auto)]
+
 // Reading, the call: any bytes come back as the plan in its standard numbering, or as one refusal. It tests the output's room between the refusals of the record
 // and 13, copies the plan out and clears the work area; how a record is decoded is not known here.
 ghost use Rattle.std.specs.Prelude.{◌≡◌, true, ◌*◌, ◌≤◌, length};

@@ -1,3 +1,5 @@
+#![tactic(auto)]
+
 // How long the head, the payload and the whole record of a kind are, from the number of edges. It looks at no bytes.
 ghost use Rattle.std.specs.Prelude.{◌≡◌, ◌≤◌};
 ghost use Rattle.model.specs.Record.{head_length, payload_length, record_length};

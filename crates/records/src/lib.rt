@@ -1,3 +1,5 @@
+#![tactic(auto)]
+
 // Bytes that are records end to end: where each stands and how many there are. Only the heads are looked at; a record is known by two laws alone
 // (heads, `Head.antt`): it is as long as its length field says, and 6 bytes or longer.
 ghost use Rattle.std.specs.Prelude.{◌≡◌, true, ◌<◌, length};

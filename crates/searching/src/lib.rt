@@ -1,3 +1,5 @@
+#![tactic(auto)]
+
 // The search for a record among bytes that should be records end to end: one walk over the heads. Lengths are compared first, and the records of which more is
 // compared are counted.
 ghost use Rattle.std.specs.Prelude.{◌≡◌, cond, ◌≤◌, length};

@@ -1,3 +1,5 @@
+#![tactic(auto)]
+
 // The shelf: a lent byte slice with a used length, whose used bytes are records end to end. Fetching and walking look at heads and lengths only. The public
 // calls are `fetch`, `walk_begin`, `walk_length` and `walk_next`, and for the walker `used_part` and `next_place`; they have no `requires`.
 ghost use Rattle.std.specs.Prelude.{◌≡◌, length, take};

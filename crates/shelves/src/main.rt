@@ -1,3 +1,5 @@
+#![tactic(auto)]
+
 // Shelves the starred records of document 01, fetches them and walks over them, and meets each refusal of shelving, fetching and walking, those of document 02
 // (b) included. Each answer is a line: numbers and places in decimal, bytes in hexadecimal; where a record was searched for, the line ends with how many were
 // compared beyond the length (request (g)). The file stdout has what it must write; tests/shelves.py holds it to the second coder.

@@ -1,3 +1,5 @@
+#![tactic(auto)]
+
 // Shelving: a record is read, then found on the shelf or put just past its used bytes. How records are read and placed is not known here.
 ghost use Rattle.model.specs.Calls.{Stored};
 

@@ -1,3 +1,5 @@
+#![tactic(auto)]
+
 // The sizes of what is lent, from the kind and the number of edges alone. No record and no plan is known here.
 ghost use Rattle.std.specs.Prelude.{◌≡◌, ◌*◌};
 ghost use Rattle.model.specs.Exports.{length_for};

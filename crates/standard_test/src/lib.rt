@@ -1,3 +1,5 @@
+#![tactic(auto)]
+
 // Whether a table is the standard one: its entries are compared with those that the standard table has there, in loops without a branch. It knows bytes; of
 // loading, and of other tables, it knows nothing.
 ghost use Rattle.std.specs.Prelude.{◌≡◌, true, length};

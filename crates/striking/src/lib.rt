@@ -1,3 +1,5 @@
+#![tactic(auto)]
+
 // Refusal 6 in a work area, which is faster than without one: whether the entries of a rotation are a permutation, by marks that are set and then struck. It knows
 // lists of numbers, no plans.
 ghost use Rattle.std.specs.Prelude.{◌≡◌, true, ◌≤◌, eqb, length};

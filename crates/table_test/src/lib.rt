@@ -1,3 +1,5 @@
+#![tactic(auto)]
+
 // The test that every call runs on the table it is handed: whether loading gives it. It knows bytes and values, and how many bytes stand for no group; it makes
 // no table, and knows no records.
 ghost use Rattle.std.specs.Prelude.{◌≡◌, not, ◌≤◌, eqb, length};

@@ -1,3 +1,5 @@
+#![tactic(auto)]
+
 // Group tables made: one loaded from bytes, with its inverse, and the standard one. It knows bytes and values, no records and no plans.
 ghost use Rattle.std.specs.Prelude.{◌≡◌, length};
 ghost use Rattle.model.specs.Numbers.{tabulate};

@@ -1,3 +1,5 @@
+#![tactic(auto)]
+
 // What the contour walk by marks puts for the record at each letter: letters for family 4, else tree bits and labels. It knows where they stand in the lent work
 // area, and by a mark whether a second comes next; no walk.
 ghost use Rattle.std.specs.Prelude.{◌≡◌, ◌*◌, ◌≤◌, ◌<◌, length};

@@ -1,3 +1,5 @@
+#![tactic(auto)]
+
 // The steps of the contour walk by marks, one function for each letter. On going down to a vertex its darts are marked, once round; so a dart is marked exactly
 // when its vertex is seen. What the record is made of is put on the way (`trace_puts`). When which step is due, `tracing` knows.
 ghost use Rattle.std.specs.Prelude.{◌≡◌, ℕ, ◌*◌, ◌≤◌, ◌<◌, length, get_or};

@@ -75,8 +75,8 @@ module _ (family : ℕ) (rot : List ℕ) (k : ℕ) (w : List ℕ) (s : Trace) (g
 
     pub crossing_unsound : 0 < mark → mark < 16384 → last_is (stack (WAITING * n) s.waiting w) (mark - 8192) ≡ false → ⊥
     crossing_unsound lo hi off =
-        let (b, m, e) = stepping.end_edge family rot k w s g here on lo hi in
-        let (q, top) = planar_stacked p t g.ground.count g.ground.perm sound.flat k here (letter_is ∙ stepping.is_second family rot k w s g here on lo hi) in
+        let (b, m, e) = stepping.end_edge_lem family rot k w s g here on lo hi in
+        let (q, top) = planar_stacked p t g.ground.count g.ground.perm sound.flat k here (letter_is ∙ stepping.is_second_lem family rot k w s g here on lo hi) in
         let mate = mate_is p g.ground.count g.root_in g.ground.perm t k b.position here (let z = b.earlier in omega arith) b.across in
         let ℓ = letter_after rot r in
         let held : stack (WAITING * n) s.waiting w ≡ opened ℓ b.position ∷ map (opened ℓ) q =

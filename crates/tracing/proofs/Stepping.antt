@@ -16,7 +16,6 @@ use native.Mathlib.Omega.{arith}
 use lib.Dec.{eqb}
 use lib.ListN.{length, get_or, set, drop, length-set, length-map}
 use lib.Seq.{drop-set-lt}
-use Rattle.model.specs.Numbers.{count}
 use borrow.Author.Tests.{eqb-true, ne_eqb}
 use Rattle.model.specs.Map.{Plan, opposite, next, vertex_of, degree_one}
 use Rattle.model.specs.Traversal.{Letter, down, up, first, second, code, opens, onward, word}

@@ -1,3 +1,5 @@
+#![tactic(auto)]
+
 // The contour walk by marks, which says whether a plan fits a family; why it does not, is for others to say. The next letter is read off the mark of the opposite.
 // Edges outside the tree wait on a stack: the plan is planar if each ends on top of it.
 ghost use Rattle.std.specs.Prelude.{◌≡◌, ◌≢◌, true, false, cond, ◌*◌, ◌≤◌, ◌<◌, eqb, length, get_or, replicate};

@@ -1,3 +1,5 @@
+#![tactic(auto)]
+
 // Whether all faces of a rotation are triangles, dart by dart. It knows rotations, not vertices or meshes.
 ghost use Rattle.std.specs.Prelude.{◌≡◌, true, ◌<◌, length};
 ghost use Rattle.model.specs.Numbers.{is_permutation};

@@ -1,3 +1,5 @@
+#![tactic(auto)]
+
 // A walker over a shelf: it holds the used bytes and the place that it has come to. Each function over it is thin and
 // leaves the work to a function of `shelf` or `records` with plain parameters.
 ghost use Rattle.std.specs.Prelude.{◌≡◌, take};
@@ -27,7 +29,7 @@ pub fn onward<'a>(w: Walker<'a>) -> Walker<'a>
 
 // A walk from record n on. Refused as fetching is, the walker stands where no record is left.
 pub fn begin<'a>(bytes: &'a [u8], used: usize, n: usize, refusal: &mut u16) -> Walker<'a>
-    ensures { (result.src.now ≡ take used bytes.now) × (result.src.ptr ≡ bytes.entry.ref_ptr) × Begun bytes.now used n result.at refusal.new }
+    ensures { (result.src.now ≡ take used bytes.now) × (result.src.ref_ptr ≡ bytes.entry.ref_ptr) × Begun bytes.now used n result.at refusal.new }
 {
     let at = shelf::walk_begin(bytes, used, n, refusal);
     let src = shelf::used_part(bytes, used);

@@ -1,3 +1,5 @@
+#![tactic(auto)]
+
 // The standard rotation of a nested word that stands in the lent work area: each letter is a step of the builder, with no test, since the word is nested. It
 // knows where the letters stand and their codes, no payloads.
 ghost use Rattle.std.specs.Prelude.{◌≡◌, true, ◌∷◌, [], ◌*◌, ◌≤◌, length};

@@ -1,3 +1,5 @@
+#![tactic(auto)]
+
 // The lent work area: which part is whose, and parts filled, cleared, copied out. It knows lists and places, no plans.
 ghost use Rattle.std.specs.Prelude.{◌≡◌, ◌+◌, ◌≤◌, length, replicate};
 ghost use Rattle.model.specs.Calls.{zeros, front};

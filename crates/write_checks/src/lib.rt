@@ -1,3 +1,5 @@
+#![tactic(auto)]
+
 // The refusals of writing before those of the plan itself, but 19, in the papers' order.
 ghost use Rattle.std.specs.Prelude.{◌≡◌, ◌≤◌, length, not, ◌&&◌, ltb};
 ghost use Rattle.model.specs.Numbers.{is_permutation};

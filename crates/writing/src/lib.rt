@@ -1,3 +1,5 @@
+#![tactic(auto)]
+
 // The public call of writing: the refusals in the papers' order, the record, and a cleared work area.
 ghost use Rattle.std.specs.Prelude.{◌≡◌, true, ◌*◌, ◌≤◌, ◌<◌, length, replicate};
 ghost use Rattle.model.specs.Numbers.{is_permutation};

@@ -42,8 +42,8 @@ pub loop-d-preserved : goal.loop-d-preserved
 loop-d-preserved c =
     let t = turn (goal.at.loop-d-preserved c).In-loop-d in
     elim c.if-w-a.branch [
-      then-w-a u ↦ (omega arith, turn_length t u.follow-size.ensures u.w-is, turn_new t u.follow-size.ensures u.if-w-a.true u.count-is u.w-is)
-    | else-w-a v ↦ (omega arith, ap length v.w-is ∙ t.as_long, turn_old t v.if-w-a.false v.count-is v.w-is)
+      | then-w-a u ↦ (omega arith, turn_length t u.follow-size.ensures u.w-is, turn_new t u.follow-size.ensures u.if-w-a.true u.count-is u.w-is)
+      | else-w-a v ↦ (omega arith, ap length v.w-is ∙ t.as_long, turn_old t v.if-w-a.false v.count-is v.w-is)
     ]
 
 pub returns : goal.returns

@@ -39,8 +39,8 @@ loop-d-preserved c =
       omega arith,
       none_here p at.d
           (elim c.else-order-d.branch [
-            else-order-d-via-then-order-d+else-d-root u ↦ root_alone p at.d u.if-order-d.true (ap not (eq-eqb _ _ u.if-d-root.false))
-          | else-order-d-via-else-order-d u ↦ not_alone p at.d u.if-order-d.false
+            | else-order-d-via-then-order-d+else-d-root u ↦ root_alone p at.d u.if-order-d.true (ap not (eq-eqb _ _ u.if-d-root.false))
+            | else-order-d-via-else-order-d u ↦ not_alone p at.d u.if-order-d.false
           ])
           at.invariant.1,
     )

@@ -16,51 +16,51 @@ decreases_loop payload family m w₀ s₀ c₀ w s c = length (payload_bits m pa
 
 loop-t-init : tie.Need-loop-t-init invariant_loop decreases_loop
 loop-t-init c =
-    let p = c.before.before.requires in let z = p.0.sized in
+    let p = c.requires in let z = p.0.sized in
     running_start _ _ _ _ z.some_edge z.few_edges p.1.0 _ _ refl refl
 
 stretch-requires : tie.Need-stretch-requires invariant_loop decreases_loop
-stretch-requires c κs = running_asks _ _ _ _ _ _ _ c.before.loop-t.invariant c.before.before.before.before.requires.0
+stretch-requires c κs = running_asks _ _ _ _ _ _ _ c.loop-t.invariant c.requires.0
 
 shape_of-w-in-Stuck : tie.Need-shape_of-w-in-Stuck invariant_loop decreases_loop
 shape_of-w-in-Stuck c =
-    c.before.before.before.before.stretch.auto.w ∙ running_kept _ _ _ _ _ _ _ c.before.before.before.before.before.before.loop-t.invariant
+    c.stretch.auto.w ∙ running_kept _ _ _ _ _ _ _ c.loop-t.invariant
 
 returns-in-Stuck : tie.Need-returns-in-Stuck invariant_loop decreases_loop
 returns-in-Stuck c =
-    let v = c.before.before.before.before.stretch in
-    answer_stuck _ _ _ _ _ _ _ c.before.before.before.before.before.before.loop-t.invariant v.result _ v.ensures c.enum_told-1.given.1 _
+    let v = c.stretch in
+    answer_stuck _ _ _ _ _ _ _ c.loop-t.invariant v.result _ v.ensures c.in-Stuck.is _
 
 finish-requires : tie.Need-finish-requires invariant_loop decreases_loop
 finish-requires c κs =
-    let v = c.before.before.before.before.before.before.before.stretch in
-    (so_far _ _ _ _ _ _ _ c.before.before.before.before.before.before.before.before.before.loop-t.invariant v.result _ v.ensures _ _ _
-    c.before.before.before.t-1.given.1).fits
+    let v = c.stretch in
+    (so_far _ _ _ _ _ _ _ c.loop-t.invariant v.result _ v.ensures _ _ _
+    c.in-Goes.is).fits
 
 shape_of-w-then-m-next : tie.Need-shape_of-w-then-m-next invariant_loop decreases_loop
 shape_of-w-then-m-next c =
-    c.before.before.finish.auto.w ∙ c.before.before.before.before.before.before.before.before.before.before.stretch.auto.w
-    ∙ running_kept _ _ _ _ _ _ _ c.before.before.before.before.before.before.before.before.before.before.before.before.loop-t.invariant
+    c.finish.auto.w ∙ c.stretch.auto.w
+    ∙ running_kept _ _ _ _ _ _ _ c.loop-t.invariant
 
 returns-then-m-next : tie.Need-returns-then-m-next invariant_loop decreases_loop
 returns-then-m-next c =
-    let v = c.before.before.before.before.before.before.before.before.before.before.stretch in
-    let p = c.before.before.before.before.before.before.before.before.before.before.before.before.before.before.before.requires in
-    let x = so_far _ _ _ _ _ _ _ c.before.before.before.before.before.before.before.before.before.before.before.before.loop-t.invariant
-    v.result _ v.ensures _ _ _ c.before.before.before.before.before.before.t-1.given.1 in
-    answer_end _ _ _ _ _ _ _ x p.0 c.before.before.before.before.if-m-next.true p.1.1 _ _ c.before.before.finish.ensures
+    let v = c.stretch in
+    let p = c.requires in
+    let x = so_far _ _ _ _ _ _ _ c.loop-t.invariant
+    v.result _ v.ensures _ _ _ c.in-Goes.is in
+    answer_end _ _ _ _ _ _ _ x p.0 c.if-m-next.true p.1.1 _ _ c.finish.ensures
 
 loop-t-smaller : tie.Need-loop-t-smaller invariant_loop decreases_loop
 loop-t-smaller c =
-    let v = c.before.before.before.before.before.before.stretch in
-    running_less _ _ _ _ _ _ _ c.before.before.before.before.before.before.before.before.loop-t.invariant v.result _ v.ensures _ _ _
-    c.before.before.t-1.given.1
+    let v = c.stretch in
+    running_less _ _ _ _ _ _ _ c.loop-t.invariant v.result _ v.ensures _ _ _
+    c.in-Goes.is
 
 loop-t-preserved : tie.Need-loop-t-preserved invariant_loop decreases_loop
 loop-t-preserved c =
-    let v = c.before.before.before.before.before.before.stretch in
-    running_on _ _ _ _ _ _ _ c.before.before.before.before.before.before.before.before.loop-t.invariant v.result _ v.ensures _ _ _
-    c.before.before.t-1.given.1 (omega arith)
+    let v = c.stretch in
+    running_on _ _ _ _ _ _ _ c.loop-t.invariant v.result _ v.ensures _ _ _
+    c.in-Goes.is (omega arith)
 
 pub run_spec : {M : Type 1} → statement M
 run_spec =

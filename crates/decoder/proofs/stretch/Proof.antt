@@ -17,55 +17,53 @@ abbrev decreases_loop : tie.decreases-loop-t
 decreases_loop payload family m w₀ end s₀ c₀ w s c = length (payload_bits m payload) - c.bits + s.opens
 
 window_end-end-requires : tie.Need-window_end-end-requires invariant_loop decreases_loop
-window_end-end-requires c κs = let p = c.before.before.requires in (p.1.few_edges, p.2)
+window_end-end-requires c κs = let p = c.requires in (p.1.few_edges, p.2)
 
 filled-c-requires : tie.Need-filled-c-requires invariant_loop decreases_loop
-filled-c-requires c κs = let p = c.before.before.before.requires in let m = p.1.few_edges in let h = p.2 in omega arith
+filled-c-requires c κs = let p = c.requires in let m = p.1.few_edges in let h = p.2 in omega arith
 
 loop-t-init : tie.Need-loop-t-init invariant_loop decreases_loop
 loop-t-init c =
-    let st = c.before.before.before.before in let e = c.before.window_end-end.ensures in let d = c.filled-c.ensures in
-    stretching_start _ _ _ _ _ _ st.args.c c.filled-c.result d.0 d.1 st.requires.1 d.2 e.0 e.1 e.2
+    let e = c.window_end-end.ensures in let d = c.filled-c.ensures in
+    stretching_start _ _ _ _ _ _ c.args.c c.filled-c.result d.0 d.1 c.requires.1 d.2 e.0 e.1 e.2
 
 step-requires : tie.Need-step-requires invariant_loop decreases_loop
-step-requires c κs = stretching_asks _ _ _ _ _ _ _ _ _ _ _ c.before.loop-t.invariant c.before.before.before.before.before.before.requires.0
+step-requires c κs = stretching_asks _ _ _ _ _ _ _ _ _ _ _ c.loop-t.invariant c.requires.0
 
 shape_of-w-in-Stuck : tie.Need-shape_of-w-in-Stuck invariant_loop decreases_loop
 shape_of-w-in-Stuck c =
-    c.before.before.before.before.step.auto.w ∙ stretching_kept _ _ _ _ _ _ _ _ _ _ _
-    c.before.before.before.before.before.before.loop-t.invariant
+    c.step.auto.w ∙ stretching_kept _ _ _ _ _ _ _ _ _ _ _
+    c.loop-t.invariant
 
 returns-in-Stuck : tie.Need-returns-in-Stuck invariant_loop decreases_loop
 returns-in-Stuck c =
-    let v = c.before.before.before.before.step in
-    let f = c.before.before.before.before.before.before.before in
-    filled_turned _ _ _ _ _ _ _ f.before.before.before.before.args.c f.filled-c.result f.filled-c.ensures.0 f.filled-c.ensures.1
-    (stretching_stuck _ _ _ _ _ _ _ _ _ _ _ c.before.before.before.before.before.before.loop-t.invariant v.result _ v.ensures c.enum_told-1.given.1 _)
+    let v = c.step in
+    filled_turned _ _ _ _ _ _ _ c.args.c c.filled-c.result c.filled-c.ensures.0 c.filled-c.ensures.1
+    (stretching_stuck _ _ _ _ _ _ _ _ _ _ _ c.loop-t.invariant v.result _ v.ensures c.in-Stuck.is _)
 
 shape_of-w-then-end-next : tie.Need-shape_of-w-then-end-next invariant_loop decreases_loop
 shape_of-w-then-end-next c =
-    c.before.before.before.before.before.before.step.auto.w ∙ stretching_kept _ _ _ _ _ _ _ _ _ _ _
-    c.before.before.before.before.before.before.before.before.loop-t.invariant
+    c.step.auto.w ∙ stretching_kept _ _ _ _ _ _ _ _ _ _ _
+    c.loop-t.invariant
 
 returns-then-end-next : tie.Need-returns-then-end-next invariant_loop decreases_loop
 returns-then-end-next c =
-    let v = c.before.before.before.before.before.before.step in
-    let f = c.before.before.before.before.before.before.before.before.before in
-    filled_turned _ _ _ _ _ _ _ f.before.before.before.before.args.c f.filled-c.result f.filled-c.ensures.0 f.filled-c.ensures.1
-    (stretching_end _ _ _ _ _ _ _ _ _ _ _ c.before.before.before.before.before.before.before.before.loop-t.invariant v.result _ v.ensures _ _ _
-    c.before.before.t-1.given.1)
+    let v = c.step in
+    filled_turned _ _ _ _ _ _ _ c.args.c c.filled-c.result c.filled-c.ensures.0 c.filled-c.ensures.1
+    (stretching_end _ _ _ _ _ _ _ _ _ _ _ c.loop-t.invariant v.result _ v.ensures _ _ _
+    c.in-Goes.is)
 
 loop-t-smaller : tie.Need-loop-t-smaller invariant_loop decreases_loop
 loop-t-smaller c =
-    let v = c.before.before.before.before.before.before.step in
-    stretching_less _ _ _ _ _ _ _ _ _ _ _ c.before.before.before.before.before.before.before.before.loop-t.invariant v.result _ v.ensures _ _ _
-    c.before.before.t-1.given.1
+    let v = c.step in
+    stretching_less _ _ _ _ _ _ _ _ _ _ _ c.loop-t.invariant v.result _ v.ensures _ _ _
+    c.in-Goes.is
 
 loop-t-preserved : tie.Need-loop-t-preserved invariant_loop decreases_loop
 loop-t-preserved c =
-    let v = c.before.before.before.before.before.before.step in
-    stretching_on _ _ _ _ _ _ _ _ _ _ _ c.before.before.before.before.before.before.before.before.loop-t.invariant v.result _ v.ensures _ _ _
-    c.before.before.t-1.given.1 (omega arith)
+    let v = c.step in
+    stretching_on _ _ _ _ _ _ _ _ _ _ _ c.loop-t.invariant v.result _ v.ensures _ _ _
+    c.in-Goes.is (omega arith)
 
 pub stretch_spec : {M : Type 1} → statement M
 stretch_spec =

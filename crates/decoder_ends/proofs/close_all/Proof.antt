@@ -12,43 +12,35 @@ abbrev decreases_loop : tie.decreases-loop-label
 decreases_loop w₀ m label s₀ label₀ w s label' = s.opens
 
 loop-label-init : tie.Need-loop-label-init invariant_loop decreases_loop
-loop-label-init c = let p = c.before.requires in closing_start _ _ _ _ p.1
+loop-label-init c = closing_start _ _ _ _ c.requires.1
 
 close_last-requires : tie.Need-close_last-requires invariant_loop decreases_loop
-close_last-requires c κs = closing_fits _ _ _ _ _ _ _ c.before.before.loop-label.invariant c.before.before.before.before.requires.0
+close_last-requires c κs = closing_fits _ _ _ _ _ _ _ c.loop-label.invariant c.requires.0
 
 loop-label-smaller : tie.Need-loop-label-smaller invariant_loop decreases_loop
 loop-label-smaller c =
-    let v = c.before.before.before.before.before.close_last in
-    let test = c.before.before.before.before.before.before.before in
-    closing_less _ _ _ _ _ _ _ test.before.loop-label.invariant test.loop-label-test.true v.result _ v.ensures _ _ c.before.t-1.given.1
-    test.before.before.before.requires.0
+    let v = c.close_last in
+    closing_less _ _ _ _ _ _ _ c.loop-label.invariant c.loop-label-test.true v.result _ v.ensures _ _ c.in-Ends.is c.requires.0
 
 loop-label-preserved : tie.Need-loop-label-preserved invariant_loop decreases_loop
 loop-label-preserved c =
-    let v = c.before.before.before.before.before.close_last in
-    let test = c.before.before.before.before.before.before.before in
-    closing_on _ _ _ _ _ _ _ test.before.loop-label.invariant test.loop-label-test.true v.result _ v.ensures _ _ c.before.t-1.given.1
-    test.before.before.before.requires.0
+    let v = c.close_last in
+    closing_on _ _ _ _ _ _ _ c.loop-label.invariant c.loop-label-test.true v.result _ v.ensures _ _ c.in-Ends.is c.requires.0
 
 shape_of-w-in-Stays : tie.Need-shape_of-w-in-Stays invariant_loop decreases_loop
-shape_of-w-in-Stays c =
-    let at = c.before.before.before.before.before.before.before in
-    c.before.before.before.before.close_last.auto.w ∙ closing_kept _ _ _ _ _ _ _ at.loop-label.invariant at.before.before.requires.0
+shape_of-w-in-Stays c = c.close_last.auto.w ∙ closing_kept _ _ _ _ _ _ _ c.loop-label.invariant c.requires.0
 
 returns-in-Stays : tie.Need-returns-in-Stays invariant_loop decreases_loop
 unfolding EndedOne
 returns-in-Stays c =
-    let v = c.before.before.before.before.close_last in
-    let test = c.before.before.before.before.before.before in
-    closing_stuck _ _ _ _ _ _ _ test.before.loop-label.invariant test.loop-label-test.true v.result _ v.ensures c.enum_told-1.given.1
+    let v = c.close_last in closing_stuck _ _ _ _ _ _ _ c.loop-label.invariant c.loop-label-test.true v.result _ v.ensures c.in-Stays.is
 
 shape_of-w : tie.Need-shape_of-w invariant_loop decreases_loop
-shape_of-w c = closing_kept _ _ _ _ _ _ _ c.before.loop-label.invariant c.before.before.before.requires.0
+shape_of-w c = closing_kept _ _ _ _ _ _ _ c.loop-label.invariant c.requires.0
 
 returns : tie.Need-returns invariant_loop decreases_loop
 unfolding EndedOne
-returns c = closing_end _ _ _ _ _ _ _ c.before.loop-label.invariant c.loop-label-test.false
+returns c = closing_end _ _ _ _ _ _ _ c.loop-label.invariant c.loop-label-test.false
 
 pub close_all_spec : {M : Type 1} → statement M
 close_all_spec =

@@ -4,25 +4,25 @@ use Rattle.decoder_turns.proofs.step.Statement.{statement}
 use Rattle.decoder_turns.proofs.step.Tie as tie
 
 returns-in-Stuck : tie.Need-returns-in-Stuck
-returns-in-Stuck c = let v = c.before.before.before.before.turn in step_stuck _ _ _ _ _ _ v.result _ v.ensures c.enum_told-1.given.1 _
+returns-in-Stuck c = let v = c.turn in step_stuck _ _ _ _ _ _ v.result _ v.ensures c.in-Stuck.is _
 
 close_all-requires : tie.Need-close_all-requires
 close_all-requires c κs =
-    let v = c.before.before.before.before.before.before.turn in step_fits _ _ _ _ _ _ v.result _ v.ensures _ _ _ c.before.before.t-1.given.1
+    let v = c.turn in step_fits _ _ _ _ _ _ v.result _ v.ensures _ _ _ c.in-Goes.is
 
 returns-in-Stays : tie.Need-returns-in-Stays
 returns-in-Stays c =
-    let v = c.before.before.before.before.before.before.before.before.before.before.before.turn in
-    let q = c.before.before.before.before.close_all in
-    step_ends _ _ _ _ _ _ v.result _ v.ensures _ _ _ c.before.before.before.before.before.before.before.t-1.given.1 q.result _
-    q.ensures c.enum_told-in-Stays-1.given.1
+    let v = c.turn in
+    let q = c.close_all in
+    step_ends _ _ _ _ _ _ v.result _ v.ensures _ _ _ c.in-Goes.is q.result _
+    q.ensures c.in-Stays.is
 
 returns-in-Ends : tie.Need-returns-in-Ends
 returns-in-Ends c =
-    let v = c.before.before.before.before.before.before.before.before.before.before.before.before.turn in
-    let q = c.before.before.before.before.before.close_all in
-    step_goes _ _ _ _ _ _ v.result _ v.ensures _ _ _ c.before.before.before.before.before.before.before.before.t-1.given.1 q.result _
-    q.ensures _ _ c.before.u-1.given.1
+    let v = c.turn in
+    let q = c.close_all in
+    step_goes _ _ _ _ _ _ v.result _ v.ensures _ _ _ c.in-Goes.is q.result _
+    q.ensures _ _ c.in-Ends.is
 
 pub step_spec : {M : Type 1} → statement M
 step_spec =

@@ -27,7 +27,7 @@ put_each-requires : tie.Need-put_each-requires
 put_each-requires c κs =
     let st = c.before.before.before.before.before.before.before in
     let u = c.before.before.before.put_unrolled-full in
-    groups_rest _ _ _ _ _ st.args.out.now _ _ u.result u.new.1.1.1.1.1.0 (groups st) u.ensures.few u.auto.1.1.1.1.1.0
+    groups_rest _ _ _ _ _ st.args.out.now _ _ u.result u.new.out (groups st) u.ensures.few u.auto.out
 
 returns : tie.Need-returns
 returns c =

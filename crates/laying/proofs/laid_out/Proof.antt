@@ -28,7 +28,7 @@ put_payload-requires : tie.Need-put_payload-requires
 put_payload-requires c κs =
     let st = c.before.before.before.before.before.before.before.before.before.before.before.before in
     let h = c.before.before.before.before.put_head-at in
-    (st.requires.0, payload_asked _ _ _ _ st.requires.1 _ _ _ c.before.family.ensures h.ensures.begins h.auto.0)
+    (st.requires.0, payload_asked _ _ _ _ st.requires.1 _ _ _ c.before.family.ensures h.ensures.begins h.auto.out)
 
 shape_of-out : tie.Need-shape_of-out
 shape_of-out c = search rules

@@ -17,25 +17,25 @@ abbrev decreases_loop : tie.decreases-loop-n
 decreases_loop w₀ m e x t₀ k₀ rest₀ n₀ w t k rest n = n
 
 loop-n-init : tie.Need-loop-n-init invariant_loop decreases_loop
-loop-n-init c = (moved_none _ _ _ _ _ c.before.requires, search rules)
+loop-n-init c = (moved_none _ _ _ _ _ c.requires, search rules)
 
 step-requires : tie.Need-step-requires invariant_loop decreases_loop
-step-requires c κs = (c.before.before.loop-n.invariant.0.fits, let h = c.before.before.loop-n.invariant.1 in omega arith)
+step-requires c κs = (c.loop-n.invariant.0.fits, let h = c.loop-n.invariant.1 in omega arith)
 
 returns-in-Stuck : tie.Need-returns-in-Stuck invariant_loop decreases_loop
 returns-in-Stuck c =
-    let v = c.before.before.before.before.step in
-    let i = c.before.before.before.before.before.before.before.loop-n.invariant.0 in
-    stuck_on _ _ _ _ _ _ _ _ _ i _ v.result _ v.ensures _ (letters_left _ _ (omega arith)) c.enum_told-1.given.1
+    let v = c.step in
+    let i = c.loop-n.invariant.0 in
+    stuck_on _ _ _ _ _ _ _ _ _ i _ v.result _ v.ensures _ (letters_left _ _ (omega arith)) c.in-Stuck.is
 
 loop-n-preserved : tie.Need-loop-n-preserved invariant_loop decreases_loop
 loop-n-preserved c =
-    let v = c.before.before.before.before.before.step in
-    let i = c.before.before.before.before.before.before.before.before.loop-n.invariant.0 in
-    (goes_on_lem _ _ _ _ _ _ _ _ _ i _ v.result _ v.ensures _ (letters_left _ _ (omega arith)) _ _ c.before.u-1.given.1, omega arith)
+    let v = c.step in
+    let i = c.loop-n.invariant.0 in
+    (goes_on_lem _ _ _ _ _ _ _ _ _ i _ v.result _ v.ensures _ (letters_left _ _ (omega arith)) _ _ c.in-Goes.is, omega arith)
 
 returns : tie.Need-returns invariant_loop decreases_loop
-returns c = goes _ _ _ _ _ _ _ _ (moved_end _ _ _ _ _ _ _ _ _ (letters_none _ _ (omega arith)) c.before.loop-n.invariant.0)
+returns c = goes _ _ _ _ _ _ _ _ (moved_end _ _ _ _ _ _ _ _ _ (letters_none _ _ (omega arith)) c.loop-n.invariant.0)
 
 pub pair_spec : {M : Type 1} → statement M
 pair_spec =

@@ -23,39 +23,37 @@ decreases_loop payload m w₀ s₀ e₀ i₀ w s e i = m - i
 
 -- the letters that are read are the next
 next : (c : tie.After-half-x invariant_loop decreases_loop) →
-    let a = c.before.before.before.before.before.args in
-    let i = c.before.before.loop-i.i in
+    let a = c.args in
+    let i = c.loop-i.i in
     let v = payload_letters a.m a.payload.now in
     drop (2 * i) v ≡ letters_of 2 c.half-x.result ++ drop (2 * (i + 1)) v
 next c =
-    let st = c.before.before.before.before.before in
-    rw c.half-x.ensures (letters_next st.args.payload.now st.args.m st.requires.0.2 c.before.before.loop-i.i c.before.loop-i-test.true)
+    rw c.half-x.ensures (letters_next c.args.payload.now c.args.m c.requires.0.2 c.loop-i.i c.loop-i-test.true)
 
 loop-i-init : tie.Need-loop-i-init invariant_loop decreases_loop
-loop-i-init c = let p = c.before.before.requires in moved_none _ _ _ _ _ (fits_start _ _ p.0.0 p.0.1 p.1.0)
+loop-i-init c = let p = c.requires in moved_none _ _ _ _ _ (fits_start _ _ p.0.0 p.0.1 p.1.0)
 
 pair-requires : tie.Need-pair-requires invariant_loop decreases_loop
-pair-requires c κs = c.before.before.before.loop-i.invariant.fits
+pair-requires c κs = c.loop-i.invariant.fits
 
 returns-in-Stuck : tie.Need-returns-in-Stuck invariant_loop decreases_loop
 returns-in-Stuck c =
-    let st = c.before.before.before.before.before.before.before.before.before.before.before in
-    let v = c.before.before.before.before.pair in
-    let i = c.before.before.before.before.before.before.before.before.loop-i.invariant in
-    let q = next c.before.before.before.before.before.before in
-    answer_stuck _ _ _ (letters_count _ _ st.requires.0.2) _ (stuck_on _ _ _ _ _ _ _ _ _ i _ v.result _ v.ensures _ q c.enum_told-1.given.1)
+    let v = c.pair in
+    let i = c.loop-i.invariant in
+    let q = next c.before.before.before.before.before in
+    answer_stuck _ _ _ (letters_count _ _ c.requires.0.2) _ (stuck_on _ _ _ _ _ _ _ _ _ i _ v.result _ v.ensures _ q c.in-Stuck.is)
 
 loop-i-preserved : tie.Need-loop-i-preserved invariant_loop decreases_loop
 loop-i-preserved c =
-    let v = c.before.before.before.before.before.pair in
-    let i = c.before.before.before.before.before.before.before.before.before.loop-i.invariant in
-    let q = next c.before.before.before.before.before.before.before in
-    goes_on_lem _ _ _ _ _ _ _ _ _ i _ v.result _ v.ensures _ q _ _ c.before.t-1.given.1
+    let v = c.pair in
+    let i = c.loop-i.invariant in
+    let q = next c.before.before.before.before.before in
+    goes_on_lem _ _ _ _ _ _ _ _ _ i _ v.result _ v.ensures _ q _ _ c.in-Goes.is
 
 returns : tie.Need-returns invariant_loop decreases_loop
 returns c =
-    let p = c.before.before.before.before.requires in
-    answer_end _ _ _ (letters_count _ _ p.0.2) p.1.1 _ _ (2 * c.before.loop-i.i) _ c.before.loop-i.invariant (omega arith)
+    let p = c.requires in
+    answer_end _ _ _ (letters_count _ _ p.0.2) p.1.1 _ _ (2 * c.loop-i.i) _ c.loop-i.invariant (omega arith)
 
 pub run_spec : {M : Type 1} → statement M
 run_spec =

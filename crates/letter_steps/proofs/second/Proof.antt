@@ -15,10 +15,9 @@ returns-then-begun-here c = let b = c.before.last_begun-begun.ensures in low_sec
 
 returns : tie.Need-returns
 returns c =
-    let st = c.before.before.before.before.before.before.before.before.before.before.before in
     let b = c.before.before.before.before.before.before.last_begun-begun.ensures in
     let y = c.before.before.before.before.last_open-edge.ensures in
-    goes _ _ _ _ _ _ _ _ (moved _ _ _ _ st.requires second _ _ _ _ (omega arith, omega arith) y.0 y.1 refl c.before.before.close-t.ensures)
+    goes _ _ _ _ _ _ _ _ (moved _ _ _ _ c.requires second _ _ _ _ (omega arith, omega arith) y.0 y.1 refl c.before.before.close-t.ensures)
 
 pub second_spec : {M : Type 1} → statement M
 second_spec =

@@ -12,9 +12,8 @@ returns-then-depth-eq0 c = root_up _ _ _ _ _ c.if-depth-eq0.true
 
 returns : tie.Need-returns
 returns c =
-    let st = c.before.before.before.before.before.before.before.before in
     let y = c.before.before.before.before.last_tree-edge.ensures in
-    goes _ _ _ _ _ _ _ _ (moved _ _ _ _ st.requires up _ _ _ _ (omega arith) y.0 y.1 refl c.before.before.rise-t.ensures)
+    goes _ _ _ _ _ _ _ _ (moved _ _ _ _ c.requires up _ _ _ _ (omega arith) y.0 y.1 refl c.before.before.rise-t.ensures)
 
 pub up_spec : {M : Type 1} → statement M
 up_spec = tie.close (tie.spec returns-then-depth-eq0 (λ c κs. search rules) (λ c κs. search rules) (λ c. search rules) returns)

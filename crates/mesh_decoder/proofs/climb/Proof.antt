@@ -12,48 +12,48 @@ abbrev decreases_loop : tie.decreases-loop-t
 decreases_loop w₀ m t₀ w t = t.depth
 
 loop-t-init : tie.Need-loop-t-init invariant_loop decreases_loop
-loop-t-init c = climbed_none _ _ _ c.before.requires
+loop-t-init c = climbed_none _ _ _ c.requires
 
 ascend-requires : tie.Need-ascend-requires invariant_loop decreases_loop
-ascend-requires c κs = (c.before.before.before.loop-t.invariant.standing, omega arith)
+ascend-requires c κs = (c.loop-t.invariant.standing, omega arith)
 
 loop-t-smaller : tie.Need-loop-t-smaller invariant_loop decreases_loop
 loop-t-smaller c =
-    let v = c.before.before.before.before.before.ascend in
-    let i = c.before.before.before.before.before.before.before.before.before.loop-t in
-    (climbed_on _ _ _ _ _ i.invariant _ v.result _ v.ensures _ c.before.u-1.given.1).1
+    let v = c.ascend in
+    let i = c.loop-t in
+    (climbed_on _ _ _ _ _ i.invariant _ v.result _ v.ensures _ c.in-Climbs.is).1
 
 loop-t-preserved : tie.Need-loop-t-preserved invariant_loop decreases_loop
 loop-t-preserved c =
-    let v = c.before.before.before.before.before.ascend in
-    let i = c.before.before.before.before.before.before.before.before.before.loop-t in
-    (climbed_on _ _ _ _ _ i.invariant _ v.result _ v.ensures _ c.before.u-1.given.1).0
+    let v = c.ascend in
+    let i = c.loop-t in
+    (climbed_on _ _ _ _ _ i.invariant _ v.result _ v.ensures _ c.in-Climbs.is).0
 
 returns-in-Reads : tie.Need-returns-in-Reads invariant_loop decreases_loop
 returns-in-Reads c =
-    let v = c.before.before.before.before.before.ascend in
-    let i = c.before.before.before.before.before.before.before.before.before.loop-t in
-    climbed_out _ _ _ _ _ i.invariant _ v.result _ 0 v.ensures _ c.before.u-in-Reads-1.given.1 (reads_any _ _ _ _ _ _)
+    let v = c.ascend in
+    let i = c.loop-t in
+    climbed_out _ _ _ _ _ i.invariant _ v.result _ 0 v.ensures _ c.in-Reads.is (reads_any _ _ _ _ _ _)
 
 returns-in-Whole : tie.Need-returns-in-Whole invariant_loop decreases_loop
 returns-in-Whole c =
-    let v = c.before.before.before.before.ascend in
-    let i = c.before.before.before.before.before.before.before.before.loop-t in
-    climbed_out _ _ _ _ _ i.invariant _ v.result _ 0 v.ensures _ c.enum_told-1.given.1 (whole_any _ _ _ _ _)
+    let v = c.ascend in
+    let i = c.loop-t in
+    climbed_out _ _ _ _ _ i.invariant _ v.result _ 0 v.ensures _ c.in-Whole.is (whole_any _ _ _ _ _)
 
 returns-in-Stuck : tie.Need-returns-in-Stuck invariant_loop decreases_loop
 returns-in-Stuck c =
-    let v = c.before.before.before.before.ascend in
-    let i = c.before.before.before.before.before.before.before.before.loop-t in
-    climbed_out _ _ _ _ _ i.invariant _ v.result _ 0 v.ensures _ c.enum_told-in-Stuck-1.given.1 (stuck_any _ _ _ _ _)
+    let v = c.ascend in
+    let i = c.loop-t in
+    climbed_out _ _ _ _ _ i.invariant _ v.result _ 0 v.ensures _ c.in-Stuck.is (stuck_any _ _ _ _ _)
 
 finish-requires : tie.Need-finish-requires invariant_loop decreases_loop
-finish-requires c κs = (c.before.before.before.loop-t.invariant.standing, omega arith)
+finish-requires c κs = (c.loop-t.invariant.standing, omega arith)
 
 returns : tie.Need-returns invariant_loop decreases_loop
 returns c =
-    let v = c.before.before.finish in
-    let i = c.before.before.before.before.before.before.loop-t in
+    let v = c.finish in
+    let i = c.loop-t in
     climbed_out _ _ _ _ _ i.invariant _ v.result _ 0 v.ensures _ refl (λ x. x)
 
 pub climb_spec : {M : Type 1} → statement M

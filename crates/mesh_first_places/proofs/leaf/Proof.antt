@@ -13,10 +13,10 @@ offset_bounds-w-other : tie.Need-offset_bounds-w-other
 offset_bounds-w-other c = let s = c.before.before.before in let a = s.requires.0 in let r = first_ranges _ _ _ _ a in let m = a.held.view.room in let l = first_over _ _ _ _ a in let e = c.other.ensures in omega (arith, r.few_darts)
 
 bounds-w-other : tie.Need-bounds-w-other
-bounds-w-other c = let s = c.before.before.before.before in let a = s.requires.0 in let r = first_ranges _ _ _ _ a in let m = a.held.view.room in let l = first_over _ _ _ _ a in let e = c.before.other.ensures in omega arith
+bounds-w-other c = let s = c.before.before.before.before in let a = s.requires.0 in let r = first_ranges _ _ _ _ a in let m = a.held.view.room in let l = first_over _ _ _ _ a in let e = c.other.ensures in omega arith
 
 returns-then-w-other-lt-SEEN : tie.Need-returns-then-w-other-lt-SEEN
-returns-then-w-other-lt-SEEN c = let s = c.before.before.before.before.before in first_unfit _ _ _ _ s.requires.0 s.requires.1 _ c.before.before.other.ensures c.if-w-other-lt-SEEN.true
+returns-then-w-other-lt-SEEN c = let s = c.before.before.before.before.before in first_unfit _ _ _ _ s.requires.0 s.requires.1 _ c.other.ensures c.if-w-other-lt-SEEN.true
 
 put_edge-requires : tie.Need-put_edge-requires
 put_edge-requires c κs = let s = c.before.before.before.before.before.before in let a = s.requires.0 in let r = first_ranges _ _ _ _ a in let m = a.held.view.room in (r.few_darts, m, first_in _ _ _ _ a, r.edges, r.waiting)
@@ -31,13 +31,13 @@ overflow_sub-faces : tie.Need-overflow_sub-faces
 overflow_sub-faces c = let s = c.before.before.before.before.before.before.before.before.before.before in let a = s.requires.0 in let r = first_ranges _ _ _ _ a in let m = a.held.view.room in omega (arith, r.some_face)
 
 second_place-requires : tie.Need-second_place-requires
-second_place-requires c κs = let s = c.before.before.before.before.before.before.before.before.before.before in let a = s.requires.0 in let r = first_ranges _ _ _ _ a in let m = a.held.view.room in let p = c.before.before.before.put_edge in let big = c.before.before.before.before.before.if-w-other-lt-SEEN.false in first_goes_on _ _ _ _ a _ c.before.before.before.before.before.before.before.other.ensures _ p.auto.0 (omega arith) p.ensures
+second_place-requires c κs = let s = c.before.before.before.before.before.before.before.before.before.before in let a = s.requires.0 in let r = first_ranges _ _ _ _ a in let m = a.held.view.room in let p = c.put_edge in let big = c.if-w-other-lt-SEEN.false in first_goes_on _ _ _ _ a _ c.other.ensures _ p.auto.w (omega arith) p.ensures
 
 shape_of-w : tie.Need-shape_of-w
-shape_of-w c = c.before.before.second_place.auto.w ∙ c.before.before.before.before.before.before.put_edge.auto.w
+shape_of-w c = c.second_place.auto.w ∙ c.put_edge.auto.w
 
 returns : tie.Need-returns
-returns c = let s = c.before.before.before.before.before.before.before.before.before.before.before.before.before in let a = s.requires.0 in let r = first_ranges _ _ _ _ a in let m = a.held.view.room in stepped_since _ _ _ _ _ _ _ _ refl (omega arith) c.before.before.before.before.before.before.put_edge.auto.w _ _ c.before.before.second_place.ensures
+returns c = let s = c.before.before.before.before.before.before.before.before.before.before.before.before.before in let a = s.requires.0 in let r = first_ranges _ _ _ _ a in let m = a.held.view.room in stepped_since _ _ _ _ _ _ _ _ refl (omega arith) c.put_edge.auto.w _ _ c.second_place.ensures
 
 pub leaf_spec : {M : Type 1} → statement M
 leaf_spec =

@@ -1,12 +1,17 @@
-use borrow.Author.Tests.{eqb-true}
 use Rattle.mesh_first_places.proofs.Faces.{faced, unfaced, next_below}
 use Rattle.trace_steps.proofs.Grounds.{few}
 use native.Mathlib.Omega.{arith}
 use lib.ListN.{length, length-set}
 use mathlib.Core.Path.{sym, subst}
-use mathlib.Core.Logic.{inl, inr, ⊎_elim}
+use mathlib.Core.Logic.{inl, inr}
 use Prim.Native.Nat.{ℕ, ◌<◌}
 use Rattle.mesh_first_places.proofs.mark_face.Statement.{statement}
+use Rattle.mesh_first_places.proofs.mark_face.Lts.{
+  then-z-o-via-then-z-o,
+  then-z-o-via-else-z-o+then-o-x,
+  then-z-o-via-else-z-o+else-o-x+then-x-y,
+  then-z-o-via-else-z-o+else-o-x+else-x-y+then-y-o,
+}
 use Rattle.mesh_first_places.proofs.mark_face.Tie as tie
 
 x_in : (s : tie.Start) → s.args.x < length s.args.order.now
@@ -20,9 +25,14 @@ step-z-requires c κs = let s = c.before.before in (s.requires.0.count, y_in s)
 
 returns-then-z-o : tie.Need-returns-then-z-o
 returns-then-z-o c =
-    let s = c.before.before.before.before in
-    unfaced _ _ _ _ _ s.requires.2 s.requires.3 c.before.step-z.ensures (⊎_elim (λ u. inl u.taken) (λ v. inr (⊎_elim (λ u. inl (eqb-true _ _ u.1.taken))
-    (λ v. inr (⊎_elim (λ u. inl (eqb-true _ _ u.2.taken)) (λ u. inr (eqb-true _ _ u.3.taken)) v)) v)) c.then-z-o.branch) _
+    unfaced _ _ _ _ _ c.requires.2 c.requires.3 c.step-z.ensures
+    (elim c.then-z-o.branch [
+      | then-z-o-via-then-z-o u ↦ inl u.if-z-o.true
+      | then-z-o-via-else-z-o+then-o-x u ↦ inr (inl u.if-o-x.true)
+      | then-z-o-via-else-z-o+else-o-x+then-x-y u ↦ inr (inr (inl u.if-x-y.true))
+      | then-z-o-via-else-z-o+else-o-x+else-x-y+then-y-o u ↦ inr (inr (inr u.if-y-o.true))
+    ])
+    _
 
 offset_bounds-w-o : tie.Need-offset_bounds-w-o
 offset_bounds-w-o c = let s = c.before.before.before.before.before.before.before in let f = few s.requires.0 in omega arith
@@ -46,7 +56,7 @@ shape_of-w : tie.Need-shape_of-w
 shape_of-w c = simp length-set
 
 returns : tie.Need-returns
-returns c = let s = c.before.before.before.before.before.before.before in faced _ _ _ _ _ s.requires.2 s.requires.3 c.before.before.before.before.step-z.ensures c.before.before.before.if-z-o.false c.before.before.if-o-x.false c.before.if-x-y.false c.if-y-o.false _
+returns c = let s = c.before.before.before.before.before.before.before in faced _ _ _ _ _ s.requires.2 s.requires.3 c.step-z.ensures c.if-z-o.false c.if-o-x.false c.if-x-y.false c.if-y-o.false _
 
 pub mark_face_spec : {M : Type 1} → statement M
 mark_face_spec =

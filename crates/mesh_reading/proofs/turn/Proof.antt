@@ -5,16 +5,13 @@ use Rattle.mesh_reading.proofs.turn.Statement.{statement}
 use Rattle.mesh_reading.proofs.turn.Tie as tie
 
 slice_bounds-walk-end-2 : tie.Need-slice_bounds-walk-end-2
-slice_bounds-walk-end-2 c = let st = c.before.before.before in let p = st.requires in sym (order_long _ st.args.w.now _ p.0 p.1 p.2 p.3)
+slice_bounds-walk-end-2 c = let p = c.requires in sym (order_long _ c.args.w.now _ p.0 p.1 p.2 p.3)
 
 walk-requires : tie.Need-walk-requires
-walk-requires c κs = let st = c.before.before.before.before in let p = st.requires in mesh_asked _ st.args.w.now _ p.0 p.1 p.2 p.3
+walk-requires c κs = let p = c.requires in mesh_asked _ c.args.w.now _ p.0 p.1 p.2 p.3
 
 returns : tie.Need-returns
-returns c =
-    let k = c.before.before.before.before.before.before.before.before in
-    let p = k.before.before.before.requires in
-    turned _ _ _ p.0 p.1 p.2 p.3 _ k.walk.ensures _ c.before.before.copy_front.ensures
+returns c = let p = c.requires in turned _ _ _ p.0 p.1 p.2 p.3 _ c.walk.ensures _ c.copy_front.ensures
 
 pub turn_spec : {M : Type 1} → statement M
 turn_spec =

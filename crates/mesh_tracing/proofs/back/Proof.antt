@@ -3,9 +3,9 @@ use Rattle.mesh_second_places.proofs.Turns.{ending}
 use Rattle.mesh_tracing.proofs.Homes.{back_at}
 use Rattle.mesh_second_places.proofs.Seconds.{second_ranges, second_in, second_over, second_index}
 use native.Mathlib.Omega.{arith}
-use mathlib.Core.Logic.{inl, inr, ⊎_elim}
-use borrow.Author.Tests.{leb-true}
+use mathlib.Core.Logic.{inl, inr}
 use Rattle.mesh_tracing.proofs.back.Statement.{statement}
+use Rattle.mesh_tracing.proofs.back.Lts.{then-mark-eq0-via-then-mark-eq0, then-mark-eq0-via-else-mark-eq0+then-mark-ge-SEEN}
 use Rattle.mesh_tracing.proofs.back.Tie as tie
 
 overflow_sub-halves : tie.Need-overflow_sub-halves
@@ -60,25 +60,30 @@ offset_bounds-w-other : tie.Need-offset_bounds-w-other
 offset_bounds-w-other c = let s = c.before.before.before.before.before.before.before in let a = back_at _ _ _ s.requires.0 s.requires.1 in let r = second_ranges _ _ _ _ _ _ a in let m = a.held.view.room in let l = second_over _ _ _ _ _ _ a in let e = c.other.ensures in omega (arith, r.few_darts)
 
 bounds-w-other : tie.Need-bounds-w-other
-bounds-w-other c = let s = c.before.before.before.before.before.before.before.before in let a = back_at _ _ _ s.requires.0 s.requires.1 in let r = second_ranges _ _ _ _ _ _ a in let m = a.held.view.room in let l = second_over _ _ _ _ _ _ a in let e = c.before.other.ensures in omega arith
+bounds-w-other c = let s = c.before.before.before.before.before.before.before.before in let a = back_at _ _ _ s.requires.0 s.requires.1 in let r = second_ranges _ _ _ _ _ _ a in let m = a.held.view.room in let l = second_over _ _ _ _ _ _ a in let e = c.other.ensures in omega arith
 
 second_place-requires : tie.Need-second_place-requires
-second_place-requires c κs = let s = c.before.before.before.before.before.before.before.before.before.before in let a = back_at _ _ _ s.requires.0 s.requires.1 in let r = second_ranges _ _ _ _ _ _ a in let m = a.held.view.room in half_tells _ _ _ _ _ a _ c.before.before.before.other.ensures (⊎_elim (λ u. inl u.taken) (λ u. inr (leb-true _ _ u.1.taken)) c.before.then-mark-eq0.branch)
+second_place-requires c κs =
+    half_tells _ _ _ _ _ (back_at _ _ _ c.requires.0 c.requires.1) _ c.other.ensures
+    (elim c.then-mark-eq0.branch [
+      | then-mark-eq0-via-then-mark-eq0 u ↦ inl u.if-mark-eq0.true
+      | then-mark-eq0-via-else-mark-eq0+then-mark-ge-SEEN u ↦ inr u.if-mark-ge-SEEN.true
+    ])
 
 shape_of-w-then-mark-eq0 : tie.Need-shape_of-w-then-mark-eq0
-shape_of-w-then-mark-eq0 c = c.before.before.second_place.auto.w
+shape_of-w-then-mark-eq0 c = c.second_place.auto.w
 
 returns-then-mark-eq0 : tie.Need-returns-then-mark-eq0
-returns-then-mark-eq0 c = c.before.before.second_place.ensures
+returns-then-mark-eq0 c = c.second_place.ensures
 
 end_edge-requires : tie.Need-end_edge-requires
-end_edge-requires c κs = let s = c.before.before.before.before.before.before.before.before.before.before.before in let a = back_at _ _ _ s.requires.0 s.requires.1 in let r = second_ranges _ _ _ _ _ _ a in let m = a.held.view.room in (a, ending s.args.w.now _ _ c.before.before.before.before.other.ensures c.before.before.if-mark-eq0.false c.before.if-mark-ge-SEEN.false)
+end_edge-requires c κs = let s = c.before.before.before.before.before.before.before.before.before.before.before in let a = back_at _ _ _ s.requires.0 s.requires.1 in let r = second_ranges _ _ _ _ _ _ a in let m = a.held.view.room in (a, ending s.args.w.now _ _ c.other.ensures c.if-mark-eq0.false c.if-mark-ge-SEEN.false)
 
 shape_of-w : tie.Need-shape_of-w
-shape_of-w c = c.before.before.end_edge.auto.w
+shape_of-w c = c.end_edge.auto.w
 
 returns : tie.Need-returns
-returns c = c.before.before.end_edge.ensures
+returns c = c.end_edge.ensures
 
 pub back_spec : {M : Type 1} → statement M
 back_spec =

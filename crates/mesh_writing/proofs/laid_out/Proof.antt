@@ -11,7 +11,7 @@ put_payload-requires : tie.Need-put_payload-requires
 put_payload-requires c κs =
     let h = c.before.before.before.put_head-at in
     let st = c.before.before.before.before.before.before.before.before in
-    let (begins, fits) = payload_asked _ _ _ st.args.out.now st.requires.1 st.requires.3 _ h.new.0 h.ensures.begins h.auto.0 in
+    let (begins, fits) = payload_asked _ _ _ st.args.out.now st.requires.1 st.requires.3 _ h.new.out h.ensures.begins h.auto.out in
     (st.requires.0, st.requires.1, begins, fits)
 
 returns : tie.Need-returns

@@ -40,21 +40,17 @@ overflow_cast-total c = let t = (total_is c.before).1 in omega arith
 
 laid_out-requires : tie.Need-laid_out-requires
 laid_out-requires c κs =
-    let g = c.before.before.before in
-    let st = g.before.before.before.before.before.before.before.before.before.before in
-    let (e, l) = total_is g in
-    let h = c.before.if-out-total.false in
-    (st.requires.0, ready _ _ _ _ st.requires.1 g.before.before.before.coded-s.ensures, e, omega arith)
+    let (e, l) = total_is c.before.before in
+    let h = c.if-out-total.false in
+    (c.requires.0, ready _ _ _ _ c.requires.1 c.coded-s.ensures, e, omega arith)
 
 overflow_cast-result : tie.Need-overflow_cast-result
 overflow_cast-result c = let t = (total_is c.before.before.before.before.before).1 in omega arith
 
 returns : tie.Need-returns
 returns c =
-    let g = c.before.before.before.before.before.before in
-    let st = g.before.before.before.before.before.before.before.before.before.before in
-    recorded _ _ _ _ st.requires.1 g.before.before.before.coded-s.ensures _ _ _ (total_is g).0
-    c.before.before.before.before.if-out-total.false _ c.before.before.laid_out.ensures
+    recorded _ _ _ _ c.requires.1 c.coded-s.ensures _ _ _ (total_is c.before.before.before.before.before).0
+    c.if-out-total.false _ c.laid_out.ensures
 
 pub write_spec : {M : Type 1} → statement M
 write_spec =

@@ -6,9 +6,6 @@ use Rattle.numbering.proofs.Areas.{store_ground, store_below}
 use borrow.Author.Rules.{rules}
 use Rattle.numbering.proofs.go_down.Statement.{statement}
 use Rattle.numbering.proofs.go_down.Tie as tie
-use Rattle.numbering.proofs.go_down.Reads as reads
-use Rattle.numbering.proofs.go_down.Lts as lts
-use Rattle.trace_steps.proofs.round.Reads as round-reads
 
 -- src/lib.rt:29:16
 offset_bounds-order-o : tie.Need-offset_bounds-order-o

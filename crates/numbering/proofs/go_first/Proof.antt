@@ -5,8 +5,6 @@ use Rattle.model.specs.Map.{next}
 use borrow.Author.Rules.{rules}
 use Rattle.numbering.proofs.go_first.Statement.{statement}
 use Rattle.numbering.proofs.go_first.Tie as tie
-use Rattle.numbering.proofs.go_first.Reads as reads
-use Rattle.numbering.proofs.go_first.Lts as lts
 
 -- src/lib.rt:49:16
 offset_bounds-order-d : tie.Need-offset_bounds-order-d

@@ -4,8 +4,6 @@ use Rattle.model.specs.Map.{next}
 use borrow.Author.Rules.{rules}
 use Rattle.numbering.proofs.go_second.Statement.{statement}
 use Rattle.numbering.proofs.go_second.Tie as tie
-use Rattle.numbering.proofs.go_second.Reads as reads
-use Rattle.numbering.proofs.go_second.Lts as lts
 
 -- src/lib.rt:86:16
 offset_bounds-order-d : tie.Need-offset_bounds-order-d

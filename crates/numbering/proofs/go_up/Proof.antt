@@ -4,8 +4,6 @@ use Rattle.model.specs.Map.{next}
 use borrow.Author.Rules.{rules}
 use Rattle.numbering.proofs.go_up.Statement.{statement}
 use Rattle.numbering.proofs.go_up.Tie as tie
-use Rattle.numbering.proofs.go_up.Reads as reads
-use Rattle.numbering.proofs.go_up.Lts as lts
 
 -- src/lib.rt:67:16
 offset_bounds-order-o : tie.Need-offset_bounds-order-o

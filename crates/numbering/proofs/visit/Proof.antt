@@ -10,68 +10,66 @@ use borrow.Author.Rules.{rules}
 use Rattle.numbering.proofs.visit.Statement.{statement}
 use Rattle.numbering.proofs.visit.Tie as tie
 
--- where the mark of the opposite is read
-abbrev start : tie.After-slice_known-2-1 → tie.Start
-start a = a.before.before.before.before
+-- where the opposite is known
+numbering : (a : tie.After-other-o) → Numbering a.args.order.now a.args.root a.args.i a.args.w.now a.args.s
+numbering a = a.requires.0
 
-numbering : (a : tie.After-slice_known-2-1) → let s = start a in Numbering s.args.order.now s.args.root s.args.i s.args.w.now s.args.s
-numbering a = (start a).requires.0
+within : (a : tie.After-other-o) → a.args.i < length a.args.order.now
+within a = a.requires.1
 
-within : (a : tie.After-slice_known-2-1) → (start a).args.i < length (start a).args.order.now
-within a = (start a).requires.1
-
-over : (a : tie.After-slice_known-2-1) → a.before.other.result ≡ opposite (start a).args.s.dart
-over a = a.before.other.ensures
+over : (a : tie.After-other-o) → a.other-o.result ≡ opposite a.args.s.dart
+over a = a.other-o.ensures
 
 other-o-requires : tie.Need-other-o-requires
 other-o-requires c κs =
-    let p = c.before.before.requires in
+    let p = c.requires in
     let r = stepping.placed _ _ _ _ _ p.0 p.1 _ refl in
     let f = few p.0.ground in
     omega (arith, r.dart)
 
 offset_bounds-w-o : tie.Need-offset_bounds-w-o
 offset_bounds-w-o c =
-    let p = c.before.before.before.requires in
+    let p = c.requires in
     let r = stepping.over_in _ _ _ _ _ p.0 p.1 _ c.other-o.ensures in
     let f = few p.0.ground in
     omega arith
 
 bounds-w-o : tie.Need-bounds-w-o
 bounds-w-o c =
-    let r = stepping.over_in _ _ _ _ _ (numbering c) (within c) _ (over c) in
-    let m = (numbering c).ground.room in
+    let a = c.before in
+    let r = stepping.over_in _ _ _ _ _ (numbering a) (within a) _ (over a) in
+    let m = (numbering a).ground.room in
     omega arith
 
 go_down-requires : tie.Need-go_down-requires
 go_down-requires c κs =
-    let a = c.before.before in (
+    let a = c.before.before.before in (
       (numbering a).ground,
       stepping.placed _ _ _ _ _ (numbering a) (within a) _ (over a),
       stepping.over_in _ _ _ _ _ (numbering a) (within a) _ (over a),
-      stepping.blank _ _ _ _ _ (numbering a) (within a) _ (over a) c.before.if-mark-eq0.true,
+      stepping.blank _ _ _ _ _ (numbering a) (within a) _ (over a) c.if-mark-eq0.true,
     )
 
 returns-then-mark-eq0 : tie.Need-returns-then-mark-eq0
 returns-then-mark-eq0 c =
-    let a = c.before.before.before.before.before in
-    stepping.moved_down _ _ _ _ _ (numbering a) (within a) _ (over a) c.before.before.before.before.if-mark-eq0.true _ _ c.before.before.go_down.ensures
+    let a = c.before.before.before.before.before.before in
+    stepping.moved_down _ _ _ _ _ (numbering a) (within a) _ (over a) c.if-mark-eq0.true _ _ c.go_down.ensures
 
 go_first-requires : tie.Need-go_first-requires
-go_first-requires c κs = let a = c.before.before.before in ((numbering a).ground, stepping.placed _ _ _ _ _ (numbering a) (within a) _ (over a))
+go_first-requires c κs = let a = c.before.before.before.before in ((numbering a).ground, stepping.placed _ _ _ _ _ (numbering a) (within a) _ (over a))
 
 returns-then-mark-ge-SEEN : tie.Need-returns-then-mark-ge-SEEN
 returns-then-mark-ge-SEEN c =
-    let a = c.before.before.before.before.before.before in
-    let v = c.before.before.go_first in
-    let t = c.before.before.before.before.if-mark-ge-SEEN.true in
+    let a = c.before.before.before.before.before.before.before in
+    let v = c.go_first in
+    let t = c.if-mark-ge-SEEN.true in
     stepping.moved_first _ _ _ _ _ (numbering a) (within a) _ (over a) (omega arith) _ _ v.ensures.0 v.ensures.1
 
 go_up-requires : tie.Need-go_up-requires
 go_up-requires c κs =
-    let a = c.before.before.before.before in
-    let lo = c.before.if-mark-ge-DOWN.true in
-    let hi = c.before.before.if-mark-ge-SEEN.false in (
+    let a = c.before.before.before.before.before in
+    let lo = c.if-mark-ge-DOWN.true in
+    let hi = c.if-mark-ge-SEEN.false in (
       (numbering a).ground,
       stepping.placed _ _ _ _ _ (numbering a) (within a) _ (over a),
       stepping.over_in _ _ _ _ _ (numbering a) (within a) _ (over a),
@@ -80,25 +78,25 @@ go_up-requires c κs =
 
 returns-then-mark-ge-DOWN : tie.Need-returns-then-mark-ge-DOWN
 returns-then-mark-ge-DOWN c =
-    let a = c.before.before.before.before.before.before.before in
-    let v = c.before.before.go_up in
-    let lo = c.before.before.before.before.if-mark-ge-DOWN.true in
-    let hi = c.before.before.before.before.before.if-mark-ge-SEEN.false in
+    let a = c.before.before.before.before.before.before.before.before in
+    let v = c.go_up in
+    let lo = c.if-mark-ge-DOWN.true in
+    let hi = c.if-mark-ge-SEEN.false in
     stepping.moved_up _ _ _ _ _ (numbering a) (within a) _ (over a) (omega arith) (omega arith) _ _ v.ensures.0 v.ensures.1
 
 overflow_sub-mark-2 : tie.Need-overflow_sub-mark-2
 overflow_sub-mark-2 c =
-    let a = c.before.before.before.before in
-    let hi = c.before.if-mark-ge-DOWN.false in
-    let no = c.before.before.before.if-mark-eq0.false in
+    let a = c.before.before.before.before.before in
+    let hi = c.if-mark-ge-DOWN.false in
+    let no = c.if-mark-eq0.false in
     let r = stepping.end_range _ _ _ _ _ (numbering a) (within a) _ (over a) (omega arith) (omega arith) in
     omega (arith, r.0)
 
 go_second-requires : tie.Need-go_second-requires
 go_second-requires c κs =
-    let a = c.before.before.before.before in
-    let hi = c.before.if-mark-ge-DOWN.false in
-    let no = c.before.before.before.if-mark-eq0.false in (
+    let a = c.before.before.before.before.before in
+    let hi = c.if-mark-ge-DOWN.false in
+    let no = c.if-mark-eq0.false in (
       (numbering a).ground,
       stepping.placed _ _ _ _ _ (numbering a) (within a) _ (over a),
       (stepping.end_range _ _ _ _ _ (numbering a) (within a) _ (over a) (omega arith) (omega arith)).1,
@@ -106,10 +104,10 @@ go_second-requires c κs =
 
 returns : tie.Need-returns
 returns c =
-    let a = c.before.before.before.before.before.before.before in
-    let v = c.before.before.go_second in
-    let hi = c.before.before.before.before.if-mark-ge-DOWN.false in
-    let no = c.before.before.before.before.before.before.if-mark-eq0.false in
+    let a = c.before.before.before.before.before.before.before.before in
+    let v = c.go_second in
+    let hi = c.if-mark-ge-DOWN.false in
+    let no = c.if-mark-eq0.false in
     stepping.moved_second _ _ _ _ _ (numbering a) (within a) _ (over a) (omega arith) (omega arith) _ _ v.ensures.0 v.ensures.1
 
 pub visit_spec : {M : Type 1} → statement M

@@ -70,8 +70,8 @@ loop-x-preserved c =
     rw c.step-x-in-loop-x.ensures (
       (along_faces m).bound at.x at.invariant.0,
       elim c.before.if-e-least.branch [
-        then-e-least u ↦ rw (u.least-is, e) (along_low _ _ _ at.invariant.1 away (omega (arith, e, u.if-e-least.true)))
-      | else-e-least u ↦ rw u.least-is (along_keep _ _ _ at.invariant.1 away (omega (arith, e, u.if-e-least.false)))
+        | then-e-least u ↦ rw (u.least-is, e) (along_low _ _ _ at.invariant.1 away (omega (arith, e, u.if-e-least.true)))
+        | else-e-least u ↦ rw u.least-is (along_keep _ _ _ at.invariant.1 away (omega (arith, e, u.if-e-least.false)))
       ],
     )
 

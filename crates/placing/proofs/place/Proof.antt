@@ -1,30 +1,26 @@
 use native.Mathlib.Omega.{arith}
-use mathlib.Core.Path.{sym, ◌∙◌}
 use Rattle.placing.proofs.Storing.{placed_refused, placed_there, placed_new, new_fits}
 use borrow.Author.Rules.{rules}
 use Rattle.placing.proofs.place.Statement.{statement}
 use Rattle.placing.proofs.place.Tie as tie
 
 put-requires : tie.Need-put-requires
-put-requires c κs = new_fits _ _ _ _ (sym c.before.before.n-in-New-1.given.1 ∙ c.before.before.before.before.spot_of.ensures)
+put-requires c κs = new_fits _ _ _ _ c.in-New.ensures
 
 overflow_add-end : tie.Need-overflow_add-end
 overflow_add-end c =
-    let k = c.before.before.before.before.before in
-    let st = k.before.before.before.before.before.before in
-    let f = new_fits st.args.«record».now st.args.shelf.now st.args.used _ (sym k.n-in-New-1.given.1 ∙ k.before.before.spot_of.ensures) in
+    let f = new_fits c.args.«record».now c.args.shelf.now c.args.used _ c.in-New.ensures in
     omega arith
 
 returns-in-Refused : tie.Need-returns-in-Refused
-returns-in-Refused c = placed_refused _ _ _ _ (sym c.before.number-1.given.1 ∙ c.before.before.before.spot_of.ensures)
+returns-in-Refused c = placed_refused _ _ _ _ c.in-Refused.ensures
 
 returns-in-There : tie.Need-returns-in-There
-returns-in-There c = placed_there _ _ _ _ (sym c.before.n-1.given.1 ∙ c.before.before.before.spot_of.ensures)
+returns-in-There c = placed_there _ _ _ _ c.in-There.ensures
 
 returns-in-New : tie.Need-returns-in-New
 returns-in-New c =
-    let k = c.before.before.before.before.before in
-    placed_new _ _ _ _ (sym k.n-in-New-1.given.1 ∙ k.before.before.spot_of.ensures) _ c.before.before.put.ensures
+    placed_new _ _ _ _ c.in-New.ensures _ c.put.ensures
 
 pub place_spec : {M : Type 1} → statement M
 place_spec =

@@ -1,5 +1,4 @@
 use native.Mathlib.Omega.{arith}
-use mathlib.Core.Path.{sym, ◌∙◌}
 use Prim.Native.Nat.{◌≤◌}
 use lib.ListN.{length}
 use Rattle.placing.proofs.Storing.{spot_over, spot_broken, spot_there, spot_full, spot_new}
@@ -7,8 +6,8 @@ use borrow.Author.Rules.{rules}
 use Rattle.placing.proofs.spot_of.Statement.{statement}
 use Rattle.placing.proofs.spot_of.Tie as tie
 
--- past the search the used length is within the shelf
-within : (c : tie.After-search) → let a = c.before.before.before.before.before.args in a.used ≤ length a.shelf.now
+-- past the first test the used length is within the shelf
+within : (c : tie.Else-used-shelf) → c.args.used ≤ length c.args.shelf.now
 within c = omega arith
 
 returns-then-used-shelf : tie.Need-returns-then-used-shelf
@@ -16,23 +15,19 @@ returns-then-used-shelf c = spot_over _ _ _ (omega arith)
 
 returns-then-shelf-used : tie.Need-returns-then-shelf-used
 returns-then-shelf-used c =
-    let k = c.before.before.before.before in
-    spot_full _ _ _ (within k) _ _ (sym c.before.before.n-in-Missing-1.given.1 ∙ k.search.ensures) (omega arith)
+    spot_full _ _ _ (within c.before.before.before.before) _ _ c.in-Missing.ensures (omega arith)
 
 returns-in-Broken : tie.Need-returns-in-Broken
 returns-in-Broken c =
-    let k = c.before.before in
-    spot_broken _ _ _ (within k) (sym c.enum_told-1.given.1 ∙ k.search.ensures)
+    spot_broken _ _ _ (within c.before.before.before) c.in-Broken.ensures
 
 returns-in-There : tie.Need-returns-in-There
 returns-in-There c =
-    let k = c.before.before.before in
-    spot_there _ _ _ (within k) _ _ (sym c.before.n-1.given.1 ∙ k.search.ensures)
+    spot_there _ _ _ (within c.before.before.before) _ _ c.in-There.ensures
 
 returns-else-shelf-used : tie.Need-returns-else-shelf-used
 returns-else-shelf-used c =
-    let k = c.before.before.before.before in
-    spot_new _ _ _ (within k) _ _ (sym c.before.before.n-in-Missing-1.given.1 ∙ k.search.ensures) (omega arith)
+    spot_new _ _ _ (within c.before.before.before.before) _ _ c.in-Missing.ensures (omega arith)
 
 pub spot_of_spec : {M : Type 1} → statement M
 spot_of_spec =

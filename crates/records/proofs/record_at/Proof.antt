@@ -18,7 +18,7 @@ returns-then-length-eq0 c = let l = c.before.before.length_at-length.ensures in
     let s = c.before.before.before.before.args.bytes in
     record {
       bytes_are = part_none _ _ _ l c.before.if-length-eq0.true;
-      begins = ap (λ (o : ℕ). (s.ptr.0, o)) (begins_none _ _ _ l c.before.if-length-eq0.true s.ptr.1);
+      begins = ap (λ (o : ℕ). (s.ref_ptr.0, o)) (begins_none _ _ _ l c.before.if-length-eq0.true s.ref_ptr.1);
     }
 
 overflow_add-end : tie.Need-overflow_add-end
@@ -38,7 +38,7 @@ returns c = let l = c.before.before.length_at-length.ensures in
     let s = c.before.before.before.before.args.bytes in
     record {
       bytes_are = part_is _ _ _ l c.before.if-length-eq0.false;
-      begins = ap (λ (o : ℕ). (s.ptr.0, o)) (begins_there _ _ _ l c.before.if-length-eq0.false s.ptr.1);
+      begins = ap (λ (o : ℕ). (s.ref_ptr.0, o)) (begins_there _ _ _ l c.before.if-length-eq0.false s.ref_ptr.1);
     }
 
 pub record_at_spec : {M : Type 1} → statement M

@@ -1,6 +1,5 @@
 use native.Mathlib.Omega.{arith}
 use mathlib.Core.Path.{◌≡◌, sym, ◌∙◌}
-use mathlib.Core.Logic.{⊎_elim}
 use Prim.Native.Nat.{◌+◌, ◌-◌, ◌≤◌}
 use lib.ListN.{length, drop}
 use Rattle.searching.specs.Search.{search_of}
@@ -8,6 +7,7 @@ use Rattle.records.proofs.Stands.{fits_here}
 use Rattle.searching.proofs.Turn.{further, part_length, search_begins, search_passes, search_goes_on, search_finds, search_stops, search_ends}
 use borrow.Author.Rules.{rules}
 use Rattle.searching.proofs.search.Statement.{statement}
+use Rattle.searching.proofs.search.Lts.{then-size-length+else-equal, else-size-length}
 use Rattle.searching.proofs.search.Tie as tie
 
 abbrev invariant_loop : tie.invariant-loop-at
@@ -77,13 +77,15 @@ loop-at-preserved : tie.Need-loop-at-preserved invariant_loop decreases_loop
 loop-at-preserved c = let k = c.before.before in
     let l = k.before.before.loop-at in
     let f = fits c.before in
-    ⊎_elim
-    (λ u. let t = search_goes_on _ _ l.at l.n l.compared _ k.length_at-size.ensures c.before.if-size-eq0.false u.0.taken (sym u.2.ensures ∙ u.3.left)
-    _ u.4 in
-    (omega arith, omega arith, omega (arith, u.4), sym t ∙ l.invariant.3))
-    (λ v. let t = search_passes _ _ l.at l.n l.compared _ k.length_at-size.ensures c.before.if-size-eq0.false v.0.left _ v.1 in
-    (omega arith, omega arith, omega (arith, v.1), sym t ∙ l.invariant.3))
-    c.if-size-length.branch
+    elim c.if-size-length.branch [
+      | then-size-length+else-equal u ↦
+          let t = search_goes_on _ _ l.at l.n l.compared _ k.length_at-size.ensures c.before.if-size-eq0.false u.if-size-length.true (sym u.equal.ensures ∙ u.if-equal.false)
+          _ u.compared-is in
+          (omega arith, omega arith, omega (arith, u.compared-is), sym t ∙ l.invariant.3)
+      | else-size-length v ↦
+          let t = search_passes _ _ l.at l.n l.compared _ k.length_at-size.ensures c.before.if-size-eq0.false v.if-size-length.false _ v.compared-is in
+          (omega arith, omega arith, omega (arith, v.compared-is), sym t ∙ l.invariant.3)
+    ]
 
 returns : tie.Need-returns invariant_loop decreases_loop
 returns c = let l = c.before.loop-at in sym (search_ends _ _ l.at l.n l.compared (omega arith)) ∙ l.invariant.3

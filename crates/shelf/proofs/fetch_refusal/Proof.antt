@@ -1,18 +1,17 @@
 use native.Mathlib.Omega.{arith}
-use mathlib.Core.Path.{sym, ◌∙◌}
 use Rattle.shelf.proofs.Refusals.{fetch_broken, fetch_past, fetch_fine}
 use borrow.Author.Rules.{rules}
 use Rattle.shelf.proofs.fetch_refusal.Statement.{statement}
 use Rattle.shelf.proofs.fetch_refusal.Tie as tie
 
 returns-then-n-records : tie.Need-returns-then-n-records
-returns-then-n-records c = fetch_fine _ _ _ _ (sym c.before.before.records-1.given.1 ∙ c.before.before.before.before.count.ensures) (omega arith)
+returns-then-n-records c = fetch_fine _ _ _ _ c.in-Records.ensures (omega arith)
 
 returns-in-Broken : tie.Need-returns-in-Broken
-returns-in-Broken c = fetch_broken _ _ _ (sym c.enum_told-1.given.1 ∙ c.before.before.count.ensures)
+returns-in-Broken c = fetch_broken _ _ _ c.in-Broken.ensures
 
 returns-else-n-records : tie.Need-returns-else-n-records
-returns-else-n-records c = fetch_past _ _ _ _ (sym c.before.before.records-1.given.1 ∙ c.before.before.before.before.count.ensures) (omega arith)
+returns-else-n-records c = fetch_past _ _ _ _ c.in-Records.ensures (omega arith)
 
 pub fetch_refusal_spec : {M : Type 1} → statement M
 fetch_refusal_spec =

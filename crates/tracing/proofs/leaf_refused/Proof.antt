@@ -16,11 +16,11 @@ bounds-order-d : tie.Need-bounds-order-d
 bounds-order-d c = search rules
 
 overflow_cast-result : tie.Need-overflow_cast-result
-overflow_cast-result c = omega (arith, c.shared_slice_known-1.given c.before.before.args.d)
+overflow_cast-result c = omega (arith, c.shared_slice_known-1.given c.args.d)
 
 returns : tie.Need-returns
 unfolding next
-returns c = let e = eq-eqb _ 1 c.before.if-family-ne1.false in rw e refl
+returns c = let e = eq-eqb _ 1 c.if-family-ne1.false in rw e refl
 
 pub leaf_refused_spec : {M : Type 1} → statement M
 leaf_refused_spec =

@@ -14,7 +14,7 @@ bounds-w-d : tie.Need-bounds-w-d
 bounds-w-d c = search rules
 
 returns : tie.Need-returns
-returns c = let e = ne_eqb _ 4 c.before.if-family-eq4.false in rw e refl
+returns c = let e = ne_eqb _ 4 c.if-family-eq4.false in rw e refl
 
 pub loop_refused_spec : {M : Type 1} → statement M
 loop_refused_spec = tie.close (tie.spec returns-then-family-eq4 offset_bounds-w-d bounds-w-d returns)

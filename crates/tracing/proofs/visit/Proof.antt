@@ -8,13 +8,8 @@ use Rattle.tracing.proofs.visit.Statement.{statement}
 use Rattle.tracing.proofs.visit.Tie as tie
 
 -- where the mark of the opposite is read
-abbrev start : tie.After-slice_known-2-1 → tie.Start
-start a = a.before.before.before.before
-
-met : (a : tie.After-slice_known-2-1) →
-    let s = start a in
-    visits.Met s.args.family s.args.order.now s.args.i s.args.w.now s.args.s a.before.other.result
-met a = let s = start a in record { traced = s.pre.0; within = s.pre.1; away = s.pre.2; over = a.before.other.ensures }
+met : (a : tie.After-other-o) → visits.Met a.args.family a.args.order.now a.args.i a.args.w.now a.args.s a.other-o.result
+met a = record { traced = a.requires.0; within = a.requires.1; away = a.requires.2; over = a.other-o.ensures }
 
 other-o-requires : tie.Need-other-o-requires
 other-o-requires c κs =
@@ -32,24 +27,24 @@ offset_bounds-w-o c =
 
 bounds-w-o : tie.Need-bounds-w-o
 bounds-w-o c =
-    let a = c in
+    let a = c.before in
     let r = visits.over_in (met a) in
     let m = (met a).traced.ground.room in
     omega arith
 
 go_down-requires : tie.Need-go_down-requires
 go_down-requires c κs =
-    let a = c.before.before in
-    ((met a).traced.ground, visits.ranges (met a), visits.over_in (met a), visits.blank (met a) c.before.if-mark-eq0.true)
+    let a = c.before.before.before in
+    ((met a).traced.ground, visits.ranges (met a), visits.over_in (met a), visits.blank (met a) c.if-mark-eq0.true)
 
 shape_of-w-then-mark-eq0 : tie.Need-shape_of-w-then-mark-eq0
 shape_of-w-then-mark-eq0 c = search rules
 
 returns-then-mark-eq0 : tie.Need-returns-then-mark-eq0
 returns-then-mark-eq0 c =
-    let a = c.before.before.before.before.before in
-    let v = c.before.before.go_down in
-    visits.visited_down (met a) c.before.before.before.before.if-mark-eq0.true _ _ v.auto.1.1.0 v.ensures
+    let a = c.before.before.before.before.before.before in
+    let v = c.go_down in
+    visits.visited_down (met a) c.if-mark-eq0.true _ _ v.auto.w v.ensures
 
 loop_refused-requires : tie.Need-loop_refused-requires
 loop_refused-requires c κs =
@@ -64,8 +59,8 @@ shape_of-w-then-loop_refused c = search rules
 returns-then-loop_refused : tie.Need-returns-then-loop_refused
 returns-then-loop_refused c =
     let a = c.before.before.before.before.before in
-    let t = c.before.before.if-mark-ge-SEEN.true in
-    visits.unfit_first (met a) (omega arith) (sym c.before.loop_refused.ensures ∙ c.if-loop_refused.true)
+    let t = c.if-mark-ge-SEEN.true in
+    visits.unfit_first (met a) (omega arith) (sym c.loop_refused.ensures ∙ c.if-loop_refused.true)
 
 go_first-requires : tie.Need-go_first-requires
 go_first-requires c κs =
@@ -78,28 +73,28 @@ shape_of-w-then-mark-ge-SEEN c = search rules
 returns-then-mark-ge-SEEN : tie.Need-returns-then-mark-ge-SEEN
 returns-then-mark-ge-SEEN c =
     let a = c.before.before.before.before.before.before.before.before.before in
-    let v = c.before.before.go_first in
-    let t = c.before.before.before.before.before.before.if-mark-ge-SEEN.true in
-    visits.visited_first (met a) (omega arith) (visits.loop_left _ _ _ (sym c.before.before.before.before.before.loop_refused.ensures ∙ c.before.before.before.before.if-loop_refused.false)) _ _ v.auto.1.1.0 v.ensures.0 v.ensures.1
+    let v = c.go_first in
+    let t = c.if-mark-ge-SEEN.true in
+    visits.visited_first (met a) (omega arith) (visits.loop_left _ _ _ (sym c.loop_refused.ensures ∙ c.if-loop_refused.false)) _ _ v.auto.w v.ensures.0 v.ensures.1
 
 leaf_refused-requires : tie.Need-leaf_refused-requires
-leaf_refused-requires c κs = let a = c.before.before.before in (visits.ranges (met a)).dart
+leaf_refused-requires c κs = let a = c.before.before.before.before in (visits.ranges (met a)).dart
 
 returns-then-leaf_refused : tie.Need-returns-then-leaf_refused
 returns-then-leaf_refused c =
-    let a = c.before.before.before.before.before in
-    let lo = c.before.before.if-mark-ge-DOWN.true in
-    let hi = c.before.before.before.if-mark-ge-SEEN.false in
-    visits.unfit_up (met a) (omega arith) (omega arith) (sym c.before.leaf_refused.ensures ∙ c.if-leaf_refused.true)
+    let a = c.before.before.before.before.before.before in
+    let lo = c.if-mark-ge-DOWN.true in
+    let hi = c.if-mark-ge-SEEN.false in
+    visits.unfit_up (met a) (omega arith) (omega arith) (sym c.leaf_refused.ensures ∙ c.if-leaf_refused.true)
 
 overflow_cast-mark : tie.Need-overflow_cast-mark
 overflow_cast-mark c = search rules
 
 go_up-requires : tie.Need-go_up-requires
 go_up-requires c κs =
-    let a = c.before.before.before.before.before.before in
-    let lo = c.before.before.before.if-mark-ge-DOWN.true in
-    let hi = c.before.before.before.before.if-mark-ge-SEEN.false in
+    let a = c.before.before.before.before.before.before.before in
+    let lo = c.if-mark-ge-DOWN.true in
+    let hi = c.if-mark-ge-SEEN.false in
     ((met a).traced.ground, visits.ranges (met a), visits.over_in (met a), visits.up_range (met a) (omega arith) (omega arith))
 
 shape_of-w-then-mark-ge-DOWN : tie.Need-shape_of-w-then-mark-ge-DOWN
@@ -107,17 +102,17 @@ shape_of-w-then-mark-ge-DOWN c = search rules
 
 returns-then-mark-ge-DOWN : tie.Need-returns-then-mark-ge-DOWN
 returns-then-mark-ge-DOWN c =
-    let a = c.before.before.before.before.before.before.before.before.before in
-    let v = c.before.before.go_up in
-    let lo = c.before.before.before.before.before.before.if-mark-ge-DOWN.true in
-    let hi = c.before.before.before.before.before.before.before.if-mark-ge-SEEN.false in
-    visits.visited_up (met a) (omega arith) (omega arith) (visits.leaf_left _ _ _ (sym c.before.before.before.before.before.leaf_refused.ensures ∙ c.before.before.before.before.if-leaf_refused.false)) _ _ v.auto.1.1.0 v.ensures.0 v.ensures.1
+    let a = c.before.before.before.before.before.before.before.before.before.before in
+    let v = c.go_up in
+    let lo = c.if-mark-ge-DOWN.true in
+    let hi = c.if-mark-ge-SEEN.false in
+    visits.visited_up (met a) (omega arith) (omega arith) (visits.leaf_left _ _ _ (sym c.leaf_refused.ensures ∙ c.if-leaf_refused.false)) _ _ v.auto.w v.ensures.0 v.ensures.1
 
 overflow_sub-f : tie.Need-overflow_sub-f
 overflow_sub-f c =
-    let a = c.before.before.before in
+    let a = c.before.before.before.before in
     let hi = c.if-mark-ge-DOWN.false in
-    let no = c.before.before.if-mark-eq0.false in
+    let no = c.if-mark-eq0.false in
     let r = visits.end_range (met a) (omega arith) (omega arith) in
     omega (arith, r.0)
 
@@ -133,9 +128,9 @@ shape_of-w-then-not-is_last c = search rules
 returns-then-not-is_last : tie.Need-returns-then-not-is_last
 returns-then-not-is_last c =
     let a = c.before.before.before.before.before.before in
-    let hi = c.before.before.if-mark-ge-DOWN.false in
-    let some = c.before.before.before.before.if-mark-eq0.false in
-    visits.unfit_second (met a) (omega arith) (omega arith) (sym c.before.is_last.ensures ∙ c.if-not-is_last.true)
+    let hi = c.if-mark-ge-DOWN.false in
+    let some = c.if-mark-eq0.false in
+    visits.unfit_second (met a) (omega arith) (omega arith) (sym c.is_last.ensures ∙ c.if-not-is_last.true)
 
 overflow_cast-f : tie.Need-overflow_cast-f
 overflow_cast-f c = search rules
@@ -143,9 +138,9 @@ overflow_cast-f c = search rules
 go_second-requires : tie.Need-go_second-requires
 go_second-requires c κs =
     let a = c.before.before.before.before.before.before.before in
-    let hi = c.before.before.before.if-mark-ge-DOWN.false in
-    let no = c.before.before.before.before.before.if-mark-eq0.false in
-    ((met a).traced.ground, visits.ranges (met a), (visits.end_range (met a) (omega arith) (omega arith)).1, visits.has_waiting (met a) (omega arith) (omega arith) (sym c.before.before.is_last.ensures ∙ c.before.if-not-is_last.false))
+    let hi = c.if-mark-ge-DOWN.false in
+    let no = c.if-mark-eq0.false in
+    ((met a).traced.ground, visits.ranges (met a), (visits.end_range (met a) (omega arith) (omega arith)).1, visits.has_waiting (met a) (omega arith) (omega arith) (sym c.is_last.ensures ∙ c.if-not-is_last.false))
 
 shape_of-w : tie.Need-shape_of-w
 shape_of-w c = search rules
@@ -153,10 +148,10 @@ shape_of-w c = search rules
 returns : tie.Need-returns
 returns c =
     let a = c.before.before.before.before.before.before.before.before.before.before in
-    let v = c.before.before.go_second in
-    let hi = c.before.before.before.before.before.before.if-mark-ge-DOWN.false in
-    let no = c.before.before.before.before.before.before.before.before.if-mark-eq0.false in
-    visits.visited_second (met a) (omega arith) (omega arith) (sym c.before.before.before.before.before.is_last.ensures ∙ c.before.before.before.before.if-not-is_last.false) _ _ v.auto.1.1.0 v.ensures.0 v.ensures.1
+    let v = c.go_second in
+    let hi = c.if-mark-ge-DOWN.false in
+    let no = c.if-mark-eq0.false in
+    visits.visited_second (met a) (omega arith) (omega arith) (sym c.is_last.ensures ∙ c.if-not-is_last.false) _ _ v.auto.w v.ensures.0 v.ensures.1
 
 pub visit_spec : {M : Type 1} → statement M
 visit_spec =

@@ -26,8 +26,8 @@ two : (c : tie.Joined-g-d) → let d = c.before.before.before.before.before.args
     c.if-g-d.value ≡ (eqb c.before.step-g.result d && not (eqb (d / 2) (c.before.before.before.step-e.result / 2)))
 two c =
     elim c.if-g-d.branch [
-      then-g-d u ↦ and_goes_on _ _ (eq-eqb _ _ u.if-g-d.true) u.value-is
-    | else-g-d u ↦ and_stops _ _ (ne_eqb _ _ u.if-g-d.false) u.value-is
+      | then-g-d u ↦ and_goes_on _ _ (eq-eqb _ _ u.if-g-d.true) u.value-is
+      | else-g-d u ↦ and_stops _ _ (ne_eqb _ _ u.if-g-d.false) u.value-is
     ]
 
 -- the first three
@@ -35,8 +35,8 @@ three : (c : tie.Joined-d-e) → let st = c.before.before.before in
     c.if-d-e.value ≡ (c.before.if-g-d.value && not (eqb (st.before.step-e.result / 2) (st.step-f.result / 2)))
 three c =
     elim c.if-d-e.branch [
-      then-d-e u ↦ and_goes_on _ _ u.if-d-e.true u.value-is
-    | else-d-e u ↦ and_stops _ _ u.if-d-e.false u.value-is
+      | then-d-e u ↦ and_goes_on _ _ u.if-d-e.true u.value-is
+      | else-d-e u ↦ and_stops _ _ u.if-d-e.false u.value-is
     ]
 
 -- all four

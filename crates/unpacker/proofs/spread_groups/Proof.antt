@@ -71,7 +71,7 @@ loop-i-preserved c =
     let l = values_length a.inverse.now a.payload.now in
     let v = values_at a.inverse.now a.payload.now (from + at.i) (omega arith) in (
       omega arith,
-      p.auto.0 ∙ k,
+      p.auto.w ∙ k,
       ap (region (LABELS * (2 * a.m)) (5 * (at.i + 1)))
           (p.ensures ∙ ap (λ g. grouped (LABELS * (2 * a.m) + 5 * at.i) g at.w) (sym v))
           ∙ group_on (LABELS * (2 * a.m)) from (values_of a.inverse.now a.payload.now) at.w at.i (omega arith) (omega arith) at.invariant.2,

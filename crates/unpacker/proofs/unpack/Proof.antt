@@ -35,7 +35,7 @@ unpack_groups-requires c κs = let p = c.before.before.before.before.requires in
 returns : tie.Need-returns
 returns c =
     let a = c.before.before.before.before.before.before.before.args in let v = c.before.before.unpack_groups in
-    subst (λ (f : ℕ). Unpacks f a.m a.inverse a.payload.now v.result v.new.1.1.1.0) (sym (is_two c.before.before.before.before)) v.ensures
+    subst (λ (f : ℕ). Unpacks f a.m a.inverse a.payload.now v.result v.new.w) (sym (is_two c.before.before.before.before)) v.ensures
 
 pub unpack_spec : {M : Type 1} → statement M
 unpack_spec =

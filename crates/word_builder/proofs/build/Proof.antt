@@ -23,7 +23,7 @@ begin : (c : tie.After-slice_known-2-1 invariant_loop decreases_loop) →
 begin c =
     let p = c.before.before.before.before.before.requires in
     let f = c.before.before.fill in
-    blank _ _ _ p.0.2 p.1.0 p.1.1 f.ensures f.auto.0
+    blank _ _ _ p.0.2 p.1.0 p.1.1 f.ensures f.auto.w
 
 loop-i-init : tie.Need-loop-i-init invariant_loop decreases_loop
 loop-i-init c = let p = c.before.before.before.before.before.requires in moved_none _ _ _ _ _ (fits_start _ _ p.0.0 p.0.1 (begin c).room)

@@ -54,16 +54,14 @@ last_open-open-requires c κs =
 close-requires : tie.Need-close-requires
 close-requires c κs =
     let (f, a) = c.before.before.before.before.before.before.requires in
-    let test = c.before.before.before in
-    let q = is_second_lem _ test.before.if-x-eq-DOWN.false test.if3.false test.if-x-eq-FIRST.false in
+    let q = is_second_lem _ c.if-x-eq-DOWN.false c.if-x-eq-UP.false c.if-x-eq-FIRST.false in
     let o = c.before.last_open-open.ensures in
     (f.stands, (able_as _ _ _ _ f _ a second q).0, o.0, o.1)
 
 returns : tie.Need-returns
 returns c =
     let (f, a) = c.before.before.before.before.before.before.before.before.before.requires in
-    let test = c.before.before.before.before.before.before in
-    let q = is_second_lem _ test.before.if-x-eq-DOWN.false test.if3.false test.if-x-eq-FIRST.false in
+    let q = is_second_lem _ c.if-x-eq-DOWN.false c.if-x-eq-UP.false c.if-x-eq-FIRST.false in
     let o = c.before.before.before.before.last_open-open.ensures in
     moved_as _ _ _ _ f _ a second q _ _ _ o.0 o.1 c.before.before.close.ensures
 
