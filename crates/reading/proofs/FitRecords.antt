@@ -60,7 +60,7 @@ read_plan t stands r p h =
 
 module _ (t : Table) (k : ℕ) (p : Plan) (fits : fit k p ≡ true) where
   pub record_length_lem : length_varies k ≡ false → length (record_of t k p) ≡ record_length k (edges p.rotation)
-  record_length_lem = coded.record_length t k (coder_of k p fits) p fits
+  record_length_lem = coded.record_length_lem t k (coder_of k p fits) p fits
 
   pub record_kind : kind_of (record_of t k p) ≡ k
   record_kind = coded.record_kind t k (coder_of k p fits) p fits
