@@ -63,7 +63,7 @@ walked-requires c κs =
     let q = early_parts _ _ _ _ (passes c.before) in
     let g = c.before.before.before.before.before.entries_good-good in
     let good = g.ensures.answer (count_parts _ q.count).2 ∙ q.entries in
-    (q.count, q.entries, q.root, q.room, g.ensures.zeros good (omega (arith, q.room, g.auto.1.0)))
+    (q.count, q.entries, q.root, q.room, g.ensures.zeros good (omega (arith, q.room, g.auto.w)))
 
 refused-requires : tie.Need-refused-requires
 refused-requires c κs =
