@@ -3,7 +3,9 @@ use mathlib.Core.Path.{◌≡◌, subst}
 use mathlib.Core.Bool.{true}
 use native.Mathlib.Omega.{arith}
 use mathlib.Core.List.{List}
-use lib.ListN.{length}
+use lib.ListN.{length, get_or}
+use mir.Syntax.{w8}
+use mir.Val.{Fits}
 use Rattle.model.specs.Numbers.{all_below}
 use Rattle.model.specs.Shelf.{passes}
 use Rattle.model.proofs.Permutations.{all_below_lem}
@@ -15,13 +17,13 @@ use Rattle.decoding.proofs.Payloads.{mesh_asked, mesh_decoded}
 use Rattle.decoding.proofs.Outcomes.{inverse_wide}
 use Rattle.reading.proofs.Outcomes.{mesh_under, mesh_read, mesh_unreadable}
 use Rattle.reading.proofs.read_mesh.Goals as goal
-use Rattle.reading.proofs.read_mesh.Goals.{After-field-m, After-read-found}
+use Rattle.reading.proofs.read_mesh.Goals.{After-read-found}
 
 whole_head : (r : List ℕ) → passes r ≡ true → 6 ≤ length r
 whole_head r passed = (passes_facts r passed).whole_head
 
-bytes : (c : After-field-m) → all_below 256 c.args.«record».now ≡ true
-bytes c = all_below_lem 256 _ (λ i h. omega (arith, c.shared_slice_known-1.given i))
+bytes : (r : List ℕ) → ((i : ℕ) → Fits w8 (get_or r i 0)) → all_below 256 r ≡ true
+bytes r h = all_below_lem 256 r (λ i l. omega (arith, h i))
 
 pub field-m-requires : goal.field-m-requires
 field-m-requires c = let h = whole_head _ c.requires.1 in omega arith
@@ -35,7 +37,7 @@ slice_bounds-read-start c = let h = whole_head _ c.requires.1 in omega arith
 pub read-found-requires : goal.read-found-requires
 read-found-requires c =
     let size = c.field-m.ensures in
-    let b = bytes (goal.at.read-found-requires c).After-field-m in
+    let b = bytes _ c.type_inv.«record» in
     let (wide, some, few, short, room) = mesh_asked _ c.requires.1 _ size c.args.inverse c.args.w.now (inverse_wide _ c.requires.0) b c.requires.3 in
     (wide, some, few, short, room, omega (arith, size, c.requires.4))
 
@@ -53,5 +55,5 @@ returns-then-not-found c =
 pub returns : goal.returns
 returns c =
     let d = decoded (goal.at.returns c).After-read-found in
-    let b = bytes (goal.at.returns c).After-field-m in
+    let b = bytes _ c.type_inv.«record» in
     λ t stands same. mesh_read t stands _ c.requires.2 _ _ _ (mesh_under t _ _ _ _ _ same d) c.requires.1 b c.if-not-found.false _ c.field-m.ensures
