@@ -17,10 +17,10 @@ use lib.Seq.{take_all}
 use borrow.Author.Tests.{ne_eqb}
 use Rattle.model.specs.Numbers.{all_below}
 use Rattle.model.specs.Map.{stores_outside, family}
-use Rattle.model.specs.Record.{bytes_for, head_length, record_length}
+use Rattle.model.specs.Record.{bytes_for, head_length}
 use Rattle.model.specs.Shelf.{word16, kind_of, edges_of, passes}
 use Rattle.model.proofs.Permutations.{below_all}
-use Rattle.model.proofs.Heads.{family_four, family_not_three, stores_fixed, passes_facts}
+use Rattle.model.proofs.Heads.{family_four, family_not_three, passes_facts}
 use Rattle.record_lengths.proofs.Head.{head_plain}
 use Rattle.named_outside.proofs.Faces.{outer_head}
 use Rattle.packing.specs.Payload.{has_labels, Sized}

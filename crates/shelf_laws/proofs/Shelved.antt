@@ -253,7 +253,7 @@ step t r w s u a w' s' c = go c.outcome
         → s' ≡ cond (y && b) (take u s ++ front r (drop u s)) s → Step t r s u (used_of_shelved u a) s'
     by_shelf passed p has true true y b e f =
         let long = passes_long r passed in
-        let z = eqb-true _ _ y in
+        let z = eqb-true (shelve_refusal r s u) 0 y in
         rw (e, f) (one_stored (λ q. omega arith) p has (stored r s u passed z b).after_fine (behind r s u passed z b).1)
     by_shelf passed p has true false y b e f = same_shelf (ap (used_of_shelved u) e) f
     by_shelf passed p has false b y b' e f = same_shelf (ap (used_of_shelved u) e) f

@@ -1,8 +1,5 @@
 use Rattle.std.proofs.Common.{◌-◌}
 use Rattle.cases.proofs.print_lengths.Given as goal
 
-abbrev pub invariant-loop-i : goal.invariant-loop-i
-invariant-loop-i l = Unit {0}
-
 abbrev pub decreases-loop-i : goal.decreases-loop-i
 decreases-loop-i l = l.n - l.i

@@ -3,7 +3,9 @@ use mathlib.Core.Path.{◌≡◌, sym, ap, ◌∙◌}
 use mathlib.Core.Bool.{true}
 use native.Mathlib.Omega.{arith}
 use mathlib.Core.List.{List}
-use lib.ListN.{length}
+use lib.ListN.{length, get_or}
+use mir.Syntax.{w8}
+use mir.Val.{Fits}
 use Rattle.model.specs.Numbers.{all_below}
 use Rattle.model.specs.Map.{family}
 use Rattle.model.specs.Record.{head_length}
@@ -15,15 +17,15 @@ use Rattle.builder.specs.Decoded.{Answered}
 use Rattle.decoding.proofs.Payloads.{head_in, family_other, payload_sized, record_decoded}
 use Rattle.decoding.proofs.Outcomes.{under, core_unreadable, face_asked, core_read, core_unsound}
 use Rattle.decoding.proofs.read_core.Goals as goal
-use Rattle.decoding.proofs.read_core.Goals.{After-decode, After-family, After-field-m, After-head_length-at}
+use Rattle.decoding.proofs.read_core.Goals.{After-decode, After-family, After-head_length-at}
 
 -- ---- the head
 
 whole_head : (r : List ℕ) → passes r ≡ true → 6 ≤ length r
 whole_head r passed = (passes_facts r passed).whole_head
 
-bytes : (c : After-field-m) → all_below 256 c.args.«record».now ≡ true
-bytes c = all_below_lem 256 _ (λ i h. omega (arith, c.shared_slice_known-1.given i))
+bytes : (r : List ℕ) → ((i : ℕ) → Fits w8 (get_or r i 0)) → all_below 256 r ≡ true
+bytes r h = all_below_lem 256 r (λ i l. omega (arith, h i))
 
 head : (c : After-head_length-at) → let r = c.args.«record».now in (c.head_length-at.result ≡ head_length (kind_of r)) × (c.head_length-at.result ≤ length r)
 head c =
@@ -80,7 +82,7 @@ outside_of-x-requires c = (c.requires.1, c.field-kind.ensures)
 pub is_face-requires : goal.is_face-requires
 is_face-requires c =
     let d = (goal.at.is_face-requires c).After-decode in
-    let b = bytes (goal.at.is_face-requires c).After-field-m in
+    let b = bytes _ c.type_inv.«record» in
     let m-is = c.field-m.ensures in
     let (t, stands, same) = c.requires.0 in
     let (count, entries) = face_asked t stands _ c.requires.3 _ _ (under t _ _ _ _ same (decoded d)) c.requires.1 b c.if-not-decode.false _ m-is in
@@ -90,7 +92,7 @@ is_face-requires c =
 pub returns-then-is_face : goal.returns-then-is_face
 returns-then-is_face c =
     let d = (goal.at.returns-then-is_face c).After-decode in
-    let b = bytes (goal.at.returns-then-is_face c).After-field-m in
+    let b = bytes _ c.type_inv.«record» in
     λ t stands same.
     core_read t stands _ c.requires.3 _ _ (under t _ _ _ _ same (decoded d)) c.requires.1 b c.if-not-decode.false _ _ c.field-m.ensures c.outside_of-x.ensures _
     c.is_face.ensures c.if-is_face.true
@@ -98,7 +100,7 @@ returns-then-is_face c =
 pub returns : goal.returns
 returns c =
     let d = (goal.at.returns c).After-decode in
-    let b = bytes (goal.at.returns c).After-field-m in
+    let b = bytes _ c.type_inv.«record» in
     λ t stands same.
     core_unsound t stands _ c.requires.3 _ _ (under t _ _ _ _ same (decoded d)) c.requires.1 b c.if-not-decode.false _ _ c.field-m.ensures c.outside_of-x.ensures _
     c.is_face.ensures c.if-is_face.false

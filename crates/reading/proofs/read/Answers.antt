@@ -1,0 +1,12 @@
+use mathlib.Core.Path.{refl, ◌∙◌, ap}
+use Prim.Native.Nat.{ℕ}
+use lib.ListN.{replicate}
+use Rattle.model.specs.Calls.{zeros}
+use Rattle.reading.proofs.read.Goals as goal
+
+pub returns : goal.returns
+unfolding zeros
+returns c = record {
+  outcome = c.read_out-r.ensures _ c.is_loaded-loaded.ensures refl;
+  cleared = c.clear.ensures ∙ ap (λ (n : ℕ). replicate n 0) c.read_out-r.auto.work;
+}
