@@ -34,10 +34,10 @@ def says(answer, rotation):
     match answer:
         case ["ok", record]:
             [standard] = ask([f"read {16 * len(rotation)} {len(rotation)} {record}"])
-            return f"standard-is ({listed(bytes.fromhex(record))}) ({listed(standard[-len(rotation):])})"
+            return f"standard_is ({listed(bytes.fromhex(record))}) ({listed(standard[-len(rotation):])})"
         case ["refused", "10", characteristic]:
             x = int(characteristic)
-            return f"not-planar ({f'pos {x}' if x >= 0 else f'negsuc {-x - 1}'})"
+            return f"not_planar ({f'pos {x}' if x >= 0 else f'negsuc {-x - 1}'})"
         case _:
             return " ".join(answer)
 

@@ -62,11 +62,11 @@ loop-at-preserved c =
     let l = c.loop-at in
     let f = fits (goal.at.loop-at-preserved c).Else-size-eq0 in
     elim c.if-size-length.branch [
-      then-size-length+else-equal u ↦
+      | then-size-length+else-equal u ↦
           let t = search_goes_on _ _ l.at l.n l.compared _ c.length_at-size.ensures c.if-size-eq0.false u.if-size-length.true (sym u.equal.ensures ∙ u.if-equal.false)
           _ u.compared-is in
           (omega arith, omega arith, omega (arith, u.compared-is), sym t ∙ l.invariant.3)
-    | else-size-length v ↦
+      | else-size-length v ↦
           let t = search_passes _ _ l.at l.n l.compared _ c.length_at-size.ensures c.if-size-eq0.false v.if-size-length.false _ v.compared-is in
           (omega arith, omega arith, omega (arith, v.compared-is), sym t ∙ l.invariant.3)
     ]
