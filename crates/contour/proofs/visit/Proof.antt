@@ -75,17 +75,8 @@ note-requires-then-met-eq0 c κs = let f = at c.before.before.before.before.befo
 returns-then-met-eq0 : tie.Need-returns-then-met-eq0
 returns-then-met-eq0 c = is_noted (at c.before.before.before.before.before.before.before.before.before.before.before) c.before.before.before.before.before.before.before.if-met-eq0.true c.before.before.before.before.if-w-s-eq0.false c.before.before.note-then-met-eq0.ensures
 
-note-requires-then-met-eq-DOWN : tie.Need-note-requires-then-met-eq-DOWN
-note-requires-then-met-eq-DOWN c κs = let f = at c.before.before.before.before.before.before in (f.few, f.dart, f.room)
-
-returns-then-met-eq-DOWN : tie.Need-returns-then-met-eq-DOWN
-returns-then-met-eq-DOWN c = comes_up (at c.before.before.before.before.before.before.before.before.before) c.before.before.before.before.if-met-eq-DOWN.true c.before.before.note-then-met-eq-DOWN.ensures
-
 note-requires-2 : tie.Need-note-requires-2
 note-requires-2 c κs = let f = at c.before.before.before.before.before.before in (f.few, f.dart, f.room)
-
-returns : tie.Need-returns
-returns c = is_noted_again (at c.before.before.before.before.before.before.before.before.before) c.before.before.before.before.before.if-met-eq0.false c.before.before.before.before.if-met-eq-DOWN.false c.before.before.note-2.ensures
 
 pub visit_spec : {M : Type 1} → statement M
 visit_spec =
@@ -117,9 +108,9 @@ visit_spec =
     note-requires-then-met-eq0
     (λ c. search rules)
     returns-then-met-eq0
-    note-requires-then-met-eq-DOWN
+    (λ c κs. let f = at c.before.before.before.before.before.before in (f.few, f.dart, f.room))
     (λ c. search rules)
-    returns-then-met-eq-DOWN
+    (λ c. comes_up (at c.before.before.before.before.before.before.before.before.before) (search rules) (search rules))
     note-requires-2
     (λ c. search rules)
-    returns)
+    (λ c. is_noted_again (at c.before.before.before.before.before.before.before.before.before) c.if-met-eq0.false (search rules) c.note-2.ensures))

@@ -25,17 +25,8 @@ bounds-order-o c =
     let o = opposite_bound _ _ n.1 st.requires.1 in
     omega arith
 
-overflow_cast-result : tie.Need-overflow_cast-result
-overflow_cast-result c = omega (arith, c.shared_slice_known-then-across-1.given c.before.other-o.result)
-
-returns-then-across : tie.Need-returns-then-across
-returns-then-across c = step_across _ _ _ _ c.before.before.if-across.true c.before.other-o.ensures
-
 overflow_cast-result-2 : tie.Need-overflow_cast-result-2
 overflow_cast-result-2 c = omega (arith, c.shared_slice_known-2-1.given c.before.before.before.args.d)
-
-returns : tie.Need-returns
-returns c = step_round _ _ _ c.before.if-across.false
 
 pub step_spec : {M : Type 1} → statement M
 step_spec =
@@ -44,9 +35,9 @@ step_spec =
     other-o-requires
     offset_bounds-order-o
     bounds-order-o
-    overflow_cast-result
-    returns-then-across
+    (λ c. search rules)
+    (λ c. step_across _ _ _ _ (search rules) c.other-o.ensures)
     (λ c. search rules)
     (λ c. search rules)
     overflow_cast-result-2
-    returns)
+    (λ c. step_round _ _ _ (search rules)))

@@ -1,10 +1,12 @@
 use native.Mathlib.Omega.{arith}
 use mathlib.Core.Path.{◌≡◌, sym, ap, ap₂, ◌∙◌}
+use mathlib.Core.Logic.{◌≢◌}
 use mathlib.Core.Bool.{true≢false}
+use lib.ListN.{length}
 use borrow.Author.Tests.{eq-eqb, ne_eqb}
 use Rattle.model.specs.Map.{is_kind}
 use Rattle.model.specs.Record.{record_length}
-use Rattle.model.specs.Shelf.{kind_of, edges_of}
+use Rattle.model.specs.Shelf.{kind_of, edges_of, head_refusal}
 use Rattle.model.proofs.Heads.{Whole, Kinded, Counted, refuse_short, refuse_length, refuse_kind, refuse_size, refuse_nothing}
 use Rattle.heads.proofs.Head.{refuse_none, refuse_many, counted}
 use borrow.Author.Rules.{rules}
@@ -51,11 +53,12 @@ returns-then-m-eq0 c = refuse_none _ (kinded c.before.before) _ c.before.field-m
 returns-then-m-gt4096 : tie.Need-returns-then-m-gt4096
 returns-then-m-gt4096 c = refuse_many _ (kinded c.before.before.before) _ c.before.before.field-m.ensures (omega arith)
 
-returns-then-kind-eq3 : tie.Need-returns-then-kind-eq3
-returns-then-kind-eq3 c = refuse_nothing _ (counted_is c.before) (λ v. absurd (true≢false (sym (eq-eqb _ 3 (sym (kind_read c.before) ∙ c.if-kind-eq3.true)) ∙ v)))
+-- kind 3 is refused for no length, and another for each that is not its own
+no_length : (c : tie.Else-m-gt4096) → c.field-kind.result ≡ 3 → 0 ≡ head_refusal c.args.«record».now
+no_length c is = refuse_nothing _ (counted_is c) (λ v. absurd (true≢false (sym (eq-eqb _ 3 (sym (kind_read c) ∙ is)) ∙ v)))
 
-returns-then-record_length-record : tie.Need-returns-then-record_length-record
-returns-then-record_length-record c = refuse_size _ (counted_is c.before.before.before) (ne_eqb _ 3 (λ e. c.before.before.if-kind-eq3.false (kind_read c.before.before.before ∙ e))) (λ e. c.if-record_length-record.true (length_is c.before ∙ sym e))
+another_length : (c : tie.After-record_length) → (c.field-kind.result ≢ 3) → (c.record_length.result ≢ length c.args.«record».now) → 5 ≡ head_refusal c.args.«record».now
+another_length c other l = let p = c.before.before in refuse_size _ (counted_is p) (ne_eqb _ 3 (λ e. other (kind_read p ∙ e))) (λ e. l (length_is c ∙ sym e))
 
 returns : tie.Need-returns
 returns c = refuse_nothing _ (counted_is c.before.before.before) (λ v. sym c.if-record_length-record.false ∙ length_is c.before)
@@ -74,7 +77,7 @@ head_refusal_spec =
     (λ c κs. search rules)
     returns-then-m-eq0
     returns-then-m-gt4096
-    returns-then-kind-eq3
+    (λ c. no_length c.before (search rules))
     (λ c κs. search rules)
-    returns-then-record_length-record
+    (λ c. another_length c.before (search rules) c.if-record_length-record.true)
     returns)

@@ -15,12 +15,6 @@ returns-then-looped c = looped _ _ (sym c.before.before.requires.3 ∙ c.if-loop
 has_other_face-requires : tie.Need-has_other_face-requires
 has_other_face-requires c κs = let p = c.before.before.before.requires in (p.0, p.1)
 
-returns-then-has_other_face : tie.Need-returns-then-has_other_face
-returns-then-has_other_face c = other_face _ _ (none c.before.before.before) c.before.before.if-family-eq3.true (sym c.before.has_other_face.ensures ∙ c.if-has_other_face.true)
-
-returns-then-family-eq3 : tie.Need-returns-then-family-eq3
-returns-then-family-eq3 c = triangles_only _ _ (none c.before.before.before) c.before.before.if-family-eq3.true (sym c.before.has_other_face.ensures ∙ c.if-has_other_face.false)
-
 returns-then-has_dead_end : tie.Need-returns-then-has_dead_end
 returns-then-has_dead_end c =
     dead_end _ _ (none c.before.before.before.before) c.before.before.if-family-eq1.true (sym c.before.has_dead_end.ensures ∙ c.if-has_dead_end.true)
@@ -29,10 +23,15 @@ returns-else-has_dead_end : tie.Need-returns-else-has_dead_end
 returns-else-has_dead_end c =
     no_dead_end _ _ (none c.before.before.before.before) c.before.before.if-family-eq1.true (sym c.before.has_dead_end.ensures ∙ c.if-has_dead_end.false)
 
-returns-else-family-eq1 : tie.Need-returns-else-family-eq1
-returns-else-family-eq1 c = other_kind _ _ (none c.before.before) c.before.if-family-eq3.false c.if-family-eq1.false
-
 pub local_spec : {M : Type 1} → statement M
 local_spec =
     tie.close
-    (tie.spec returns-then-looped has_other_face-requires returns-then-has_other_face returns-then-family-eq3 (λ c κs. search rules) returns-then-has_dead_end returns-else-has_dead_end returns-else-family-eq1)
+    (tie.spec
+    returns-then-looped
+    has_other_face-requires
+    (λ c. other_face _ _ (none c.before.before.before) (search rules) (sym c.has_other_face.ensures ∙ c.if-has_other_face.true))
+    (λ c. triangles_only _ _ (none c.before.before.before) (search rules) (sym c.has_other_face.ensures ∙ c.if-has_other_face.false))
+    (λ c κs. search rules)
+    returns-then-has_dead_end
+    returns-else-has_dead_end
+    (λ c. other_kind _ _ (none c.before.before) (search rules) c.if-family-eq1.false))

@@ -12,9 +12,6 @@ made : (c : tie.After-leads_all_back) → let t : Table = record { bytes = c.bef
     t ≡ loaded c.before.before.before.before.before.before.before.before.args.bytes.now
 made c = made_loaded _ _ _ c.before.before.before.before.before.copied-own.ensures c.before.before.before.inverted-inverse.ensures
 
-returns-then-bytes-ne243 : tie.Need-returns-then-bytes-ne243
-returns-then-bytes-ne243 c = load_short _ _ _ c.before.before.if-bytes-ne243.true c.no_table.ensures.0 c.no_table.ensures.1
-
 returns-then-not-leads_all_back : tie.Need-returns-then-not-leads_all_back
 returns-then-not-leads_all_back c =
     let l = c.before.before.before in
@@ -28,7 +25,7 @@ load_spec =
     tie.close
     (tie.spec
     (λ c κs. search rules)
-    returns-then-bytes-ne243
+    (λ c. load_short _ _ _ (search rules) c.no_table.ensures.0 c.no_table.ensures.1)
     (λ c κs. search rules)
     (λ c. search rules)
     (λ c κs. search rules)
