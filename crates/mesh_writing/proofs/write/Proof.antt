@@ -29,29 +29,6 @@ groups-count-requires c κs =
     let (a, b) = small _ _ _ _ pre.1 c.before.before.before.coded-s.ensures in
     (omega arith, omega arith, omega arith)
 
-returns-then-out-total : tie.Need-returns-then-out-total
-returns-then-out-total c =
-    let g = c.before in
-    let st = g.before.before.before.before.before.before.before.before.before.before in
-    no_room _ _ _ _ st.requires.1 g.before.before.before.before.coded-s.ensures _ _ _ (total_is g).0 c.if-out-total.true
-
-overflow_cast-total : tie.Need-overflow_cast-total
-overflow_cast-total c = let t = (total_is c.before).1 in omega arith
-
-laid_out-requires : tie.Need-laid_out-requires
-laid_out-requires c κs =
-    let (e, l) = total_is c.before.before in
-    let h = c.if-out-total.false in
-    (c.requires.0, ready _ _ _ _ c.requires.1 c.coded-s.ensures, e, omega arith)
-
-overflow_cast-result : tie.Need-overflow_cast-result
-overflow_cast-result c = let t = (total_is c.before.before.before.before.before).1 in omega arith
-
-returns : tie.Need-returns
-returns c =
-    recorded _ _ _ _ c.requires.1 c.coded-s.ensures _ _ _ (total_is c.before.before.before.before.before).0
-    c.if-out-total.false _ c.laid_out.ensures
-
 pub write_spec : {M : Type 1} → statement M
 write_spec =
     tie.close
@@ -62,10 +39,14 @@ write_spec =
     (λ c. search rules)
     (λ c. search rules)
     (λ c. search rules)
-    returns-then-out-total
-    overflow_cast-total
-    laid_out-requires
-    overflow_cast-result
+    (λ c. no_room _ _ _ _ c.requires.1 c.coded-s.ensures _ _ _ (total_is c.before).0 (search rules))
+    (λ c. let t = (total_is c.before).1 in omega arith)
+    (λ c κs.
+    let (e, l) = total_is c.before.before in
+    (c.requires.0, ready _ _ _ _ c.requires.1 c.coded-s.ensures, e, omega arith))
+    (λ c. let t = (total_is c.before.before.before.before.before).1 in omega arith)
     (λ c. search rules)
     (λ c. search rules)
-    returns)
+    (λ c.
+    recorded _ _ _ _ c.requires.1 c.coded-s.ensures _ _ _ (total_is c.before.before.before.before.before).0 (search rules) _
+    c.laid_out.ensures))
