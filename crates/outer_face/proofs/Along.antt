@@ -3,13 +3,14 @@
 --   Along f v o k x m    the walk stands at x after k steps and was not back at o before; m is the least of the values at the k numbers met
 --   along_start          it begins
 --   along_low, along_keep   it goes on past a value that is lower, or is not
+--   along_on             it goes on with a number that is one of the two, and above neither
 --   along_few            where it goes on it made fewer steps than there are numbers
 --   along_end            back at o, m is the least value of the whole cycle
 use Prim.Native.Nat.{ℕ, zero, suc, ◌+◌, ◌-◌, ◌≤◌, ◌<◌}
 use native.Mathlib.Omega.{arith}
 use native.Mathlib.Numerals.{add-one}
 use mathlib.Core.Path.{◌≡◌, refl, sym, ap, subst, ◌∙◌}
-use mathlib.Core.Logic.{◌≢◌}
+use mathlib.Core.Logic.{◌≢◌, ◌⊎◌, inl, inr}
 use Rattle.model.specs.Numbers.{iter}
 use Rattle.orbits.specs.Permutation.{Perm}
 use Rattle.orbits.proofs.Order.{le_split, lt_suc_split}
@@ -52,6 +53,13 @@ module _ (f v : ℕ → ℕ) (o : ℕ) where
 
     pub along_keep : x ≢ o → m ≤ v x → Along f v o (k + 1) (f x) m
     along_keep away high = onward away m (omega arith) high r.met
+
+    -- with a number that is one of the two, and above neither
+    pub along_on : x ≢ o → (l : ℕ) → l ≤ m → l ≤ v x → (l ≡ v x) ⊎ (l ≡ m) → Along f v o (k + 1) (f x) l
+    along_on away l low own (inl e) =
+        let below : v x ≤ m = omega arith in
+        rw e (le_split below (λ same. rw same (along_keep away (omega arith))) (along_low away))
+    along_on away l low own (inr e) = rw e (along_keep away (omega arith))
 
     pub along_few : (n : ℕ) → Perm n f → o < n → x ≢ o → k < n
     along_few n perm h away =

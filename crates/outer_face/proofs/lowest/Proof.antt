@@ -4,10 +4,9 @@ use mathlib.Core.Path.{sym, ◌∙◌}
 use lib.ListN.{length}
 use Rattle.model.specs.Map.{face_next}
 use Rattle.outer_face.specs.Marks.{number_by}
-use Rattle.outer_face.proofs.Along.{Along, along_start, along_low, along_keep, along_few, along_end}
+use Rattle.outer_face.proofs.Along.{Along, along_start, along_on, along_few, along_end}
 use Rattle.outer_face.proofs.Outer.{count_fits, few, inside, along_faces, marks_there, found}
 use Rattle.outer_face.proofs.lowest.Statement.{statement}
-use Rattle.outer_face.proofs.lowest.Lts.{then-e-least, else-e-least}
 use Rattle.outer_face.proofs.lowest.Tie as tie
 
 abbrev invariant_loop : tie.invariant-loop-x
@@ -61,20 +60,6 @@ overflow_add-steps c =
 loop-x-smaller : tie.Need-loop-x-smaller invariant_loop decreases_loop
 loop-x-smaller c = let l = fewer c in omega arith
 
-loop-x-preserved : tie.Need-loop-x-preserved invariant_loop decreases_loop
-loop-x-preserved c =
-    let m = c.before.before.before.before.before.before.before.before.before.before.requires in
-    let at = c.before.before.before.before.before.loop-x in
-    let away = c.before.before.before.before.loop-x-test.true in
-    let e = c.before.before.standard-e.ensures in
-    rw c.step-x-in-loop-x.ensures (
-      (along_faces m).bound at.x at.invariant.0,
-      elim c.before.if-e-least.branch [
-        | then-e-least u ↦ rw (u.least-is, e) (along_low _ _ _ at.invariant.1 away (omega (arith, e, u.if-e-least.true)))
-        | else-e-least u ↦ rw u.least-is (along_keep _ _ _ at.invariant.1 away (omega (arith, e, u.if-e-least.false)))
-      ],
-    )
-
 returns : tie.Need-returns invariant_loop decreases_loop
 returns c =
     let m = c.before.before.before.before.before.before.requires in
@@ -95,5 +80,13 @@ lowest_spec =
     step-x-requires-in-loop-x
     overflow_add-steps
     loop-x-smaller
-    loop-x-preserved
+    (λ c.
+    let m = c.requires in
+    let at = c.before.before.before.before.before.loop-x in
+    let away = c.before.before.before.before.loop-x-test.true in
+    let e = c.standard-e.ensures in
+    rw c.step-x-in-loop-x.ensures (
+      (along_faces m).bound at.x at.invariant.0,
+      along_on _ _ _ at.invariant.1 away _ (omega (arith, e)) (omega (arith, e)) (grind arith),
+    ))
     returns)
