@@ -1,5 +1,8 @@
 use mathlib.Core.Path.{◌≡◌, sym, ◌∙◌}
-use mathlib.Core.Bool.{false, not}
+use mathlib.Core.Bool.{Bool, true, false, not}
+use mathlib.Core.Logic.{◌≢◌}
+use mathlib.Core.List.{List}
+use Prim.Native.Nat.{ℕ}
 use native.Mathlib.Omega.{arith}
 use borrow.Author.Tests.{eq-eqb, not-true, not-false}
 use Rattle.model.specs.declared.Table.{Table}
@@ -12,45 +15,33 @@ use Rattle.read_checks.proofs.refusal.Statement.{statement}
 use Rattle.read_checks.proofs.refusal.Tie as tie
 
 -- a table of which this is said
-stands : (c : tie.Else-not-loaded) (t : Table) → c.before.before.args.loaded ≡ not (table_refused t) → table_refused t ≡ false
-stands c t told = not-true _ (sym told ∙ c.if-not-loaded.false)
+stands : (loaded : Bool) (t : Table) → loaded ≡ true → loaded ≡ not (table_refused t) → table_refused t ≡ false
+stands loaded t good told = not-true _ (sym told ∙ good)
 
-passed : (c : tie.Else-h-ne0) → head_refusal c.before.before.before.before.args.«record».now ≡ 0
-passed c = sym c.before.head_refusal-h.ensures ∙ omega arith
+turned_away : (loaded : Bool) (t : Table) → loaded ≡ false → loaded ≡ not (table_refused t) → table_refused t ≡ true
+turned_away loaded t bad told = not-false _ (sym told ∙ bad)
 
-returns-then-not-loaded : tie.Need-returns-then-not-loaded
-returns-then-not-loaded c = λ t told. record_table t _ _ (not-false _ (sym told ∙ c.if-not-loaded.true))
-
-returns-then-h-ne0 : tie.Need-returns-then-h-ne0
-returns-then-h-ne0 c =
-    let e = c.before.head_refusal-h.ensures in
-    λ t told. e ∙ record_head t _ _ (stands c.before.before t told) (λ z. c.if-h-ne0.true (e ∙ z))
-
-field-m-requires : tie.Need-field-m-requires
-field-m-requires c κs = let l = head_long _ (passed c) in omega arith
-
-returns-then-work-m : tie.Need-returns-then-work-m
-returns-then-work-m c =
-    let e = c.before.before in
-    let m-is = c.before.field-m.ensures in
-    λ t told. record_room t _ _ (stands e.before.before t told) (passed e) (omega arith)
-
-returns : tie.Need-returns
-unfolding passes
-returns c =
-    let e = c.before.before in
-    let m-is = c.before.field-m.ensures in
-    λ t told. sym (clear_record t _ _ (record { stands = stands e.before.before t told; passed = eq-eqb _ 0 (passed e); room = omega arith }))
+passed : (r : List ℕ) (h : ℕ) → h ≡ head_refusal r → h ≡ 0 → head_refusal r ≡ 0
+passed r h e none = sym e ∙ none
 
 pub refusal_spec : {M : Type 1} → statement M
+unfolding passes
 refusal_spec =
     tie.close
     (tie.spec
-    returns-then-not-loaded
+    (λ c. λ t told. record_table t _ _ (turned_away _ t (search rules) told))
     (λ c κs. search rules)
-    returns-then-h-ne0
-    field-m-requires
+    (λ c.
+    let e = c.head_refusal-h.ensures in
+    let some : c.head_refusal-h.result ≢ 0 = search rules in
+    λ t told. e ∙ record_head t _ _ (stands _ t (search rules) told) (λ z. some (e ∙ z)))
+    (λ c κs. let l = head_long _ (passed _ _ c.head_refusal-h.ensures (omega arith)) in omega arith)
     (λ c. search rules)
     (λ c. search rules)
-    returns-then-work-m
-    returns)
+    (λ c.
+    let m_is = c.field-m.ensures in
+    λ t told. record_room t _ _ (stands _ t (search rules) told) (passed _ _ c.head_refusal-h.ensures (omega arith)) (omega arith))
+    (λ c.
+    let m_is = c.field-m.ensures in
+    let head = passed _ _ c.head_refusal-h.ensures (omega arith) in
+    λ t told. sym (clear_record t _ _ (record { stands = stands _ t (search rules) told; passed = eq-eqb _ 0 head; room = omega arith }))))

@@ -1,6 +1,6 @@
 use native.Mathlib.Omega.{arith}
 use mathlib.Core.Path.{◌≡◌, sym, ◌∙◌}
-use mathlib.Core.Bool.{false, not}
+use mathlib.Core.Bool.{Bool, true, false, not}
 use lib.ListN.{length}
 use borrow.Author.Tests.{not-true, not-false}
 use Rattle.model.specs.declared.Table.{Table}
@@ -14,8 +14,11 @@ use Rattle.writing.proofs.made.Statement.{statement}
 use Rattle.writing.proofs.made.Tie as tie
 
 -- a table of which this is said
-stands : (c : tie.Else-not-loaded) (t : Table) → c.before.before.before.before.before.args.loaded ≡ not (table_refused t) → table_refused t ≡ false
-stands c t told = not-true _ (sym told ∙ c.if-not-loaded.false)
+stands : (loaded : Bool) (t : Table) → loaded ≡ true → loaded ≡ not (table_refused t) → table_refused t ≡ false
+stands loaded t good told = not-true _ (sym told ∙ good)
+
+bad_table : (loaded : Bool) (t : Table) → loaded ≡ false → loaded ≡ not (table_refused t) → table_refused t ≡ true
+bad_table loaded t bad told = not-false _ (sym told ∙ bad)
 
 -- the early refusals are passed
 abbrev start : tie.Else-r-ne0 → tie.Start
@@ -38,10 +41,7 @@ begun c = record {
 }
 
 stood : (c : tie.After-walked) (t : Table) → (start c.before.before).args.loaded ≡ not (table_refused t) → table_refused t ≡ false
-stood c = stands c.before.before.before.before.before.before.before.before
-
-returns-then-not-loaded : tie.Need-returns-then-not-loaded
-returns-then-not-loaded c = λ t told same. no_table (not-false _ (sym told ∙ c.if-not-loaded.true))
+stood c t told = stands _ t (search rules) told
 
 entries_good-good-requires : tie.Need-entries_good-good-requires
 entries_good-good-requires c κs = search rules
@@ -55,7 +55,7 @@ shape_of-w-then-r-ne0 c = search rules
 returns-then-r-ne0 : tie.Need-returns-then-r-ne0
 returns-then-r-ne0 c =
     λ t told same.
-    turned_away (stands c.before.before.before.before.before.before t told) c.before.before.before.before.entries_good-good.auto.w
+    turned_away (stands _ t (search rules) told) c.before.before.before.before.entries_good-good.auto.w
     c.before.early-r.ensures c.if-r-ne0.true
 
 walked-requires : tie.Need-walked-requires
@@ -100,7 +100,7 @@ pub made_spec : {M : Type 1} → statement M
 made_spec =
     tie.close
     (tie.spec
-    returns-then-not-loaded
+    (λ c. λ t told same. no_table (bad_table _ t (search rules) told))
     entries_good-good-requires
     early-r-requires
     shape_of-w-then-r-ne0
