@@ -15,9 +15,6 @@ offset_bounds-w-other c = let s = c.before.before.before in let a = s.requires.0
 bounds-w-other : tie.Need-bounds-w-other
 bounds-w-other c = let s = c.before.before.before.before in let a = s.requires.0 in let r = first_ranges _ _ _ _ a in let m = a.held.view.room in let l = first_over _ _ _ _ a in let e = c.other.ensures in omega arith
 
-returns-then-w-other-lt-SEEN : tie.Need-returns-then-w-other-lt-SEEN
-returns-then-w-other-lt-SEEN c = let s = c.before.before.before.before.before in first_unfit _ _ _ _ s.requires.0 s.requires.1 _ c.other.ensures c.if-w-other-lt-SEEN.true
-
 put_edge-requires : tie.Need-put_edge-requires
 put_edge-requires c κs = let s = c.before.before.before.before.before.before in let a = s.requires.0 in let r = first_ranges _ _ _ _ a in let m = a.held.view.room in (r.few_darts, m, first_in _ _ _ _ a, r.edges, r.waiting)
 
@@ -31,7 +28,7 @@ overflow_sub-faces : tie.Need-overflow_sub-faces
 overflow_sub-faces c = let s = c.before.before.before.before.before.before.before.before.before.before in let a = s.requires.0 in let r = first_ranges _ _ _ _ a in let m = a.held.view.room in omega (arith, r.some_face)
 
 second_place-requires : tie.Need-second_place-requires
-second_place-requires c κs = let s = c.before.before.before.before.before.before.before.before.before.before in let a = s.requires.0 in let r = first_ranges _ _ _ _ a in let m = a.held.view.room in let p = c.put_edge in let big = c.if-w-other-lt-SEEN.false in first_goes_on _ _ _ _ a _ c.other.ensures _ p.auto.w (omega arith) p.ensures
+second_place-requires c κs = let s = c.before.before.before.before.before.before.before.before.before.before in let a = s.requires.0 in let r = first_ranges _ _ _ _ a in let m = a.held.view.room in let p = c.put_edge in first_goes_on _ _ _ _ a _ c.other.ensures _ p.auto.w (omega arith) p.ensures
 
 shape_of-w : tie.Need-shape_of-w
 shape_of-w c = c.second_place.auto.w ∙ c.put_edge.auto.w
@@ -46,7 +43,7 @@ leaf_spec =
     other-requires
     offset_bounds-w-other
     bounds-w-other
-    returns-then-w-other-lt-SEEN
+    (λ c. first_unfit _ _ _ _ c.requires.0 c.requires.1 _ c.other.ensures (omega arith))
     put_edge-requires
     overflow_add-t
     overflow_add-t-2

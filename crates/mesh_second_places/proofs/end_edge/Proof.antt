@@ -2,13 +2,9 @@ use Rattle.mesh_second_places.proofs.Seconds.{second_ranges, second_in, second_o
 use Rattle.mesh_second_places.proofs.Turns.{second_ends, few_unfit, last_unfit}
 use native.Mathlib.Omega.{arith}
 use lib.ListN.{length-set}
-use mathlib.Core.Logic.{inl, inr}
+use mathlib.Core.Logic.{inl, inr, ⊎_elim}
 use Rattle.mesh_second_places.proofs.end_edge.Statement.{statement}
-use Rattle.mesh_second_places.proofs.end_edge.Lts.{then-mark-last-via-then-mark-last, then-mark-last-via-else-mark-last+then-before-e}
 use Rattle.mesh_second_places.proofs.end_edge.Tie as tie
-
-returns-then-waiting-lt2 : tie.Need-returns-then-waiting-lt2
-returns-then-waiting-lt2 c = let s = c.before.before.before in few_unfit _ _ _ _ _ s.requires.0 s.requires.1 c.if-waiting-lt2.true
 
 other-requires : tie.Need-other-requires
 other-requires c κs = let s = c.before.before.before in let a = s.requires.0 in let r = second_ranges _ _ _ _ _ _ a in let i = second_index _ _ _ _ _ _ a in let m = a.held.view.room in let l = second_in _ _ _ _ _ _ a in omega (arith, r.few_darts)
@@ -23,7 +19,7 @@ overflow_mul-last : tie.Need-overflow_mul-last
 overflow_mul-last c = let s = c.before.before.before.before.before in let a = s.requires.0 in let r = second_ranges _ _ _ _ _ _ a in let i = second_index _ _ _ _ _ _ a in let m = a.held.view.room in omega (arith, r.few_darts)
 
 overflow_sub-last : tie.Need-overflow_sub-last
-overflow_sub-last c = let s = c.before.before.before.before.before in let a = s.requires.0 in let r = second_ranges _ _ _ _ _ _ a in let i = second_index _ _ _ _ _ _ a in let m = a.held.view.room in let t = c.if-waiting-lt2.false in omega arith
+overflow_sub-last c = let s = c.before.before.before.before.before in let a = s.requires.0 in let r = second_ranges _ _ _ _ _ _ a in let i = second_index _ _ _ _ _ _ a in let m = a.held.view.room in omega arith
 
 overflow_add-last : tie.Need-overflow_add-last
 overflow_add-last c = let s = c.before.before.before.before.before in let a = s.requires.0 in let r = second_ranges _ _ _ _ _ _ a in let i = second_index _ _ _ _ _ _ a in let m = a.held.view.room in omega (arith, r.few_darts, r.waiting)
@@ -47,15 +43,12 @@ bounds-w-n-2 : tie.Need-bounds-w-n-2
 bounds-w-n-2 c = let s = c.before.before.before.before.before.before.before in let a = s.requires.0 in let r = second_ranges _ _ _ _ _ _ a in let i = second_index _ _ _ _ _ _ a in let m = a.held.view.room in omega (arith, r.waiting)
 
 overflow_add-last-2 : tie.Need-overflow_add-last-2
-overflow_add-last-2 c = let s = c.before.before.before.before.before.before.before in let a = s.requires.0 in let r = second_ranges _ _ _ _ _ _ a in let i = second_index _ _ _ _ _ _ a in let m = a.held.view.room in let t = c.if-waiting-lt2.false in let l = last_few _ _ _ _ _ _ a (omega arith) in omega (arith, r.few_darts)
+overflow_add-last-2 c = let s = c.before.before.before.before.before.before.before in let a = s.requires.0 in let r = second_ranges _ _ _ _ _ _ a in let i = second_index _ _ _ _ _ _ a in let m = a.held.view.room in let l = last_few _ _ _ _ _ _ a (omega arith) in omega (arith, r.few_darts)
 
 returns-then-mark-last : tie.Need-returns-then-mark-last
 returns-then-mark-last c =
     last_unfit _ _ _ _ _ c.requires.0 c.requires.1 _ c.other.ensures
-    (elim c.then-mark-last.branch [
-      | then-mark-last-via-then-mark-last u ↦ inl u.if-mark-last.true
-      | then-mark-last-via-else-mark-last+then-before-e u ↦ inr u.if-before-e.true
-    ])
+    (⊎_elim inl (λ u. inr u.1) c.then-mark-last.either)
 
 overflow_mul-w : tie.Need-overflow_mul-w
 overflow_mul-w c = let s = c.before.before.before.before.before.before.before.before.before in let a = s.requires.0 in let r = second_ranges _ _ _ _ _ _ a in let i = second_index _ _ _ _ _ _ a in let m = a.held.view.room in omega (arith, r.few_darts)
@@ -73,19 +66,19 @@ bounds-w-n-3 : tie.Need-bounds-w-n-3
 bounds-w-n-3 c = let s = c.before.before.before.before.before.before.before.before.before in let a = s.requires.0 in let r = second_ranges _ _ _ _ _ _ a in let i = second_index _ _ _ _ _ _ a in let m = a.held.view.room in omega (arith, i.1)
 
 overflow_sub-result : tie.Need-overflow_sub-result
-overflow_sub-result c = let s = c.before.before.before.before.before.before.before.before.before in let a = s.requires.0 in let r = second_ranges _ _ _ _ _ _ a in let i = second_index _ _ _ _ _ _ a in let m = a.held.view.room in let t = c.if-waiting-lt2.false in omega arith
+overflow_sub-result c = let s = c.before.before.before.before.before.before.before.before.before in let a = s.requires.0 in let r = second_ranges _ _ _ _ _ _ a in let i = second_index _ _ _ _ _ _ a in let m = a.held.view.room in omega arith
 
 shape_of-w : tie.Need-shape_of-w
 shape_of-w c = simp length-set
 
 returns : tie.Need-returns
-returns c = let s = c.before.before.before.before.before.before.before.before.before in let a = s.requires.0 in let r = second_ranges _ _ _ _ _ _ a in let i = second_index _ _ _ _ _ _ a in let m = a.held.view.room in let t = c.if-waiting-lt2.false in second_ends _ _ _ _ _ a _ c.other.ensures (omega arith) c.if-mark-last.false c.if-before-e.false
+returns c = let s = c.before.before.before.before.before.before.before.before.before in let a = s.requires.0 in let r = second_ranges _ _ _ _ _ _ a in let i = second_index _ _ _ _ _ _ a in let m = a.held.view.room in second_ends _ _ _ _ _ a _ c.other.ensures (omega arith) c.if-mark-last.false (omega arith)
 
 pub end_edge_spec : {M : Type 1} → statement M
 end_edge_spec =
     tie.close
     (tie.spec
-    returns-then-waiting-lt2
+    (λ c. few_unfit _ _ _ _ _ c.requires.0 c.requires.1 (omega arith))
     other-requires
     offset_bounds-w-other
     bounds-w-other

@@ -5,11 +5,10 @@ use Rattle.model.proofs.Fitness.{count_parts, count_even, count_positive}
 use Rattle.model.specs.Map.{opposite, face_next}
 use lib.ListN.{length}
 use mathlib.Core.Path.{sym, ap, subst, ◌∙◌}
-use mathlib.Core.Logic.{inl, inr}
+use mathlib.Core.Logic.{inl, inr, ⊎_elim}
 use Prim.Native.Nat.{ℕ, ◌<◌}
 use native.Mathlib.Omega.{arith}
 use Rattle.mesh_tracing.proofs.at_end.Statement.{statement}
-use Rattle.mesh_tracing.proofs.at_end.Lts.{then-s-ne2-via-then-s-ne2, then-s-ne2-via-else-s-ne2+then-s-n}
 use Rattle.mesh_tracing.proofs.at_end.Tie as tie
 
 step-x-requires : tie.Need-step-x-requires
@@ -21,10 +20,7 @@ step-y-requires c κs = let a = c.requires in let n = (count_parts _ a.held.coun
 returns-then-s-ne2 : tie.Need-returns-then-s-ne2
 returns-then-s-ne2 c =
     home_unfit _ _ _ c.requires
-    (elim c.then-s-ne2.branch [
-      | then-s-ne2-via-then-s-ne2 u ↦ inl u.if-s-ne2.true
-      | then-s-ne2-via-else-s-ne2+then-s-n u ↦ inr u.if-s-n.true
-    ])
+    (⊎_elim (λ u. inl u.if-s-ne2.true) (λ u. inr (λ e. omega arith)) c.then-s-ne2.branch-raw)
 
 other-requires : tie.Need-other-requires
 other-requires c κs = let a = c.requires in let n = (count_parts _ a.held.count).2 in let two = count_even _ a.held.count in let some = count_positive _ a.held.count in let k = a.held.root_in in let x = next_below _ a.held.count a.held.perm _ k in let y = next_below _ a.held.count a.held.perm _ x in let e = c.step-x.ensures in omega arith
@@ -44,7 +40,7 @@ is_end-requires-2 c κs = let a = c.requires in let n = (count_parts _ a.held.co
 returns : tie.Need-returns
 returns c =
     is_meshed _ _ _ c.requires _ _ c.step-x.ensures c.other.ensures _ c.is_end.ensures c.if-s-ne2.false
-    c.if-s-n.false c.if-not-is_end.false _ _ c.step-y.ensures c.other-2.ensures _ c.is_end-2.ensures
+    (omega arith) c.if-not-is_end.false _ _ c.step-y.ensures c.other-2.ensures _ c.is_end-2.ensures
 
 pub at_end_spec : {M : Type 1} → statement M
 at_end_spec =

@@ -14,52 +14,6 @@ overflow_cast-base c = let a = c.before.before.before.args in omega (arith, c.sl
 returns-then-place-eq-CHILD : tie.Need-returns-then-place-eq-CHILD
 returns-then-place-eq-CHILD c = let st = c.before.before.before.before.before in child_turn _ _ _ st.requires.0 st.requires.1 c.if-place-eq-CHILD.true
 
-complete-requires : tie.Need-complete-requires
-complete-requires c κs =
-    let st = c.before.before.before.before.before.before.before in
-    (gap_stands _ _ _ st.requires.0 st.requires.1 c.before.if-place-eq-GAP.true, st.requires.1)
-
-shape_of-w-then-place-eq-GAP : tie.Need-shape_of-w-then-place-eq-GAP
-shape_of-w-then-place-eq-GAP c =
-    let a = c.before.before.before.before.before.before.before.before.before.before.args in
-    c.before.before.complete.auto.w ∙ put_kept a.m a.w.now a.s.put second
-
-returns-then-place-eq-GAP : tie.Need-returns-then-place-eq-GAP
-returns-then-place-eq-GAP c =
-    let st = c.before.before.before.before.before.before.before.before.before.before in
-    let a = st.args in
-    turned_from c.before.before.complete.ensures
-    (gap_turn _ _ _ st.requires.0 st.requires.1 c.before.before.before.before.if-place-eq-GAP.true) (put_kept a.m a.w.now a.s.put second)
-
-complete-requires-then-place-eq-LEAF : tie.Need-complete-requires-then-place-eq-LEAF
-complete-requires-then-place-eq-LEAF c κs =
-    let st = c.before.before.before.before.before.before.before.before in
-    (leaf_stands _ _ _ st.requires.0 st.requires.1 c.before.if-place-eq-LEAF.true, st.requires.1)
-
-shape_of-w-then-place-eq-LEAF : tie.Need-shape_of-w-then-place-eq-LEAF
-shape_of-w-then-place-eq-LEAF c =
-    let a = c.before.before.before.before.before.before.before.before.before.before.before.args in
-    c.before.before.complete-then-place-eq-LEAF.auto.w ∙ put_kept a.m a.w.now a.s.put first
-
-returns-then-place-eq-LEAF : tie.Need-returns-then-place-eq-LEAF
-returns-then-place-eq-LEAF c =
-    let st = c.before.before.before.before.before.before.before.before.before.before.before in
-    let a = st.args in
-    turned_from c.before.before.complete-then-place-eq-LEAF.ensures
-    (leaf_turn _ _ _ st.requires.0 st.requires.1 c.before.before.before.before.if-place-eq-LEAF.true) (put_kept a.m a.w.now a.s.put first)
-
-complete-requires-2 : tie.Need-complete-requires-2
-complete-requires-2 c κs =
-    let st = c.before.before.before.before.before.before.before.before in
-    (nothing_stands _ _ _ st.requires.0 st.requires.1 c.before.before.before.if-place-eq-CHILD.false c.before.before.if-place-eq-GAP.false c.before.if-place-eq-LEAF.false, st.requires.1)
-
-returns : tie.Need-returns
-returns c =
-    let st = c.before.before.before.before.before.before.before.before.before.before.before in
-    let t = c.before.before.before.before in
-    turned_from c.before.before.complete-2.ensures
-    (nothing_turn _ _ _ st.requires.0 st.requires.1 t.before.before.if-place-eq-CHILD.false t.before.if-place-eq-GAP.false t.if-place-eq-LEAF.false) refl
-
 pub ascend_spec : {M : Type 1} → statement M
 ascend_spec =
     tie.close
@@ -90,9 +44,9 @@ ascend_spec =
     (λ c. search rules)
     (λ c. search rules)
     (λ c. search rules)
-    complete-requires
-    shape_of-w-then-place-eq-GAP
-    returns-then-place-eq-GAP
+    (λ c κs. (gap_stands _ _ _ c.requires.0 c.requires.1 (search rules), c.requires.1))
+    (λ c. let a = c.args in c.complete.auto.w ∙ put_kept a.m a.w.now a.s.put second)
+    (λ c. let a = c.args in turned_from c.complete.ensures (gap_turn _ _ _ c.requires.0 c.requires.1 (search rules)) (put_kept a.m a.w.now a.s.put second))
     (λ c. search rules)
     (λ c. search rules)
     (λ c. search rules)
@@ -100,9 +54,11 @@ ascend_spec =
     (λ c. search rules)
     (λ c. search rules)
     (λ c. search rules)
-    complete-requires-then-place-eq-LEAF
-    shape_of-w-then-place-eq-LEAF
-    returns-then-place-eq-LEAF
-    complete-requires-2
+    (λ c κs. (leaf_stands _ _ _ c.requires.0 c.requires.1 (search rules), c.requires.1))
+    (λ c. let a = c.args in search rules ∙ put_kept a.m a.w.now a.s.put first)
+    (λ c.
+    let a = c.args in
+    turned_from (search rules) (leaf_turn _ _ _ c.requires.0 c.requires.1 (search rules)) (put_kept a.m a.w.now a.s.put first))
+    (λ c κs. (nothing_stands _ _ _ c.requires.0 c.requires.1 (search rules) (search rules) (search rules), c.requires.1))
     (λ c. search rules)
-    returns)
+    (λ c. turned_from (search rules) (nothing_turn _ _ _ c.requires.0 c.requires.1 (search rules) (search rules) (search rules)) refl))

@@ -10,21 +10,6 @@ returns-then-read-m c =
     let st = c.before in
     early st.args.m st.args.w.now st.args.s st.requires.0 st.requires.1 (omega arith)
 
-bounds-w-m-then-height-eq2 : tie.Need-bounds-w-m-then-height-eq2
-bounds-w-m-then-height-eq2 c =
-    let p = c.before.before.requires.0 in
-    let u = p.within in let r = p.room in simp length-set (omega arith)
-
-returns-then-height-eq2 : tie.Need-returns-then-height-eq2
-returns-then-height-eq2 c =
-    let st = c.before.before in
-    finished st.args.m st.args.w.now st.args.s st.requires.0 st.requires.1 (omega arith) c.if-height-eq2.true
-
-returns : tie.Need-returns
-returns c =
-    let st = c.before.before in
-    other_height st.args.m st.args.w.now st.args.s st.requires.0 st.requires.1 (omega arith) c.if-height-eq2.false
-
 pub finish_spec : {M : Type 1} → statement M
 finish_spec =
     tie.close
@@ -42,7 +27,7 @@ finish_spec =
     (λ c. search rules)
     (λ c. search rules)
     (λ c. search rules)
-    bounds-w-m-then-height-eq2
+    (λ c. let p = c.requires.0 in let u = p.within in let r = p.room in simp length-set (omega arith))
     (λ c. search rules)
-    returns-then-height-eq2
-    returns)
+    (λ c. let a = c.args in finished a.m a.w.now a.s c.requires.0 c.requires.1 (omega arith) (search rules))
+    (λ c. let a = c.args in other_height a.m a.w.now a.s c.requires.0 c.requires.1 (omega arith) (search rules)))

@@ -1,5 +1,6 @@
 use native.Mathlib.Omega.{arith}
-use mathlib.Core.Path.{sym, ◌∙◌}
+use mathlib.Core.Path.{◌≡◌, sym, ◌∙◌}
+use mathlib.Core.Bool.{true, false}
 use Rattle.trace_steps.proofs.Grounds.{few}
 use Rattle.tracing.proofs.Stepping as stepping
 use Rattle.tracing.proofs.Visits as visits
@@ -122,16 +123,6 @@ is_last-requires c κs =
     let r = visits.ranges (met a) in
     (few (met a).traced.ground, (met a).traced.ground.room, omega (arith, r.waiting, r.position))
 
-shape_of-w-then-not-is_last : tie.Need-shape_of-w-then-not-is_last
-shape_of-w-then-not-is_last c = search rules
-
-returns-then-not-is_last : tie.Need-returns-then-not-is_last
-returns-then-not-is_last c =
-    let a = c.before.before.before.before.before.before in
-    let hi = c.if-mark-ge-DOWN.false in
-    let some = c.if-mark-eq0.false in
-    visits.unfit_second (met a) (omega arith) (omega arith) (sym c.is_last.ensures ∙ c.if-not-is_last.true)
-
 overflow_cast-f : tie.Need-overflow_cast-f
 overflow_cast-f c = search rules
 
@@ -140,7 +131,8 @@ go_second-requires c κs =
     let a = c.before.before.before.before.before.before.before in
     let hi = c.if-mark-ge-DOWN.false in
     let no = c.if-mark-eq0.false in
-    ((met a).traced.ground, visits.ranges (met a), (visits.end_range (met a) (omega arith) (omega arith)).1, visits.has_waiting (met a) (omega arith) (omega arith) (sym c.is_last.ensures ∙ c.if-not-is_last.false))
+    let is : c.is_last.result ≡ true = search rules in
+    ((met a).traced.ground, visits.ranges (met a), (visits.end_range (met a) (omega arith) (omega arith)).1, visits.has_waiting (met a) (omega arith) (omega arith) (sym c.is_last.ensures ∙ is))
 
 shape_of-w : tie.Need-shape_of-w
 shape_of-w c = search rules
@@ -151,7 +143,8 @@ returns c =
     let v = c.go_second in
     let hi = c.if-mark-ge-DOWN.false in
     let no = c.if-mark-eq0.false in
-    visits.visited_second (met a) (omega arith) (omega arith) (sym c.is_last.ensures ∙ c.if-not-is_last.false) _ _ v.auto.w v.ensures.0 v.ensures.1
+    let is : c.is_last.result ≡ true = search rules in
+    visits.visited_second (met a) (omega arith) (omega arith) (sym c.is_last.ensures ∙ is) _ _ v.auto.w v.ensures.0 v.ensures.1
 
 pub visit_spec : {M : Type 1} → statement M
 visit_spec =
@@ -177,8 +170,11 @@ visit_spec =
     returns-then-mark-ge-DOWN
     overflow_sub-f
     is_last-requires
-    shape_of-w-then-not-is_last
-    returns-then-not-is_last
+    (λ c. search rules)
+    (λ c.
+    let a = c.before.before.before.before.before.before in
+    let not : c.is_last.result ≡ false = search rules in
+    visits.unfit_second (met a) (omega arith) (omega arith) (sym c.is_last.ensures ∙ not))
     overflow_cast-f
     go_second-requires
     shape_of-w
