@@ -10,7 +10,7 @@ put_payload_spec =
     (tie.spec
     (λ c κs. search rules)
     (λ c. search rules)
-    (λ c. payload_even _ _ _ _ c.requires.1 (search rules) _ c.put_full.ensures)
+    (λ c. payload_even _ _ _ _ c.requires.1 (omega arith) _ c.put_full.ensures)
     (λ c. search rules)
     (λ c. search rules)
     (λ c. search rules)
@@ -19,4 +19,4 @@ put_payload_spec =
     (λ c. search rules)
     (λ c. search rules)
     (λ c. search rules)
-    (λ c. payload_odd _ _ _ _ c.requires.1 (search rules) _ _ (let r = c.requires.4 in omega arith) c.two.ensures.0 c.put_full.ensures))
+    (λ c. payload_odd _ _ _ _ c.requires.1 (λ even. omega arith) _ _ (let r = c.requires.4 in omega arith) c.two.ensures.0 c.put_full.ensures))

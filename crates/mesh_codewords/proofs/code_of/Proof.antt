@@ -1,3 +1,4 @@
+use native.Mathlib.Omega.{arith}
 use mathlib.Core.Path.{sym}
 use Rattle.mesh_codewords.proofs.Windows.{code_short, code_long}
 use borrow.Author.Rules.{rules}
@@ -10,5 +11,5 @@ code_of_spec =
     (tie.spec
     (λ c. search rules)
     (λ c. search rules)
-    (λ c. sym (code_short _ (search rules)))
-    (λ c. sym (code_long _ (search rules))))
+    (λ c. sym (code_short _ (omega arith)))
+    (λ c. sym (code_long _ (omega arith))))
