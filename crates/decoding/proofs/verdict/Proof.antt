@@ -38,7 +38,7 @@ verdict_spec =
     (λ c t told same. verdict_early t _ _ _ (c.refusal-e.ensures t told) (λ zero. omega arith))
     (λ c κs. let h = passes_long _ (some c.before (omega arith)).1 in omega arith)
     (λ c κs.
-    let k = some c.before.before.before.before (omega arith) in (k.0, k.1, sym c.field.ensures ∙ c.if-field-eq3.true, k.2))
+    let k = some c.before.before.before.before (omega arith) in (k.0, k.1, (let e = c.field.ensures in omega (arith, e)), k.2))
     (λ c. search rules)
     (λ c.
     let r = c.before.before.before.before.before.before.before in
@@ -46,7 +46,7 @@ verdict_spec =
     λ t told same. decided (none r zero t told) (c.judge_mesh.ensures t (clear r zero t told).stands same))
     (λ c κs.
     let k = some c.before.before.before.before (omega arith) in
-    (k.0, k.1, k.2, λ q. c.if-field-eq3.false (c.field.ensures ∙ q)))
+    (k.0, k.1, k.2, λ q. (let e = c.field.ensures in omega (arith, e))))
     (λ c. search rules)
     (λ c.
     let r = c.before.before.before.before.before.before.before in
