@@ -27,7 +27,7 @@ use mathlib.Core.List.{List, [], ◌∷◌, ◌++◌}
 use lib.Dec.{eqb, ltb}
 use lib.ListN.{length, get_or}
 use borrow.Author.Tests.{lt-ltb, le-ltb, eq-eqb, ne_eqb, ltb-false, eqb-true, not-false}
-use Rattle.model.specs.Numbers.{elem, all_below, Refusal, first_refusal}
+use Rattle.model.specs.Numbers.{elem, all_below, Check, first_refusal}
 use Rattle.model.specs.Map.{is_family, stores_outside, is_kind, family, edge_count_fits}
 use Rattle.model.specs.Record.{le16, head_length, length_varies, payload_length, record_length}
 use Rattle.model.specs.Shelf.{word16, kind_of, edges_of, head_refusals, head_refusal, passes}
@@ -219,11 +219,11 @@ facts_passes r p =
     sym (refuse_nothing r (record { kinded = kinded; count = parts_edges _ p.some_edge p.few_edges }) p.right_length)
 
 -- what comes after the refusals of the head
-pub head_first : (r : List ℕ) (rs : List Refusal) → first_refusal (head_refusals r ++ rs) ≡ cond (eqb (head_refusal r) 0) (first_refusal rs) (head_refusal r)
+pub head_first : (r : List ℕ) (rs : List Check) → first_refusal (head_refusals r ++ rs) ≡ cond (eqb (head_refusal r) 0) (first_refusal rs) (head_refusal r)
 unfolding head_refusal head_refusals
 head_first r rs = first_append (head_refusals r) rs refl
 
-pub head_none : (r : List ℕ) (rs : List Refusal) → first_refusal (head_refusals r ++ rs) ≡ 0 → (head_refusal r ≡ 0) × (first_refusal rs ≡ 0)
+pub head_none : (r : List ℕ) (rs : List Check) → first_refusal (head_refusals r ++ rs) ≡ 0 → (head_refusal r ≡ 0) × (first_refusal rs ≡ 0)
 unfolding head_refusal head_refusals
 head_none r rs e = append_none (head_refusals r) rs refl e
 

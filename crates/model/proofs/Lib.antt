@@ -10,6 +10,7 @@ pub mod Outside
 pub mod Characteristic
 pub mod Standard
 pub mod Refusals
+pub mod Numbered
 pub mod Heads
 pub mod Reading
 pub mod Answers

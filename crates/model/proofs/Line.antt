@@ -23,8 +23,9 @@ use lib.IntN.{ℤ, pos, negsuc}
 use lib.ListN.{length, replicate}
 use Rattle.model.specs.declared.Table.{Table}
 use Rattle.model.specs.declared.ReadBack.{ReadBack}
-use Rattle.model.specs.declared.ReadBack.TheVariants as readback
-use Rattle.model.specs.declared.Written.{Written}
+use Rattle.std.specs.Prelude.{Result, Err}
+use Rattle.std.specs.Result.{result_unwrap_or}
+use Rattle.model.specs.declared.Refusal.{Refusal}
 use Rattle.model.specs.Numbers.{first_refusal}
 use Rattle.model.specs.Map.{Plan, family}
 use Rattle.model.specs.Traversal.{standard_plan}
@@ -32,7 +33,7 @@ use Rattle.model.specs.Groups.{standard_table}
 use Rattle.model.specs.Record.{record_of}
 use Rattle.model.specs.Shelf.{edges_of, same}
 use Rattle.model.specs.Calls.{front, table_refused, early_refusals, late_refusals, last_refusals, write_refusal, answer_of, write_answer, written_output, Reads}
-use Rattle.model.specs.Calls.{number_of_written, length_of_written, characteristic_of_written}
+use Rattle.model.specs.Refusals.{numbered, number_of, characteristic_of}
 use Rattle.model.proofs.Refusals.{table_stands}
 
 pub data Says : Type 0 where
@@ -65,18 +66,18 @@ same_integer (negsuc x) (pos y) = false
 same_integer (negsuc x) (negsuc y) = eqb x y
 
 -- the record r is written, and the rest of the output is as it was
-unfoldable pub writes : Written → List ℕ → List ℕ → Bool
-writes a o r = eqb (number_of_written a) 0 && (eqb (length_of_written a) (length r) && same o (front r lent))
+unfoldable pub writes : Result ℕ Refusal → List ℕ → List ℕ → Bool
+writes a o r = eqb (number_of a) 0 && (eqb (result_unwrap_or a 0) (length r) && same o (front r lent))
 
 -- refusal n, and the output is as it was
-unfoldable pub refuses : Written → List ℕ → ℕ → Bool
-refuses a o n = eqb (number_of_written a) n && same o lent
+unfoldable pub refuses : Result ℕ Refusal → List ℕ → ℕ → Bool
+refuses a o n = eqb (number_of a) n && same o lent
 
-unfoldable pub agrees : Written → List ℕ → Plan → Says → Bool
+unfoldable pub agrees : Result ℕ Refusal → List ℕ → Plan → Says → Bool
 agrees a o p (record_is r) = writes a o r
 agrees a o p (standard_is r s) = writes a o r && same (standard_plan p).rotation s
 agrees a o p (refused n) = refuses a o n
-agrees a o p (not_planar x) = refuses a o 10 && same_integer (characteristic_of_written a) x
+agrees a o p (not_planar x) = refuses a o 10 && same_integer (characteristic_of a) x
 
 abbrev plan_of : Writes → Plan
 plan_of l = record { rotation = l.rotation; root = l.root; outside = l.outside }
@@ -119,8 +120,8 @@ module _ (t : Table) (stands : table_refused t ≡ false) where
 -- ---- reading
 
 pub record Refuses (r : List ℕ) (n w : ℕ) (out : List ℕ) : Type 0 where
-  pub refused_so : Reads standard_table r w out (readback.Refused n) out
-  pub only_so : (answer : ReadBack) (out' : List ℕ) → Reads standard_table r w out answer out' → (answer ≡ readback.Refused n) × (out' ≡ out)
+  pub refused_so : Reads standard_table r w out (Err (numbered n (pos 0))) out
+  pub only_so : (answer : Result ReadBack Refusal) (out' : List ℕ) → Reads standard_table r w out answer out' → (answer ≡ Err (numbered n (pos 0))) × (out' ≡ out)
 
 -- ---- both
 

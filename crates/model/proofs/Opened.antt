@@ -19,6 +19,7 @@ use Rattle.model.specs.Mesh.{dual_of, dual_plan, letter_on, node_type, type_from
 use Rattle.model.specs.Groups.{byte_for, loaded, standard_table}
 use Rattle.model.specs.Record.{digits_from, pack, le16, head_length, payload_length, record_length, payload, mesh_payload, contour_bits, headed, payload_of, outside_bytes, record_of}
 use Rattle.model.specs.Shelf.{same}
+use Rattle.model.specs.Refusals.{numbered}
 use Rattle.model.specs.Calls.{front, early_refusals, late_refusals, last_refusals, answer_of, measure_refusal, measure_answer, measured_list}
 use Rattle.model.proofs.Line.{writes, refuses, agrees, held_by, held}
 
@@ -49,9 +50,9 @@ unfolding fit_opened labels_opened mesh_opened digits_from pack le16 head_length
 record_opened = tt
 
 unfoldable pub writing_opened : Unit {0}
-unfolding record_opened front first_refusal early_refusals late_refusals last_refusals answer_of writes refuses agrees held_by held
+unfolding record_opened front first_refusal early_refusals late_refusals last_refusals numbered answer_of writes refuses agrees held_by held
 writing_opened = tt
 
 unfoldable pub measuring_opened : Unit {0}
-unfolding fit_opened cycle_size sizes_below cycle_sizes face_lengths front first_refusal measure_refusal measure_answer measured_list
+unfolding fit_opened cycle_size sizes_below cycle_sizes face_lengths front first_refusal measure_refusal numbered measure_answer measured_list
 measuring_opened = tt

@@ -16,24 +16,24 @@ use mathlib.Core.List.{List, [], ◌∷◌, ◌++◌}
 use lib.Dec.{eqb}
 use borrow.Author.Tests.{eqb-true, eqb-false, ltb-true, not-true, not-false}
 use Rattle.model.specs.declared.Table.{Table}
-use Rattle.model.specs.Numbers.{Refusal, first_refusal, refuse}
+use Rattle.model.specs.Numbers.{Check, first_refusal, refuse}
 use Rattle.model.specs.Map.{Plan, family, fit}
 use Rattle.model.specs.Calls.{table_refused, early_refusals, late_refusals, last_refusals, write_refusal}
 use Rattle.model.proofs.Booleans.{and_left, and_right}
 use Rattle.model.proofs.Fitness.{parts_fit}
 
-abbrev pub condition_of : ℕ → List Refusal → Bool
+abbrev pub condition_of : ℕ → List Check → Bool
 condition_of n [] = false
 condition_of n (r ∷ rs) = cond (eqb r.number n) r.holds (condition_of n rs)
 
-abbrev pub lacks : ℕ → List Refusal → Bool
+abbrev pub lacks : ℕ → List Check → Bool
 lacks n [] = true
 lacks n (r ∷ rs) = not (eqb r.number n) && lacks n rs
 
-lacks_parts : (n : ℕ) (r : Refusal) (rs : List Refusal) → lacks n (r ∷ rs) ≡ true → (eqb r.number n ≡ false) × (lacks n rs ≡ true)
+lacks_parts : (n : ℕ) (r : Check) (rs : List Check) → lacks n (r ∷ rs) ≡ true → (eqb r.number n ≡ false) × (lacks n rs ≡ true)
 lacks_parts n r rs l = (not-true (eqb r.number n) (and_left _ (lacks n rs) l), and_right (not (eqb r.number n)) _ l)
 
-pub none_holds : (rs : List Refusal) → lacks 0 rs ≡ true → first_refusal rs ≡ 0 → (n : ℕ) → condition_of n rs ≡ false
+pub none_holds : (rs : List Check) → lacks 0 rs ≡ true → first_refusal rs ≡ 0 → (n : ℕ) → condition_of n rs ≡ false
 unfolding first_refusal
 none_holds [] l e n = refl
 none_holds (r ∷ rs) l e n =
@@ -46,7 +46,7 @@ none_holds (r ∷ rs) l e n =
     go false true d z more = refl
     go false false d z more = more z
 
-pub first_lacks : (n : ℕ) (rs : List Refusal) → eqb 0 n ≡ false → lacks n rs ≡ true → eqb (first_refusal rs) n ≡ false
+pub first_lacks : (n : ℕ) (rs : List Check) → eqb 0 n ≡ false → lacks n rs ≡ true → eqb (first_refusal rs) n ≡ false
 unfolding first_refusal
 first_lacks n [] z l = z
 first_lacks n (r ∷ rs) z l = let (here, rest) = lacks_parts n r rs l in go r.holds here (first_lacks n rs z rest)
@@ -55,7 +55,7 @@ first_lacks n (r ∷ rs) z l = let (here, rest) = lacks_parts n r rs l in go r.h
     go true h ih = h
     go false h ih = ih
 
-pub first_append : (rs ss : List Refusal) → lacks 0 rs ≡ true
+pub first_append : (rs ss : List Check) → lacks 0 rs ≡ true
     → first_refusal (rs ++ ss) ≡ cond (eqb (first_refusal rs) 0) (first_refusal ss) (first_refusal rs)
 unfolding first_refusal
 first_append [] ss l = refl
@@ -66,7 +66,7 @@ first_append (r ∷ rs) ss l = let (here, rest) = lacks_parts 0 r rs l in go r.h
     go true n ih = rw n
     go false n ih = ih
 
-pub append_none : (rs ss : List Refusal) → lacks 0 rs ≡ true → first_refusal (rs ++ ss) ≡ 0 → (first_refusal rs ≡ 0) × (first_refusal ss ≡ 0)
+pub append_none : (rs ss : List Check) → lacks 0 rs ≡ true → first_refusal (rs ++ ss) ≡ 0 → (first_refusal rs ≡ 0) × (first_refusal ss ≡ 0)
 append_none rs ss l e = go (eqb (first_refusal rs) 0) refl (sym (first_append rs ss l) ∙ e)
   where
     go : (b : Bool) → eqb (first_refusal rs) 0 ≡ b → cond b (first_refusal ss) (first_refusal rs) ≡ 0 → (first_refusal rs ≡ 0) × (first_refusal ss ≡ 0)
@@ -75,7 +75,7 @@ append_none rs ss l e = go (eqb (first_refusal rs) 0) refl (sym (first_append rs
 
 -- ---- the table comes first
 
-module _ (t : Table) (rs : List Refusal) where
+module _ (t : Table) (rs : List Check) where
   pub table_stands : table_refused t ≡ false → first_refusal (refuse 19 (table_refused t) ∷ rs) ≡ first_refusal rs
   unfolding first_refusal
   table_stands e = rw e

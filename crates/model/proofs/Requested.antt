@@ -22,9 +22,11 @@ use native.Mathlib.Omega.{arith}
 use lib.Dec.{T}
 use lib.IntN.{pos}
 use lib.ListN.{get_or, set, take, replicate}
-use Rattle.model.specs.declared.Measured.TheVariants.{Count, Refused, NotPlanar}
+use Rattle.std.specs.Prelude.{Result, Ok, Err}
+use Rattle.model.specs.declared.Refusal.{Refusal}
+use Rattle.model.specs.declared.Refusal.TheVariants.{BadCount, BadEntry, ShortWork, ShortOutput, NotConnected, NotPlanar, NoFitPlan}
 use Rattle.model.specs.declared.Shelved.{Shelved}
-use Rattle.model.specs.declared.Shelved.TheVariants as answered
+use Rattle.model.specs.Refusals.{numbered}
 use Rattle.model.specs.Numbers.{elem, distinct, all_below, position, tabulate, first_refusal}
 use Rattle.model.specs.Groups.{is_table, inverse_of, loaded, standard_table, no_table}
 use Rattle.model.specs.Shelf.{word16, head_refusals, head_refusal, passes, cut_into, records_in, all_pass, end_to_end, same, first_equal, met, as_long, compared, shelf_refused}
@@ -181,9 +183,9 @@ unfolding write_refusal read_refusal record_refusal record_refusals first_refusa
 nineteen_first_hold p = (rw no_table_refused, rw no_table_refused, rw no_table_refused)
 
 -- (b) "A refusal met while reading the record is passed on: 7 and 13 may now come from shelving, after 5 and before 14": on whatever shelf
-pub unreadable_hold : (w : ℕ) (s : List ℕ) (u : ℕ) (a : Shelved) (s' : List ℕ) → Shelves standard_table (two_edges 0xCC) w s u a s'
-    → (64 ≤ w → (a ≡ answered.Refused 13) × (s' ≡ s)) × (w < 64 → (a ≡ answered.Refused 7) × (s' ≡ s))
-unfolding passes head_refusal head_refusals first_refusal word16 elem is_family stores_outside is_kind family head_length payload_length record_length
+pub unreadable_hold : (w : ℕ) (s : List ℕ) (u : ℕ) (a : Result Shelved Refusal) (s' : List ℕ) → Shelves standard_table (two_edges 0xCC) w s u a s'
+    → (64 ≤ w → (a ≡ Err NoFitPlan) × (s' ≡ s)) × (w < 64 → (a ≡ Err ShortWork) × (s' ≡ s))
+unfolding passes head_refusal head_refusals first_refusal word16 elem is_family stores_outside is_kind family head_length payload_length record_length numbered
 unreadable_hold w s u a s' c = (λ h. long c h, λ h. short c h)
   where
     clear : 64 ≤ w → record_refusal standard_table (two_edges 0xCC) w ≡ 0
@@ -195,17 +197,17 @@ unreadable_hold w s u a s' c = (λ h. long c h, λ h. short c h)
     not_none : w < 64 → record_refusal standard_table (two_edges 0xCC) w ≡ 0 → ⊥
     not_none h z = suc-ne-zero 6 (seven h ∙ z)
 
-    long : Shelves standard_table (two_edges 0xCC) w s u a s' → 64 ≤ w → (a ≡ answered.Refused 13) × (s' ≡ s)
+    long : Shelves standard_table (two_edges 0xCC) w s u a s' → 64 ≤ w → (a ≡ Err NoFitPlan) × (s' ≡ s)
     long (unread d e f) h = absurd (d (clear h))
     long (planless z never e f) h = (e, f)
     long (readable z p has e f) h = absurd (unreadable_CC p has)
 
-    short : Shelves standard_table (two_edges 0xCC) w s u a s' → w < 64 → (a ≡ answered.Refused 7) × (s' ≡ s)
-    short (unread d e f) h = (e ∙ ap answered.Refused (sym (seven h)), f)
+    short : Shelves standard_table (two_edges 0xCC) w s u a s' → w < 64 → (a ≡ Err ShortWork) × (s' ≡ s)
+    short (unread d e f) h = (e ∙ ap (λ (n : ℕ). Err (numbered n (pos 0))) (sym (seven h)), f)
     short (planless z never e f) h = absurd (not_none h z)
     short (readable z p has e f) h = absurd (not_none h z)
 
-pub readable_hold : (a : Shelved) (s' : List ℕ) → Shelves standard_table (two_edges 0xC8) 64 (replicate 7 0xEE) 0 a s' → (a ≡ answered.At 0 7) × (s' ≡ two_edges 0xC8)
+pub readable_hold : (a : Result Shelved Refusal) (s' : List ℕ) → Shelves standard_table (two_edges 0xC8) 64 (replicate 7 0xEE) 0 a s' → (a ≡ Ok (record { number = 0; used = 7 })) × (s' ≡ two_edges 0xC8)
 unfolding passes head_refusal head_refusals first_refusal word16 elem is_family stores_outside is_kind family head_length payload_length record_length writing_opened
     shelve_refusal shelve_answer shelved_bytes shelf_refused end_to_end all_pass records_in cut_into first_equal front
 readable_hold a s' c = go c
@@ -219,7 +221,7 @@ readable_hold a s' c = go c
     clear : record_refusal standard_table (two_edges 0xC8) 64 ≡ 0
     clear = clear_record standard_table (two_edges 0xC8) 64 (record { stands = standard_stands; passed = refl; room = omega arith })
 
-    go : Shelves standard_table (two_edges 0xC8) 64 (replicate 7 0xEE) 0 a s' → (a ≡ answered.At 0 7) × (s' ≡ two_edges 0xC8)
+    go : Shelves standard_table (two_edges 0xC8) 64 (replicate 7 0xEE) 0 a s' → (a ≡ Ok (record { number = 0; used = 7 })) × (s' ≡ two_edges 0xC8)
     go (unread d e f) = absurd (d clear)
     go (planless z never e f) = absurd (never pair has)
     go (readable z p q e f) = (e, f)
@@ -258,8 +260,8 @@ unfolding measuring_opened
 lengths_hold = (refl, refl, refl, refl, refl, refl, refl)
 
 -- "It meets refusals 3, 6, 7, 9, 10, then 8 if the list is too short": each where the next ones hold too
-pub measured_hold : (measure_answer triangle 96 2 ≡ Count 2) × (measure_answer (0 ∷ 0 ∷ 0 ∷ []) 0 0 ≡ Refused 3) × (measure_answer (0 ∷ 0 ∷ []) 0 0 ≡ Refused 6)
-    × (measure_answer (0 ∷ 1 ∷ 2 ∷ 3 ∷ []) 63 0 ≡ Refused 7) × (measure_answer (0 ∷ 1 ∷ 2 ∷ 3 ∷ []) 64 0 ≡ Refused 9)
-    × (measure_answer torus 96 0 ≡ NotPlanar (pos 0)) × (measure_answer triangle 96 1 ≡ Refused 8)
-unfolding measuring_opened
+pub measured_hold : (measure_answer triangle 96 2 ≡ Ok 2) × (measure_answer (0 ∷ 0 ∷ 0 ∷ []) 0 0 ≡ Err BadCount) × (measure_answer (0 ∷ 0 ∷ []) 0 0 ≡ Err BadEntry)
+    × (measure_answer (0 ∷ 1 ∷ 2 ∷ 3 ∷ []) 63 0 ≡ Err ShortWork) × (measure_answer (0 ∷ 1 ∷ 2 ∷ 3 ∷ []) 64 0 ≡ Err NotConnected)
+    × (measure_answer torus 96 0 ≡ Err (NotPlanar (pos 0))) × (measure_answer triangle 96 1 ≡ Err ShortOutput)
+unfolding measuring_opened numbered
 measured_hold = (refl, refl, refl, refl, refl, refl, refl)

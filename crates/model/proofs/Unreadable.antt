@@ -14,7 +14,10 @@ use lib.ListN.{length, get_or}
 use borrow.Author.Tests.{eq-eqb, not-true}
 use Rattle.model.specs.declared.Table.{Table}
 use Rattle.model.specs.declared.ReadBack.{ReadBack}
-use Rattle.model.specs.declared.ReadBack.TheVariants as readback
+use Rattle.std.specs.Prelude.{Result, Err}
+use Rattle.model.specs.declared.Refusal.{Refusal}
+use Rattle.model.specs.declared.Refusal.TheVariants.{NoFitPlan}
+use Rattle.model.specs.Refusals.{numbered}
 use Rattle.model.specs.Numbers.{elem, distinct, all_below, is_permutation, first_refusal}
 use Rattle.model.specs.Map.{Plan, darts, edges, is_family, stores_outside, is_kind, family, fit}
 use Rattle.model.specs.Groups.{standard_table}
@@ -36,12 +39,13 @@ unfolding passes
 room_clear t r w o stands passed h l = clear_read t r w o (clear_record t r w (record { stands = stands; passed = eq-eqb _ 0 passed; room = h })) l
 
 pub unreadable_refused : (r : List ℕ) → head_refusal r ≡ 0 → ((p : Plan) → HasRecord standard_table r p → ⊥) → Holds (on_reading r 13)
+unfolding numbered
 unreadable_refused r passed never w out h l = record { refused_so = unreadable clear never refl refl; only_so = λ a o c. go a o c }
   where
     clear : read_refusal standard_table r w (length out) ≡ 0
     clear = room_clear standard_table r w (length out) standard_stands passed h l
 
-    go : (a : ReadBack) (o : List ℕ) → Reads standard_table r w out a o → (a ≡ readback.Refused 13) × (o ≡ out)
+    go : (a : Result ReadBack Refusal) (o : List ℕ) → Reads standard_table r w out a o → (a ≡ Err NoFitPlan) × (o ≡ out)
     go a o (refused d e f) = absurd (d clear)
     go a o (read e p has f g) = absurd (never p has)
     go a o (unreadable e n f g) = (f, g)

@@ -26,22 +26,16 @@
 --   Stored                all that shelving promises
 --   fetch_refusal, fetched fetching: the number that is set, and the part that is returned
 --   Fetched               the bytes and the number that fetching promises
---   number_of_written, number_of_read, number_of_measured, number_of_shelved   the paper's number for each case of an answer
---   length_of_written, characteristic_of_written   the values of writing's answer
 --   edges_of_read, outside_of_read   the values of reading's answer
---   count_of_measured, characteristic_of_measured   the values of measuring's answer
 --   record_number_of_shelved, used_of_shelved   the values of shelving's answer
-use Rattle.std.specs.Prelude.{ℕ, ◌+◌, ◌-◌, ◌*◌, ◌≡◌, Bool, true, not, ◌&&◌, ◌||◌, cond, List, [], ◌∷◌, ◌++◌, ◌≢◌, eqb, ltb, ℤ, pos, length, get_or, take, drop, replicate}
+use Rattle.std.specs.Prelude.{ℕ, ◌+◌, ◌-◌, ◌*◌, ◌≡◌, Bool, true, not, ◌&&◌, ◌||◌, cond, List, [], ◌∷◌, ◌++◌, ◌≢◌, eqb, ltb, pos, length, get_or, take, drop, replicate, Result, Ok, Err}
 use Rattle.model.specs.declared.Table.{Table}
-use Rattle.model.specs.declared.Written.{Written}
-use Rattle.model.specs.declared.Written.TheVariants as written
+use Rattle.model.specs.declared.Refusal.{Refusal}
+use Rattle.model.specs.declared.Refusal.TheVariants.{NoFitPlan}
 use Rattle.model.specs.declared.ReadBack.{ReadBack}
-use Rattle.model.specs.declared.ReadBack.TheVariants as readback
-use Rattle.model.specs.declared.Measured.{Measured}
-use Rattle.model.specs.declared.Measured.TheVariants as measured
 use Rattle.model.specs.declared.Shelved.{Shelved}
-use Rattle.model.specs.declared.Shelved.TheVariants as shelved
-use Rattle.model.specs.Numbers.{Refusal, first_refusal, refuse, is_permutation}
+use Rattle.model.specs.Numbers.{Check, first_refusal, refuse, is_permutation}
+use Rattle.model.specs.Refusals.{numbered}
 use Rattle.model.specs.Map.{Plan, darts, edges, face_lengths, is_kind, stores_outside, family, dart_count_fits}
 use Rattle.model.specs.Map.{connected, planar, characteristic, outside_refused, loop_refused, face_refused, degree_refused, fit}
 use Rattle.model.specs.Traversal.{standard_face, standard_plan}
@@ -78,7 +72,7 @@ pub record Loads (bs : List ℕ) (t : Table) (number : ℕ) : Type 0 where
 
 -- "Writing meets 2, 3, 4, 6 to 12", by document 02 (e) 17 "right after 4", by (f) 18 "right after 11" and of kind 3 "8 comes last in writing", for a work area and an
 -- output of these lengths
-unfoldable pub early_refusals : ℕ → Plan → ℕ → ℕ → List Refusal
+unfoldable pub early_refusals : ℕ → Plan → ℕ → ℕ → List Check
 early_refusals k p work_length out_length =
     refuse 2 (not (is_kind k))
     ∷ refuse 3 (not (dart_count_fits (darts p)))
@@ -89,7 +83,7 @@ early_refusals k p work_length out_length =
     ∷ refuse 8 (not (length_varies k) && ltb out_length (record_length k (edges p.rotation)))
     ∷ []
 
-unfoldable pub late_refusals : ℕ → Plan → List Refusal
+unfoldable pub late_refusals : ℕ → Plan → List Check
 late_refusals f p =
     refuse 9 (not (connected p.rotation))
     ∷ refuse 10 (not (planar p.rotation))
@@ -98,7 +92,7 @@ late_refusals f p =
     ∷ refuse 12 (degree_refused f p)
     ∷ []
 
-unfoldable pub last_refusals : Table → ℕ → Plan → ℕ → List Refusal
+unfoldable pub last_refusals : Table → ℕ → Plan → ℕ → List Check
 last_refusals t k p out_length = refuse 8 (length_varies k && ltb out_length (length (record_of t k p))) ∷ []
 
 -- 19 is refused "before all others"
@@ -107,19 +101,17 @@ write_refusal t k p work_length out_length =
     first_refusal (refuse 19 (table_refused t) ∷ (early_refusals k p work_length out_length ++ (late_refusals (family k) p ++ last_refusals t k p out_length)))
 
 -- "Writing returns the record's length"; refusal 10 "also gives the characteristic"
-unfoldable pub answer_of : ℕ → Table → ℕ → Plan → Written
-answer_of r t k p =
-    cond (eqb r 0) (written.Length (length (record_of t k p)))
-    (cond (eqb r 10) (written.NotPlanar (characteristic p.rotation)) (written.Refused r))
+unfoldable pub answer_of : ℕ → Table → ℕ → Plan → Result ℕ Refusal
+answer_of r t k p = cond (eqb r 0) (Ok (length (record_of t k p))) (Err (numbered r (characteristic p.rotation)))
 
-unfoldable pub write_answer : Table → ℕ → Plan → ℕ → ℕ → Written
+unfoldable pub write_answer : Table → ℕ → Plan → ℕ → ℕ → Result ℕ Refusal
 write_answer t k p work_length out_length = answer_of (write_refusal t k p work_length out_length) t k p
 
 -- "and fills that many output bytes"
 unfoldable pub written_output : Table → ℕ → Plan → ℕ → List ℕ → List ℕ
 written_output t k p work_length out = cond (eqb (write_refusal t k p work_length (length out)) 0) (front (record_of t k p) out) out
 
-pub record Wrote (t : Table) (k : ℕ) (p : Plan) (work out : List ℕ) (answer : Written) (work' out' : List ℕ) : Type 0 where
+pub record Wrote (t : Table) (k : ℕ) (p : Plan) (work out : List ℕ) (answer : Result ℕ Refusal) (work' out' : List ℕ) : Type 0 where
   pub answered : answer ≡ write_answer t k p (length work) (length out)
   pub filled : out' ≡ written_output t k p (length work) out
   pub cleared : work' ≡ zeros work
@@ -127,7 +119,7 @@ pub record Wrote (t : Table) (k : ℕ) (p : Plan) (work out : List ℕ) (answer 
 -- ---- reading
 
 -- "reading 1, 2, 3, 5, 7, 8, 13"; 19 is refused "before all others". Shelving reads with no output, so without 8.
-unfoldable pub record_refusals : Table → List ℕ → ℕ → List Refusal
+unfoldable pub record_refusals : Table → List ℕ → ℕ → List Check
 record_refusals t r work_length = refuse 19 (table_refused t) ∷ (head_refusals r ++ (refuse 7 (ltb work_length (32 * edges_of r)) ∷ []))
 
 unfoldable pub record_refusal : Table → List ℕ → ℕ → ℕ
@@ -145,15 +137,15 @@ unfoldable pub outside_read : ℕ → Plan → ℕ
 outside_read k p = standard_face p (cond (stores_outside k) p.outside p.root)
 
 -- 13. "No fit plan of this kind has this record"; document 02 (h): "A byte outside it is refusal 13." "Reading returns m, with the standard plan in the first 2m entries and start 0."
-pub data Reads (t : Table) (r : List ℕ) (work_length : ℕ) (out : List ℕ) (answer : ReadBack) (out' : List ℕ) : Type 0 where
-  refused : (read_refusal t r work_length (length out) ≢ 0) → answer ≡ readback.Refused (read_refusal t r work_length (length out)) → out' ≡ out
+pub data Reads (t : Table) (r : List ℕ) (work_length : ℕ) (out : List ℕ) (answer : Result ReadBack Refusal) (out' : List ℕ) : Type 0 where
+  refused : (read_refusal t r work_length (length out) ≢ 0) → answer ≡ Err (numbered (read_refusal t r work_length (length out)) (pos 0)) → out' ≡ out
       → Reads t r work_length out answer out'
   read : (read_refusal t r work_length (length out) ≡ 0) → (p : Plan) → HasRecord t r p
-      → answer ≡ readback.Edges (edges_of r) (outside_read (kind_of r) p) → out' ≡ front (standard_plan p).rotation out → Reads t r work_length out answer out'
-  unreadable : (read_refusal t r work_length (length out) ≡ 0) → ((p : Plan) → HasRecord t r p → ⊥) → answer ≡ readback.Refused 13 → out' ≡ out
+      → answer ≡ Ok (record { edges = edges_of r; outside = outside_read (kind_of r) p }) → out' ≡ front (standard_plan p).rotation out → Reads t r work_length out answer out'
+  unreadable : (read_refusal t r work_length (length out) ≡ 0) → ((p : Plan) → HasRecord t r p → ⊥) → answer ≡ Err NoFitPlan → out' ≡ out
       → Reads t r work_length out answer out'
 
-pub record ReadCall (t : Table) (r work out : List ℕ) (answer : ReadBack) (work' out' : List ℕ) : Type 0 where
+pub record ReadCall (t : Table) (r work out : List ℕ) (answer : Result ReadBack Refusal) (work' out' : List ℕ) : Type 0 where
   pub outcome : Reads t r (length work) out answer out'
   pub cleared : work' ≡ zeros work
 
@@ -171,16 +163,15 @@ measure_refusal rot work_length list_length = first_refusal
     ∷ [])
 
 -- "it fills a lent list of 16-bit numbers and returns their count"
-unfoldable pub measure_answer : List ℕ → ℕ → ℕ → Measured
+unfoldable pub measure_answer : List ℕ → ℕ → ℕ → Result ℕ Refusal
 measure_answer rot work_length list_length =
     let r = measure_refusal rot work_length list_length in
-    cond (eqb r 0) (measured.Count (length (face_lengths rot)))
-    (cond (eqb r 10) (measured.NotPlanar (characteristic rot)) (measured.Refused r))
+    cond (eqb r 0) (Ok (length (face_lengths rot))) (Err (numbered r (characteristic rot)))
 
 unfoldable pub measured_list : List ℕ → ℕ → List ℕ → List ℕ
 measured_list rot work_length list = cond (eqb (measure_refusal rot work_length (length list)) 0) (front (face_lengths rot) list) list
 
-pub record Measures (rot work list : List ℕ) (answer : Measured) (work' list' : List ℕ) : Type 0 where
+pub record Measures (rot work list : List ℕ) (answer : Result ℕ Refusal) (work' list' : List ℕ) : Type 0 where
   pub answered : answer ≡ measure_answer rot (length work) (length list)
   pub filled : list' ≡ measured_list rot (length work) list
   pub cleared : work' ≡ zeros work
@@ -198,11 +189,12 @@ shelve_refusal r shelf used =
 
 -- "Shelving returns the record's number and the new used length: if equal bytes are already there, the first such number, with nothing stored; else
 -- they are put just past the used bytes."
-unfoldable pub shelve_answer : List ℕ → List ℕ → ℕ → Shelved
+unfoldable pub shelve_answer : List ℕ → List ℕ → ℕ → Result Shelved Refusal
 shelve_answer r shelf used =
     let rs = records_in (take used shelf) in
     let n = first_equal r rs in
-    cond (eqb (shelve_refusal r shelf used) 0) (shelved.At n (cond (eqb n (length rs)) (used + length r) used)) (shelved.Refused (shelve_refusal r shelf used))
+    cond (eqb (shelve_refusal r shelf used) 0) (Ok (record { number = n; used = cond (eqb n (length rs)) (used + length r) used }))
+    (Err (numbered (shelve_refusal r shelf used) (pos 0)))
 
 unfoldable pub shelved_bytes : List ℕ → List ℕ → ℕ → List ℕ
 shelved_bytes r shelf used =
@@ -211,15 +203,15 @@ shelved_bytes r shelf used =
 
 -- Document 02 (b): "It shall take a work area and read each new record first. A refusal met while reading the record is passed on: 7 and 13 may now come from
 -- shelving, after 5 and before 14." Every record handed in is new, equal bytes on the shelf or not. This repeals "a payload that nobody can read is shelved like any other".
-pub data Shelves (t : Table) (r : List ℕ) (work_length : ℕ) (shelf : List ℕ) (used : ℕ) (answer : Shelved) (shelf' : List ℕ) : Type 0 where
-  unread : (record_refusal t r work_length ≢ 0) → answer ≡ shelved.Refused (record_refusal t r work_length) → shelf' ≡ shelf
+pub data Shelves (t : Table) (r : List ℕ) (work_length : ℕ) (shelf : List ℕ) (used : ℕ) (answer : Result Shelved Refusal) (shelf' : List ℕ) : Type 0 where
+  unread : (record_refusal t r work_length ≢ 0) → answer ≡ Err (numbered (record_refusal t r work_length) (pos 0)) → shelf' ≡ shelf
       → Shelves t r work_length shelf used answer shelf'
-  planless : (record_refusal t r work_length ≡ 0) → ((p : Plan) → HasRecord t r p → ⊥) → answer ≡ shelved.Refused 13 → shelf' ≡ shelf
+  planless : (record_refusal t r work_length ≡ 0) → ((p : Plan) → HasRecord t r p → ⊥) → answer ≡ Err NoFitPlan → shelf' ≡ shelf
       → Shelves t r work_length shelf used answer shelf'
   readable : (record_refusal t r work_length ≡ 0) → (p : Plan) → HasRecord t r p → answer ≡ shelve_answer r shelf used → shelf' ≡ shelved_bytes r shelf used
       → Shelves t r work_length shelf used answer shelf'
 
-pub record Stored (t : Table) (r work shelf : List ℕ) (used : ℕ) (answer : Shelved) (work' shelf' : List ℕ) : Type 0 where
+pub record Stored (t : Table) (r work shelf : List ℕ) (used : ℕ) (answer : Result Shelved Refusal) (work' shelf' : List ℕ) : Type 0 where
   pub outcome : Shelves t r (length work) shelf used answer shelf'
   pub cleared : work' ≡ zeros work
 
@@ -235,66 +227,25 @@ pub record Fetched (shelf : List ℕ) (used n : ℕ) (part : List ℕ) (number :
   pub part_is : part ≡ fetched shelf used n
   pub number_is : number ≡ fetch_refusal shelf used n
 
--- ---- "If an answer is an enum, a definition sets out this paper's number and values for each of the enum's cases." The number 0 is no refusal.
+-- ---- "If an answer is an enum, a definition sets out this paper's number and values for each of the enum's cases." Its number is `number_of`; what writing and
+-- measuring return is 0 where they are refused, and so are these.
 
-abbrev pub number_of_written : Written → ℕ
-number_of_written (written.Length n) = 0
-number_of_written (written.Refused r) = r
-number_of_written (written.NotPlanar x) = 10
+-- the number of edges that is returned
+abbrev pub edges_of_read : Result ReadBack Refusal → ℕ
+edges_of_read (Ok r) = r.edges
+edges_of_read (Err e) = 0
 
--- the length that is returned; 0 where writing is refused
-abbrev pub length_of_written : Written → ℕ
-length_of_written (written.Length n) = n
-length_of_written (written.Refused r) = 0
-length_of_written (written.NotPlanar x) = 0
+-- the lowest dart of the outer face that is returned
+abbrev pub outside_of_read : Result ReadBack Refusal → ℕ
+outside_of_read (Ok r) = r.outside
+outside_of_read (Err e) = 0
 
--- the characteristic that refusal 10 gives; 0 elsewhere
-abbrev pub characteristic_of_written : Written → ℤ
-characteristic_of_written (written.Length n) = pos 0
-characteristic_of_written (written.Refused r) = pos 0
-characteristic_of_written (written.NotPlanar x) = x
-
-abbrev pub number_of_read : ReadBack → ℕ
-number_of_read (readback.Edges m outside) = 0
-number_of_read (readback.Refused r) = r
-
--- the number of edges that is returned; 0 where reading is refused
-abbrev pub edges_of_read : ReadBack → ℕ
-edges_of_read (readback.Edges m outside) = m
-edges_of_read (readback.Refused r) = 0
-
--- the lowest dart of the outer face that is returned; 0 where reading is refused
-abbrev pub outside_of_read : ReadBack → ℕ
-outside_of_read (readback.Edges m outside) = outside
-outside_of_read (readback.Refused r) = 0
-
-abbrev pub number_of_measured : Measured → ℕ
-number_of_measured (measured.Count n) = 0
-number_of_measured (measured.Refused r) = r
-number_of_measured (measured.NotPlanar x) = 10
-
--- the count that is returned; 0 where measuring is refused
-abbrev pub count_of_measured : Measured → ℕ
-count_of_measured (measured.Count n) = n
-count_of_measured (measured.Refused r) = 0
-count_of_measured (measured.NotPlanar x) = 0
-
--- the characteristic that refusal 10 gives; 0 elsewhere
-abbrev pub characteristic_of_measured : Measured → ℤ
-characteristic_of_measured (measured.Count n) = pos 0
-characteristic_of_measured (measured.Refused r) = pos 0
-characteristic_of_measured (measured.NotPlanar x) = x
-
-abbrev pub number_of_shelved : Shelved → ℕ
-number_of_shelved (shelved.At n used) = 0
-number_of_shelved (shelved.Refused r) = r
-
--- the record's number that is returned; 0 where shelving is refused
-abbrev pub record_number_of_shelved : Shelved → ℕ
-record_number_of_shelved (shelved.At n used) = n
-record_number_of_shelved (shelved.Refused r) = 0
+-- the record's number that is returned
+abbrev pub record_number_of_shelved : Result Shelved Refusal → ℕ
+record_number_of_shelved (Ok s) = s.number
+record_number_of_shelved (Err e) = 0
 
 -- the new used length that is returned; as before where shelving is refused
-abbrev pub used_of_shelved : ℕ → Shelved → ℕ
-used_of_shelved before (shelved.At n used) = used
-used_of_shelved before (shelved.Refused r) = before
+abbrev pub used_of_shelved : ℕ → Result Shelved Refusal → ℕ
+used_of_shelved before (Ok s) = s.used
+used_of_shelved before (Err e) = before

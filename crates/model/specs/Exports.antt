@@ -6,24 +6,27 @@
 --   MeasureExport         all that jurnadel_area_lengths promises
 --   ShelveExport          all that jurnadel_shelve promises
 --   FetchExport           all that jurnadel_fetch promises
-use Rattle.std.specs.Prelude.{ℕ, ◌≡◌, not, ◌&&◌, cond, List, ℤ, length, take, drop}
+use Rattle.std.specs.Prelude.{ℕ, ◌≡◌, not, ◌&&◌, cond, List, ℤ, length, take, drop, Result}
+use Rattle.std.specs.Result.{result_unwrap_or}
+use Rattle.model.specs.declared.Refusal.{Refusal}
 use Rattle.model.specs.declared.Table.{Table}
 use Rattle.model.specs.declared.ReadBack.{ReadBack}
 use Rattle.model.specs.declared.Shelved.{Shelved}
 use Rattle.model.specs.Map.{Plan, is_kind, edge_count_fits}
 use Rattle.model.specs.Record.{length_varies, record_length}
-use Rattle.model.specs.Calls.{zeros, write_answer, written_output, number_of_written, length_of_written, characteristic_of_written}
-use Rattle.model.specs.Calls.{Reads, number_of_read, edges_of_read, outside_of_read}
-use Rattle.model.specs.Calls.{measure_answer, measured_list, number_of_measured, count_of_measured, characteristic_of_measured}
-use Rattle.model.specs.Calls.{Shelves, number_of_shelved, record_number_of_shelved, used_of_shelved, fetch_refusal, fetched}
+use Rattle.model.specs.Refusals.{number_of, characteristic_of}
+use Rattle.model.specs.Calls.{zeros, write_answer, written_output}
+use Rattle.model.specs.Calls.{Reads, edges_of_read, outside_of_read}
+use Rattle.model.specs.Calls.{measure_answer, measured_list}
+use Rattle.model.specs.Calls.{Shelves, record_number_of_shelved, used_of_shelved, fetch_refusal, fetched}
 use Rattle.model.specs.Parts.{fetched_place}
 
 -- ---- writing
 
 pub record WriteExport (t : Table) (k : ℕ) (p : Plan) (work out : List ℕ) (r l : ℕ) (x : ℤ) (work' out' : List ℕ) : Type 0 where
-  pub number_is : r ≡ number_of_written (write_answer t k p (length work) (length out))
-  pub length_is : l ≡ length_of_written (write_answer t k p (length work) (length out))
-  pub characteristic_is : x ≡ characteristic_of_written (write_answer t k p (length work) (length out))
+  pub number_is : r ≡ number_of (write_answer t k p (length work) (length out))
+  pub length_is : l ≡ result_unwrap_or (write_answer t k p (length work) (length out)) 0
+  pub characteristic_is : x ≡ characteristic_of (write_answer t k p (length work) (length out))
   pub filled : out' ≡ written_output t k p (length work) out
   pub cleared : work' ≡ zeros work
 
@@ -31,9 +34,9 @@ pub record WriteExport (t : Table) (k : ℕ) (p : Plan) (work out : List ℕ) (r
 
 -- the numbers are those of the answer that reading gives
 pub record ReadExport (t : Table) (bytes work out : List ℕ) (r m outside : ℕ) (work' out' : List ℕ) : Type 0 where
-  pub answer : ReadBack
+  pub answer : Result ReadBack Refusal
   pub outcome : Reads t bytes (length work) out answer out'
-  pub number_is : r ≡ number_of_read answer
+  pub number_is : r ≡ number_of answer
   pub edges_are : m ≡ edges_of_read answer
   pub outside_is : outside ≡ outside_of_read answer
   pub cleared : work' ≡ zeros work
@@ -41,9 +44,9 @@ pub record ReadExport (t : Table) (bytes work out : List ℕ) (r m outside : ℕ
 -- ---- measuring
 
 pub record MeasureExport (rot work list : List ℕ) (r c : ℕ) (x : ℤ) (work' list' : List ℕ) : Type 0 where
-  pub number_is : r ≡ number_of_measured (measure_answer rot (length work) (length list))
-  pub count_is : c ≡ count_of_measured (measure_answer rot (length work) (length list))
-  pub characteristic_is : x ≡ characteristic_of_measured (measure_answer rot (length work) (length list))
+  pub number_is : r ≡ number_of (measure_answer rot (length work) (length list))
+  pub count_is : c ≡ result_unwrap_or (measure_answer rot (length work) (length list)) 0
+  pub characteristic_is : x ≡ characteristic_of (measure_answer rot (length work) (length list))
   pub filled : list' ≡ measured_list rot (length work) list
   pub cleared : work' ≡ zeros work
 
@@ -51,9 +54,9 @@ pub record MeasureExport (rot work list : List ℕ) (r c : ℕ) (x : ℤ) (work'
 
 -- the numbers are those of the answer that shelving gives
 pub record ShelveExport (t : Table) (bytes work shelf : List ℕ) (used : ℕ) (r n used' : ℕ) (work' shelf' : List ℕ) : Type 0 where
-  pub answer : Shelved
+  pub answer : Result Shelved Refusal
   pub outcome : Shelves t bytes (length work) shelf used answer shelf'
-  pub refusal_is : r ≡ number_of_shelved answer
+  pub refusal_is : r ≡ number_of answer
   pub number_is : n ≡ record_number_of_shelved answer
   pub used_is : used' ≡ used_of_shelved used answer
   pub cleared : work' ≡ zeros work

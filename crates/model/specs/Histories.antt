@@ -7,7 +7,8 @@
 --   storing u cs          the calls that stored their record
 --   AllFit cs             each of their records is a fit plan's under the table of the call
 --   HoldsPlans s cs       the shelf that a history from nothing leaves holds only records of fit plans
-use Rattle.std.specs.Prelude.{ℕ, ◌≡◌, false, cond, List, [], ◌∷◌, map, eqb, take}
+use Rattle.std.specs.Prelude.{ℕ, ◌≡◌, false, cond, List, [], ◌∷◌, map, eqb, take, Result}
+use Rattle.model.specs.declared.Refusal.{Refusal}
 use Rattle.model.specs.declared.Table.{Table}
 use Rattle.model.specs.declared.Shelved.{Shelved}
 use Rattle.model.specs.Map.{Plan}
@@ -18,7 +19,7 @@ pub record Shelving : Type 0 where
   pub table : Table
   pub bytes : List ℕ
   pub work : List ℕ
-  pub answer : Shelved
+  pub answer : Result Shelved Refusal
   pub work_after : List ℕ
   pub shelf_after : List ℕ
 

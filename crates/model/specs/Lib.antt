@@ -6,6 +6,7 @@ pub mod Mesh
 pub mod Groups
 pub mod Record
 pub mod Shelf
+pub mod Refusals
 pub mod Calls
 pub mod Histories
 pub mod ShelfWalk

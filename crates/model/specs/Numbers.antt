@@ -16,7 +16,7 @@
 --   sizes_below p n k    the sizes of the cycles whose least element is below k, in the order of these elements
 --   cycle_sizes p n      the sizes of all of them
 --   sum xs              the sum of the entries of xs
---   Refusal             a refusal's number with its condition; refuse makes one
+--   Check               a refusal's number with its condition; refuse makes one
 --   first_refusal rs     the number of the first refusal whose condition holds; 0 if none does
 use Rattle.std.specs.Prelude.{ℕ, zero, suc, min, ◌+◌, Bool, true, false, not, ◌&&◌, ◌||◌, cond, List, [], ◌∷◌, ◌++◌, eqb, ltb, length}
 
@@ -84,14 +84,14 @@ unfoldable pub sum : List ℕ → ℕ
 sum [] = 0
 sum (x ∷ xs) = x + sum xs
 
-pub record Refusal : Type 0 where
+pub record Check : Type 0 where
   pub number : ℕ
   pub holds : Bool
 
 -- "The first whose condition holds is returned, none without it."
-unfoldable pub first_refusal : List Refusal → ℕ
+unfoldable pub first_refusal : List Check → ℕ
 first_refusal [] = 0
 first_refusal (r ∷ rs) = let rest = first_refusal rs in cond r.holds r.number rest
 
-abbrev pub refuse : ℕ → Bool → Refusal
+abbrev pub refuse : ℕ → Bool → Check
 refuse n b = record { number = n; holds = b }

@@ -14,7 +14,7 @@
 --   compared r rs         of how many records a search for r compares more than the length
 --   shelf_refused s u      refusal 14 concerns the shelf s with used length u
 use Rattle.std.specs.Prelude.{ℕ, zero, suc, ◌+◌, ◌*◌, Bool, true, false, not, ◌&&◌, ◌||◌, cond, List, [], ◌∷◌, eqb, ltb, length, get_or, take, drop}
-use Rattle.model.specs.Numbers.{tick, Refusal, first_refusal, refuse}
+use Rattle.model.specs.Numbers.{tick, Check, first_refusal, refuse}
 use Rattle.model.specs.Map.{is_kind, edge_count_fits}
 use Rattle.model.specs.Record.{length_varies, record_length}
 
@@ -30,7 +30,7 @@ edges_of r = word16 r 4
 
 -- 1. "The record has fewer than 6 bytes, or its length field isn't the number of bytes lent." 2. "The kind is not 1 or 2", by document 02 (c) nor 4, by (e) nor 101h, 102h or 104h, by (f) nor 3.
 -- 3. "in a record, m is 0 or above 4,096". 5. "The length is not the one for this kind and m"; of kind 3, document 02 (f): "5 isn't given".
-unfoldable pub head_refusals : List ℕ → List Refusal
+unfoldable pub head_refusals : List ℕ → List Check
 head_refusals r =
     refuse 1 (ltb (length r) 6 || not (eqb (word16 r 0) (length r)))
     ∷ refuse 2 (not (is_kind (kind_of r)))

@@ -11,13 +11,15 @@
 --   PlaceByPlace cs ds    the lists match place by place
 --   AllMeetContract t cs  every call of the list, handed the table t, did what writing promises
 --   Demand3 t             demand 3, whole: any two lists of writing calls under one table, and the records that they give
-use Rattle.std.specs.Prelude.{ℕ, ◌≡◌, Bool, true, cond, List, [], ◌∷◌, ◌++◌, eqb, length, take}
+use Rattle.std.specs.Prelude.{ℕ, ◌≡◌, Bool, true, cond, List, [], ◌∷◌, ◌++◌, eqb, length, take, Result}
+use Rattle.std.specs.Result.{result_unwrap_or}
 use Rattle.model.specs.declared.Table.{Table}
-use Rattle.model.specs.declared.Written.{Written}
+use Rattle.model.specs.declared.Refusal.{Refusal}
 use Rattle.model.specs.Map.{Plan, fit}
 use Rattle.model.specs.Record.{record_of}
 use Rattle.model.specs.Renumbering.{Renumbering, Carries}
-use Rattle.model.specs.Calls.{Wrote, write_refusal, number_of_written, length_of_written}
+use Rattle.model.specs.Refusals.{number_of}
+use Rattle.model.specs.Calls.{Wrote, write_refusal}
 
 -- "each call is handed a plan, a kind, a work area and an output, with any content", by document 02 (h) a table too, one for all
 pub record Writing : Type 0 where
@@ -25,7 +27,7 @@ pub record Writing : Type 0 where
   pub plan : Plan
   pub work : List ℕ
   pub output : List ℕ
-  pub answer : Written
+  pub answer : Result ℕ Refusal
   pub work_after : List ℕ
   pub output_after : List ℕ
 
@@ -36,11 +38,11 @@ abbrev pub refusal_of : Table → Writing → ℕ
 refusal_of t c = write_refusal t c.kind c.plan (length c.work) (length c.output)
 
 unfoldable pub is_accepted : Writing → Bool
-is_accepted c = eqb (number_of_written c.answer) 0
+is_accepted c = eqb (number_of c.answer) 0
 
 -- "Its record, if the call isn't refused, is the first bytes of its output at its return, as many as the returned length."
 unfoldable pub bytes_written : Writing → List ℕ
-bytes_written c = cond (is_accepted c) (take (length_of_written c.answer) c.output_after) []
+bytes_written c = cond (is_accepted c) (take (result_unwrap_or c.answer 0) c.output_after) []
 
 -- "a refused call adds no byte, and an empty list has none"
 unfoldable pub laid_out : List Writing → List ℕ
@@ -71,10 +73,10 @@ AllMeetContract t (c ∷ cs) = MeetsContract t c × AllMeetContract t cs
 -- never gives it, every call is refused.
 pub record Demand3 (t : Table) : Type 0 where
   -- "a call is refused exactly when the list of refusals says so"
-  pub refused_exactly : (c : Writing) → MeetsContract t c → number_of_written c.answer ≡ refusal_of t c
+  pub refused_exactly : (c : Writing) → MeetsContract t c → number_of c.answer ≡ refusal_of t c
   -- "every other call gives its plan's record"
   pub gives_record : (c : Writing) → MeetsContract t c → refusal_of t c ≡ 0
-      → (bytes_written c ≡ record_of t c.kind c.plan) × (length_of_written c.answer ≡ length (record_of t c.kind c.plan))
+      → (bytes_written c ≡ record_of t c.kind c.plan) × (result_unwrap_or c.answer 0 ≡ length (record_of t c.kind c.plan))
   -- "the records laid end to end are the same bytes exactly when the calls not refused are equally many and match, place by place, in kind and by a
   -- renumbering of darts that carries start, opposites and turning order", by document 02 (e) outside area to outside area too, where it is stored
   pub equally_many : (cs ds : List Writing) → AllMeetContract t cs → AllMeetContract t ds → laid_out cs ≡ laid_out ds
