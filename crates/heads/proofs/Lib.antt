@@ -1,1 +1,1 @@
-mod Head
+mod Fields

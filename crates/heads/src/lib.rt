@@ -1,8 +1,11 @@
 #![tactic(auto)]
 
 // The heads of records: their fields, and refusals 1, 2, 3 and 5. Payloads and shelves are not known here.
-ghost use Rattle.std.specs.Prelude.{◌≡◌, suc, ◌<◌, length};
-ghost use Rattle.model.specs.Shelf.{word16, head_refusal};
+ghost use Rattle.std.specs.Prelude.{◌≡◌, suc, ◌<◌, length, IfOk};
+ghost use Rattle.model.specs.Refusals.{number_of};
+ghost use Rattle.model.specs.Shelf.{word16, kind_of, edges_of, head_refusal};
+
+use model::Refusal;
 
 // The little-endian 16-bit field at place i.
 pub fn field(bytes: &[u8], i: usize) -> u16
@@ -15,32 +18,32 @@ pub fn field(bytes: &[u8], i: usize) -> u16
     low + 256 * high
 }
 
-// The first of 1, 2, 3, 5 that concerns these bytes; 0 if none does.
-pub fn head_refusal(record: &[u8]) -> u16
-    ensures { result ≡ head_refusal «record».now }
+// What a head says: the kind and the number of edges.
+#[derive(Clone, Copy, Debug, PartialEq, Eq)]
+pub struct Head {
+    pub kind: u16,
+    pub edges: u16,
+}
+
+// The head of these bytes, or the first of 1, 2, 3, 5 that concerns them.
+pub fn parse(record: &[u8]) -> Result<Head, Refusal>
+    ensures number { number_of result ≡ head_refusal «record».now }
+    ensures fields { IfOk result (λ h. (h.kind ≡ kind_of «record».now) × (h.edges ≡ edges_of «record».now)) }
 {
-    if record.len() < 6 {
-        return 1;
-    }
-    if field(record, 0) as usize != record.len() {
-        return 1;
+    if record.len() < 6 || field(record, 0) as usize != record.len() {
+        return Err(Refusal::RecordCut);
     }
     let kind = field(record, 2);
     if !kinds::is_kind(kind) {
-        return 2;
+        return Err(Refusal::BadKind);
     }
-    let m = field(record, 4);
-    if m == 0 {
-        return 3;
+    let edges = field(record, 4);
+    if edges == 0 || edges > 4096 {
+        return Err(Refusal::BadCount);
     }
-    if m > 4096 {
-        return 3;
+    // in kind 3 the number of edges does not fix the length
+    if kind != 3 && record_lengths::record_length(kind, edges) != record.len() {
+        return Err(Refusal::BadLength);
     }
-    if kind == 3 {
-        return 0; // m does not fix the length
-    }
-    if record_lengths::record_length(kind, m) != record.len() {
-        return 5;
-    }
-    0
+    Ok(Head { kind, edges })
 }

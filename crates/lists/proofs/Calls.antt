@@ -15,22 +15,24 @@ use borrow.Author.Tests.{eqb-true, eq-eqb}
 use Rattle.model.specs.declared.Table.{Table}
 use Rattle.model.specs.Map.{fit}
 use Rattle.model.specs.Record.{record_of}
-use Rattle.model.specs.Calls.{front, table_refused, answer_of, write_answer, written_output, number_of_written, length_of_written}
+use Rattle.model.specs.Calls.{front, table_refused, answer_of, write_answer, written_output}
+use Rattle.std.specs.Result.{result_unwrap_or}
+use Rattle.model.specs.Refusals.{number_of}
 use Rattle.model.specs.Writings.{Writing, MeetsContract, refusal_of, is_accepted, bytes_written}
 use Rattle.model.proofs.Refusals.{not_refused}
-use Rattle.model.proofs.Answers.{number_of_written_lem}
+use Rattle.model.proofs.Answers.{number_of_written}
 
 module _ (t : Table) where
-  pub refused_exactly : (c : Writing) → MeetsContract t c → number_of_written c.answer ≡ refusal_of t c
-  refused_exactly c h = ap number_of_written h.answered ∙ number_of_written_lem t c.kind c.plan (length c.work) (length c.output)
+  pub refused_exactly : (c : Writing) → MeetsContract t c → number_of c.answer ≡ refusal_of t c
+  refused_exactly c h = ap number_of h.answered ∙ number_of_written t c.kind c.plan (length c.work) (length c.output)
 
   accepted_refusal : (c : Writing) → MeetsContract t c → is_accepted c ≡ true → refusal_of t c ≡ 0
   unfolding is_accepted
-  accepted_refusal c h a = sym (refused_exactly c h) ∙ eqb-true (number_of_written c.answer) 0 a
+  accepted_refusal c h a = sym (refused_exactly c h) ∙ eqb-true (number_of c.answer) 0 a
 
   pub accepted_where : (c : Writing) → MeetsContract t c → refusal_of t c ≡ 0 → is_accepted c ≡ true
   unfolding is_accepted
-  accepted_where c h e = eq-eqb (number_of_written c.answer) 0 (refused_exactly c h ∙ e)
+  accepted_where c h e = eq-eqb (number_of c.answer) 0 (refused_exactly c h ∙ e)
 
   pub accepted_stands : (c : Writing) → MeetsContract t c → is_accepted c ≡ true → table_refused t ≡ false
   accepted_stands c h a = (not_refused t c.kind c.plan (length c.work) (length c.output) (accepted_refusal c h a)).0
@@ -38,9 +40,9 @@ module _ (t : Table) where
   pub accepted_fit : (c : Writing) → MeetsContract t c → is_accepted c ≡ true → fit c.kind c.plan ≡ true
   accepted_fit c h a = (not_refused t c.kind c.plan (length c.work) (length c.output) (accepted_refusal c h a)).1
 
-  pub answer_length : (c : Writing) → MeetsContract t c → is_accepted c ≡ true → length_of_written c.answer ≡ length (record_of t c.kind c.plan)
+  pub answer_length : (c : Writing) → MeetsContract t c → is_accepted c ≡ true → result_unwrap_or c.answer 0 ≡ length (record_of t c.kind c.plan)
   unfolding write_answer answer_of
-  answer_length c h a = ap length_of_written h.answered ∙ simp (eq-eqb _ 0 (accepted_refusal c h a))
+  answer_length c h a = ap (λ a. result_unwrap_or a 0) h.answered ∙ simp (eq-eqb _ 0 (accepted_refusal c h a))
 
   output_is : (c : Writing) → MeetsContract t c → is_accepted c ≡ true → c.output_after ≡ front (record_of t c.kind c.plan) c.output
   unfolding written_output

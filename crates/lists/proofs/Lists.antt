@@ -9,7 +9,8 @@ use lib.ListN.{length}
 use Rattle.model.specs.declared.Table.{Table}
 use Rattle.model.specs.Map.{is_kind, fit}
 use Rattle.model.specs.Record.{record_of}
-use Rattle.model.specs.Calls.{table_refused, length_of_written}
+use Rattle.std.specs.Result.{result_unwrap_or}
+use Rattle.model.specs.Calls.{table_refused}
 use Rattle.model.specs.Writings.{Writing, MeetsContract, refusal_of, is_accepted, bytes_written, laid_out, accepted, Alike, PlaceByPlace, AllMeetContract, Demand3}
 use Rattle.model.proofs.Fitness.{fit_parts}
 use Rattle.renumbering.proofs.Connected.{at_most_one}
@@ -53,7 +54,7 @@ module _ (coders : (k : ℕ) → is_kind k ≡ true → Coder k) (t : Table) whe
   -- ---- one call
 
   gives_record : (c : Writing) → MeetsContract t c → refusal_of t c ≡ 0
-      → (bytes_written c ≡ record_of t c.kind c.plan) × (length_of_written c.answer ≡ length (record_of t c.kind c.plan))
+      → (bytes_written c ≡ record_of t c.kind c.plan) × (result_unwrap_or c.answer 0 ≡ length (record_of t c.kind c.plan))
   gives_record c h e =
       let a = accepted_where t c h e in
       (accepted_bytes t c h a, answer_length t c h a)

@@ -1,6 +1,6 @@
 use Prim.Native.Nat.{◌+◌}
 use native.Mathlib.Omega.{arith}
-use Rattle.heads.proofs.Head.{field_value}
+use Rattle.heads.proofs.Fields.{field_value}
 use borrow.Author.Rules.{rules}
 use Rattle.heads.proofs.field.Statement.{statement}
 use Rattle.heads.proofs.field.Tie as tie
