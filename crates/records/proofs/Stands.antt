@@ -4,11 +4,12 @@
 --   field_at              the length field at a place
 --   record_is             the record, where one passes
 --   record_short, record_long   no record stands there: too few bytes
---   length_refused, length_passes   the record's length, by its head's refusal
+--   length_refused, length_passes, length_some   the record's length, by its head's refusal
 --   stands, stands_not, stands_length   what the length of the record at a place tells
 --   passes_here, none_here, fits_here   the same, l being that length
 --   part_none, part_is, begins_none, begins_there   the part that is handed back: its bytes, and where it begins
 use mathlib.Core.Path.{◌≡◌, refl, sym, ap, ◌∙◌}
+use mathlib.Core.Logic.{◌≢◌}
 use mathlib.Core.Bool.{Bool, true, false}
 use mathlib.Core.List.{List, []}
 use Prim.Native.Nat.{ℕ, ◌+◌, ◌-◌, ◌≤◌, ◌<◌}
@@ -80,6 +81,10 @@ module _ (bs : List ℕ) (at : ℕ) where
 
       pub length_refused : (x ≡ 0 → ⊥) → 0 ≡ length (record_at bs at)
       length_refused d = sym (ap length (record_refused (λ e. d (sym part ∙ e))))
+
+      pub length_some : x ≡ 0 → l ≢ 0
+      unfolding passes
+      length_some e = let p = passes_long (take l (drop at bs)) (eq-eqb _ _ (part ∙ e)) in let t = length-take l (drop at bs) in omega arith
 
       pub length_passes : x ≡ 0 → at + l ≤ length bs → l ≡ length (record_at bs at)
       length_passes e h =

@@ -9,13 +9,12 @@
 use mathlib.Core.Path.{◌≡◌, refl, sym, ap, ◌∙◌}
 use mathlib.Core.Bool.{Bool, true, false, cond}
 use mathlib.Core.List.{List, ◌∷◌}
-use Prim.Native.Nat.{ℕ, zero, suc, ◌+◌, ◌-◌, ◌≤◌, ◌<◌}
-use native.Mathlib.Nat.{zero-add, not-suc-le-zero}
+use Prim.Native.Nat.{ℕ, suc, ◌+◌, ◌≤◌, ◌<◌}
+use native.Mathlib.Nat.{zero-add}
 use native.Mathlib.Omega.{arith}
 use lib.ListN.{length, take, drop, length-drop}
 use lib.Seq.{drop-drop, drop-length, length-take-le}
-use Rattle.records.specs.declared.Counted.{Counted}
-use Rattle.records.specs.declared.Counted.TheVariants.{Records, Broken}
+use Rattle.std.specs.Prelude.{Option, Some, None}
 use Rattle.model.specs.Shelf.{word16, passes, all_pass, records_in, end_to_end}
 use Rattle.model.specs.ShelfWalk.{first_record, record_at, place_of_record}
 use Rattle.records.specs.Count.{count_of}
@@ -36,24 +35,24 @@ module _ (bs : List ℕ) (at l : ℕ) (l-is : l ≡ length (record_at bs at)) wh
 
 -- ---- counting
 
-abbrev pub plus : ℕ → Counted → Counted
-plus n (Records k) = Records (n + k)
-plus n Broken = Broken
+abbrev pub plus : ℕ → Option ℕ → Option ℕ
+plus n (Some k) = Some (n + k)
+plus n None = None
 
 pub count_begins : (bs : List ℕ) → plus 0 (count_of bs) ≡ count_of bs
 count_begins bs = go (count_of bs)
   where
-    go : (x : Counted) → plus 0 x ≡ x
-    go (Records k) = ap Records (zero-add k)
-    go Broken = refl
+    go : (x : Option ℕ) → plus 0 x ≡ x
+    go (Some k) = ap Some (zero-add k)
+    go None = refl
 
 count_one : (bs : List ℕ) (n : ℕ) → passes (first_record bs) ≡ true → plus n (count_of bs) ≡ plus (n + 1) (count_of (rest bs))
 unfolding count_of
 count_one bs n p = rw (cut_verdict bs p) (go (end_to_end (rest bs)) refl)
   where
     go : (b : Bool) → end_to_end (rest bs) ≡ b
-        → plus n (cond b (Records (length (records_in bs))) Broken) ≡ plus (n + 1) (cond b (Records (length (records_in (rest bs)))) Broken)
-    go true e = let l = ap length (cut_records bs p e) in ap Records (omega arith)
+        → plus n (cond b (Some (length (records_in bs))) None) ≡ plus (n + 1) (cond b (Some (length (records_in (rest bs)))) None)
+    go true e = let l = ap length (cut_records bs p e) in ap Some (omega arith)
     go false e = refl
 
 module _ (bs : List ℕ) (at n l : ℕ) (l-is : l ≡ length (record_at bs at)) where
@@ -61,18 +60,17 @@ module _ (bs : List ℕ) (at n l : ℕ) (l-is : l ≡ length (record_at bs at)) 
   count_turn d =
       count_one (drop at bs) n (passes_here bs at l l-is d) ∙ ap (λ (r : List ℕ). plus (n + 1) (count_of r)) (rest_here bs at l l-is d)
 
-  pub count_stops : l ≡ 0 → at < length bs → plus n (count_of (drop at bs)) ≡ Broken
+  pub count_stops : l ≡ 0 → at < length bs → plus n (count_of (drop at bs)) ≡ None
   unfolding count_of
   count_stops e h = rw (broken_here bs at l l-is e h)
 
-pub count_ends : (bs : List ℕ) (at n : ℕ) → at ≡ length bs → plus n (count_of (drop at bs)) ≡ Records n
+pub count_ends : (bs : List ℕ) (at n : ℕ) → at ≡ length bs → plus n (count_of (drop at bs)) ≡ Some n
 unfolding count_of end_to_end all_pass
-count_ends bs at n e = rw (e, drop-length bs, end_nil) (ap Records (omega arith))
+count_ends bs at n e = rw (e, drop-length bs, end_nil) (ap Some (omega arith))
 
-place_cons : (r : List ℕ) (rs : List (List ℕ)) (k : ℕ) → 0 < k → place_of_record (r ∷ rs) k ≡ length r + place_of_record rs (k - 1)
+place_cons : (r : List ℕ) (rs : List (List ℕ)) (k j : ℕ) → k ≡ suc j → place_of_record (r ∷ rs) k ≡ length r + place_of_record rs j
 unfolding place_of_record
-place_cons r rs zero h = absurd (not-suc-le-zero h)
-place_cons r rs (suc k) h = let e : suc k - 1 ≡ k = omega arith in rw e
+place_cons r rs k j e = rw e refl
 
 -- ---- going from record to record, where bytes are known to be records end to end
 
@@ -107,14 +105,15 @@ module _ (bs : List ℕ) (at : ℕ) (t : end_to_end (drop at bs) ≡ true) (h : 
     length_here : length (take l (drop at bs)) ≡ l
     length_here = let d = length-drop at bs in let f = next_fits in length-take-le l (drop at bs) (omega arith)
 
-    pub place_turn : (k : ℕ) → 0 < k → at + place_of_record (records_in (drop at bs)) k ≡ at + l + place_of_record (records_in (drop (at + l) bs)) (k - 1)
-    place_turn k m =
-        let e = ap (λ (rs : List (List ℕ)). place_of_record rs k) next_records ∙ place_cons (take l (drop at bs)) (records_in (drop (at + l) bs)) k m in
-        let f = length_here in
-        omega arith
+    module _ (k j : ℕ) (next : k ≡ suc j) where
+      pub place_turn : at + place_of_record (records_in (drop at bs)) k ≡ at + l + place_of_record (records_in (drop (at + l) bs)) j
+      place_turn =
+          let e = ap (λ (rs : List (List ℕ)). place_of_record rs k) next_records ∙ place_cons (take l (drop at bs)) (records_in (drop (at + l) bs)) k j next in
+          let f = length_here in
+          omega arith
 
-    pub place_fewer : (k : ℕ) → 0 < k → k < length (records_in (drop at bs)) → k - 1 < length (records_in (drop (at + l) bs))
-    place_fewer k m b = let e = ap length next_records in omega arith
+      pub place_fewer : k < length (records_in (drop at bs)) → j < length (records_in (drop (at + l) bs))
+      place_fewer b = let e = ap length next_records in omega arith
 
 pub place_ends : (rs : List (List ℕ)) (at k : ℕ) → k ≡ 0 → at + place_of_record rs k ≡ at
 unfolding place_of_record
