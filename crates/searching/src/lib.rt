@@ -5,15 +5,13 @@
 ghost use Rattle.std.specs.Prelude.{◌≡◌, cond, ◌≤◌, length};
 ghost use Rattle.model.specs.Shelf.{kind_of, end_to_end, same};
 ghost use Rattle.searching.specs.Search.{search_of};
-ghost use Rattle.searching.specs.declared.Searched.TheVariants.{There, Broken};
+ghost use Rattle.searching.specs.declared.Searched.TheVariants.{There};
 
-// The number of the first equal record, or, where none is equal, how many records there are; then how many were compared beyond the length. Broken: the bytes
-// are not records end to end.
-#[derive(Drop)]
+// The number of the first equal record, or, where none is equal, how many records there are; then how many were compared beyond the length.
+#[derive(Clone, Copy, Debug, PartialEq, Eq)]
 pub enum Searched {
     There(usize, usize),
     Missing(usize, usize),
-    Broken,
 }
 
 // From the end on: records of one kind and size begin alike.
@@ -21,9 +19,8 @@ fn same(a: &[u8], b: &[u8]) -> bool
     requires { length a.now ≡ length b.now }
     ensures { result ≡ same a.now b.now }
 {
-    let mut i = a.len();
-    while 0 < i {
-        i -= 1;
+    // no `a == b`: that calls a function of the C library, and the library needs two alone
+    for i in (0..a.len()).rev() {
         if a[i] != b[i] {
             return false;
         }
@@ -36,24 +33,19 @@ fn equal(record: &[u8], kind: u16, other: &[u8]) -> bool
     requires { (length «record».now ≡ length other.now) × (6 ≤ length other.now) × (kind ≡ kind_of «record».now) }
     ensures { result ≡ same «record».now other.now }
 {
-    if heads::field(other, 2) != kind {
-        return false;
-    }
-    same(record, other)
+    heads::field(other, 2) == kind && same(record, other)
 }
 
 // Record n is the equal one. The bytes past it must be records end to end too.
-fn there(past: &[u8], n: usize, compared: usize) -> Searched
-    ensures { result ≡ cond (end_to_end past.now) (There n compared) Broken }
+fn there(past: &[u8], n: usize, compared: usize) -> Option<Searched>
+    ensures { result ≡ cond (end_to_end past.now) (Some (There n compared)) None }
 {
-    match records::count(past) {
-        records::Counted::Broken => Searched::Broken,
-        records::Counted::Records(_) => Searched::There(n, compared),
-    }
+    records::count(past)?;
+    Some(Searched::There(n, compared))
 }
 
-// The record's length and kind are fetched before the walk begins.
-pub fn search(record: &[u8], bytes: &[u8]) -> Searched
+// None where the bytes are not records end to end. The record's length and kind are fetched before the walk begins.
+pub fn search(record: &[u8], bytes: &[u8]) -> Option<Searched>
     requires { 6 ≤ length «record».now }
     ensures { result ≡ search_of «record».now bytes.now }
 {
@@ -63,10 +55,7 @@ pub fn search(record: &[u8], bytes: &[u8]) -> Searched
     let mut n = 0;
     let mut compared = 0;
     while at < bytes.len() {
-        let size = records::length_at(bytes, at);
-        if size == 0 {
-            return Searched::Broken;
-        }
+        let size = records::length_at(bytes, at)?;
         let end = at + size;
         if size == length {
             compared += 1;
@@ -77,5 +66,5 @@ pub fn search(record: &[u8], bytes: &[u8]) -> Searched
         at = end;
         n += 1;
     }
-    Searched::Missing(n, compared)
+    Some(Searched::Missing(n, compared))
 }
