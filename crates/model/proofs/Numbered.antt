@@ -6,6 +6,7 @@
 --   refused_so           so it is what is answered where the first refusal has its number
 --   refusal_some         a refusal's number is not 0
 --   ok_zero, err_some    so 0 is the number of an answer that is not refused, and of no other
+--   passed_on            a refusal that `?` hands on
 use Prim.Native.Nat.{ℕ}
 use lib.IntN.{ℤ}
 use mathlib.Core.Path.{◌≡◌, refl, sym, ap, ◌∙◌}
@@ -15,7 +16,7 @@ use mathlib.Core.List.{List, [], ◌∷◌}
 use lib.Dec.{eqb}
 use borrow.Author.Tests.{eqb-true}
 use native.Mathlib.Nat.{suc-ne-zero}
-use Rattle.std.specs.Prelude.{Result, Ok, Err, is_err}
+use Rattle.std.specs.Prelude.{Result, Ok, Err, is_err, IsErr, IsErrAnd}
 use Rattle.model.specs.declared.Refusal.{Refusal}
 use Rattle.model.specs.declared.Refusal.TheVariants.{RecordCut, BadKind, BadCount, BadStart, BadLength, BadEntry, ShortWork, ShortOutput, NotConnected, NotPlanar, HasLoop, HasDegreeOne, NoFitPlan, ShelfBroken, NoSuchRecord, ShelfFull, BadOutside, NotTriangles, BadTable}
 use Rattle.model.specs.Numbers.{Check, first_refusal}
@@ -94,3 +95,8 @@ module _ {A : Type 0} where
   pub err_some : (a : Result A Refusal) → is_err a ≡ true → number_of a ≢ 0
   err_some (Ok x) t = absurd (true≢false (sym t))
   err_some (Err e) t = refusal_some e
+
+  -- what `?` hands on
+  pub passed_on : (e : Refusal) (a : Result A Refusal) → IsErr a × IsErrAnd a (λ x. x ≡ e) → a ≡ Err e
+  passed_on e (Ok x) (_, p) = absurd p
+  passed_on e (Err x) (_, p) = ap Err p

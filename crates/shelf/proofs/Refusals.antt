@@ -3,18 +3,15 @@
 --   count_over, count_part       how many records there are
 --   fetch_broken, fetch_past, fetch_fine      14, 15, or none in fetching
 --   fetch_none                   where none holds in fetching: the shelf is fine, and holds the record
---   used_part                    the used bytes, as the code lends them
 --   count_broken, count_records  what a count tells
-use mathlib.Core.Path.{◌≡◌, refl, ap, ◌∙◌}
+use mathlib.Core.Path.{◌≡◌, refl, ◌∙◌}
 use mathlib.Core.Bool.{Bool, true, false, not, cond}
 use mathlib.Core.List.{List}
-use Prim.Native.Nat.{ℕ, ◌-◌, ◌≤◌, ◌<◌}
-use native.Mathlib.Nat.{sub-zero}
+use Prim.Native.Nat.{ℕ, ◌≤◌, ◌<◌}
 use native.Mathlib.Omega.{arith}
-use lib.ListN.{length, take, drop}
+use lib.ListN.{length, take}
 use borrow.Author.Tests.{lt-ltb, le-ltb, ltb-true, not-false}
-use Rattle.records.specs.declared.Counted.{Counted}
-use Rattle.records.specs.declared.Counted.TheVariants.{Records, Broken}
+use Rattle.std.specs.Prelude.{Option, Some, None}
 use Rattle.model.specs.Numbers.{first_refusal}
 use Rattle.model.specs.Shelf.{records_in, end_to_end, shelf_refused}
 use Rattle.model.specs.Calls.{fetch_refusal}
@@ -22,37 +19,33 @@ use Rattle.model.proofs.Refusals.{none_holds}
 use Rattle.records.specs.Count.{count_of}
 use Rattle.shelf.specs.Count.{shelf_count}
 
--- the used bytes, as the code lends them
-pub used_part : (s : List ℕ) (u : ℕ) → take (u - 0) (drop 0 s) ≡ take u s
-used_part s u = ap (λ (k : ℕ). take k s) (sub-zero u)
-
 module _ (s : List ℕ) (u : ℕ) where
-  pub count_over : length s < u → Broken ≡ shelf_count s u
+  pub count_over : length s < u → None ≡ shelf_count s u
   unfolding shelf_count shelf_refused
   count_over h = rw (lt-ltb _ _ h)
 
-  pub count_part : u ≤ length s → (x : Counted) → x ≡ count_of (take (u - 0) (drop 0 s)) → x ≡ shelf_count s u
+  pub count_part : u ≤ length s → (x : Option ℕ) → x ≡ count_of (take u s) → x ≡ shelf_count s u
   unfolding shelf_count shelf_refused count_of
-  count_part h x e = e ∙ (ap count_of (used_part s u) ∙ rw (le-ltb _ _ h) (go (end_to_end (take u s))))
+  count_part h x e = e ∙ rw (le-ltb _ _ h) (go (end_to_end (take u s)))
     where
-      go : (b : Bool) → cond b (Records (length (records_in (take u s)))) Broken ≡ cond (not b) Broken (Records (length (records_in (take u s))))
+      go : (b : Bool) → cond b (Some (length (records_in (take u s)))) None ≡ cond (not b) None (Some (length (records_in (take u s))))
       go true = refl
       go false = refl
 
-  pub count_broken : Broken ≡ shelf_count s u → shelf_refused s u ≡ true
+  pub count_broken : None ≡ shelf_count s u → shelf_refused s u ≡ true
   unfolding shelf_count
   count_broken = go (shelf_refused s u)
     where
-      go : (b : Bool) → Broken ≡ cond b Broken (Records (length (records_in (take u s)))) → b ≡ true
+      go : (b : Bool) → None ≡ cond b None (Some (length (records_in (take u s)))) → b ≡ true
       go true e = refl
       go false e = cc e
 
-  module _ (k : ℕ) (e : Records k ≡ shelf_count s u) where
+  module _ (k : ℕ) (e : Some k ≡ shelf_count s u) where
     pub count_records : (shelf_refused s u ≡ false) × (k ≡ length (records_in (take u s)))
     unfolding shelf_count
     count_records = go (shelf_refused s u) e
       where
-        go : (b : Bool) → Records k ≡ cond b Broken (Records (length (records_in (take u s)))) → (b ≡ false) × (k ≡ length (records_in (take u s)))
+        go : (b : Bool) → Some k ≡ cond b None (Some (length (records_in (take u s)))) → (b ≡ false) × (k ≡ length (records_in (take u s)))
         go true e = (cc e, cc e)
         go false e = (refl, cc e)
 
@@ -62,14 +55,14 @@ module _ (s : List ℕ) (u : ℕ) where
     unfolding fetch_refusal
     fetch_none e = let no = none_holds _ refl e in (no 14, ltb-true _ _ (not-false _ (no 15)))
 
-    pub fetch_broken : Broken ≡ shelf_count s u → 14 ≡ fetch_refusal s u n
+    pub fetch_broken : None ≡ shelf_count s u → 14 ≡ fetch_refusal s u n
     unfolding fetch_refusal first_refusal
     fetch_broken e = rw (count_broken e)
 
-    pub fetch_past : (k : ℕ) → Records k ≡ shelf_count s u → k ≤ n → 15 ≡ fetch_refusal s u n
+    pub fetch_past : (k : ℕ) → Some k ≡ shelf_count s u → k ≤ n → 15 ≡ fetch_refusal s u n
     unfolding fetch_refusal first_refusal
     fetch_past k e h = let c = count_records k e in rw (c.0, le-ltb n (length (records_in (take u s))) (omega arith))
 
-    pub fetch_fine : (k : ℕ) → Records k ≡ shelf_count s u → n < k → 0 ≡ fetch_refusal s u n
+    pub fetch_fine : (k : ℕ) → Some k ≡ shelf_count s u → n < k → 0 ≡ fetch_refusal s u n
     unfolding fetch_refusal first_refusal
     fetch_fine k e h = let c = count_records k e in rw (c.0, lt-ltb n (length (records_in (take u s))) (omega arith))

@@ -13,7 +13,7 @@ use mathlib.Core.Path.{◌≡◌, refl, sym, ap, ◌∙◌}
 use mathlib.Core.Logic.{◌⊎◌, inl, inr}
 use mathlib.Core.Bool.{Bool, true, false, cond}
 use mathlib.Core.List.{List, []}
-use Prim.Native.Nat.{ℕ, zero, suc, ◌+◌, ◌-◌, ◌≤◌, ◌<◌}
+use Prim.Native.Nat.{ℕ, zero, suc, ◌+◌, ◌≤◌, ◌<◌}
 use native.Mathlib.Decide.{ℕ_discrete}
 use native.Mathlib.Omega.{arith}
 use lib.Dec.{eqb}
@@ -30,7 +30,7 @@ use Rattle.model.proofs.Heads.{passes_long}
 use Rattle.records.proofs.Stands.{head_whole, record_is, record_short, stands, stands_length, stands_not}
 use Rattle.records.proofs.Cut.{rest, some_bytes, pass_at, end_head, end_rest, end_records}
 use Rattle.model.specs.Parts.{fetched_place, FetchedPart}
-use Rattle.shelf.proofs.Refusals.{used_part, fetch_none}
+use Rattle.shelf.proofs.Refusals.{fetch_none}
 
 record_drop : (bs : List ℕ) (l at : ℕ) → record_at bs (l + at) ≡ record_at (drop l bs) at
 unfolding record_at
@@ -106,15 +106,15 @@ module _ (s : List ℕ) (u n : ℕ) where
     unfolding begin_place
     begun_refused d = record { place_is = rw (ne_eqb (fetch_refusal s u n) 0 (λ e. d (x_is ∙ e))); number_is = x_is }
 
-    pub begun_parts : x ≡ 0 → (u ≤ length s) × (end_to_end (take (u - 0) (drop 0 s)) ≡ true) × (n < length (records_in (take (u - 0) (drop 0 s))))
-    begun_parts e = let f = fine_parts (sym x_is ∙ e) in (f.0, rw (used_part s u) f.1, rw (used_part s u) f.2)
+    pub begun_parts : x ≡ 0 → (u ≤ length s) × (end_to_end (take u s) ≡ true) × (n < length (records_in (take u s)))
+    begun_parts e = fine_parts (sym x_is ∙ e)
 
-    pub begun_fine : x ≡ 0 → (p : ℕ) → p ≡ place_of_record (records_in (take (u - 0) (drop 0 s))) n → Begun s u n p 0
+    pub begun_fine : x ≡ 0 → (p : ℕ) → p ≡ place_of_record (records_in (take u s)) n → Begun s u n p 0
     unfolding begin_place
     begun_fine e p p-is =
         let z = sym x_is ∙ e in
         record {
-          place_is = p-is ∙ rw (used_part s u, eq-eqb (fetch_refusal s u n) 0 z);
+          place_is = p-is ∙ rw (eq-eqb (fetch_refusal s u n) 0 z);
           number_is = sym z;
         }
 
