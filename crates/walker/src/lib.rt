@@ -2,11 +2,15 @@
 
 // A walker over a shelf: it holds the used bytes and the place that it has come to. Each function over it is thin and
 // leaves the work to a function of `shelf` or `records` with plain parameters.
-ghost use Rattle.std.specs.Prelude.{◌≡◌, take};
+ghost use Rattle.std.specs.Prelude.{◌≡◌, take, MatchResult};
+ghost use Rattle.model.specs.Refusals.{number_of_refusal};
+ghost use Rattle.model.specs.Calls.{fetch_refusal};
 ghost use Rattle.model.specs.ShelfWalk.{next_place, Begun};
 ghost use Rattle.model.specs.Parts.{CutOut, FetchedPart};
 
-#[derive(Drop)]
+use model::Refusal;
+
+#[derive(Clone, Copy)]
 pub struct Walker<'a> {
     pub src: &'a [u8],
     pub at: usize,
@@ -27,18 +31,19 @@ pub fn onward<'a>(w: Walker<'a>) -> Walker<'a>
     Walker { src: w.src, at }
 }
 
-// A walk from record n on. Refused as fetching is, the walker stands where no record is left.
-pub fn begin<'a>(bytes: &'a [u8], used: usize, n: usize, refusal: &mut u16) -> Walker<'a>
-    ensures { (result.src.now ≡ take used bytes.now) × (result.src.ref_ptr ≡ bytes.entry.ref_ptr) × Begun bytes.now used n result.at refusal.new }
+// A walk from record n on. It is refused as fetching is.
+pub fn begin<'a>(bytes: &'a [u8], used: usize, n: usize) -> Result<Walker<'a>, Refusal>
+    ensures { MatchResult result (λ w. (w.src.now ≡ take used bytes.now) × (w.src.ref_ptr ≡ bytes.entry.ref_ptr) × Begun bytes.now used n w.at 0)
+        (λ e. fetch_refusal bytes.now used n ≡ number_of_refusal e) }
 {
-    let at = shelf::walk_begin(bytes, used, n, refusal);
+    let at = shelf::walk_begin(bytes, used, n)?;
     let src = shelf::used_part(bytes, used);
-    Walker { src, at }
+    Ok(Walker { src, at })
 }
 
 // The record that a walk from record n yields first: for callers with plain parameters, who need no walk by hand.
-pub fn first<'a>(bytes: &'a [u8], used: usize, n: usize, refusal: &mut u16) -> &'a [u8]
-    ensures { FetchedPart bytes.entry used n result refusal.new }
+pub fn first<'a>(bytes: &'a [u8], used: usize, n: usize) -> Result<&'a [u8], Refusal>
+    ensures { MatchResult result (λ part. FetchedPart bytes.entry used n part 0) (λ e. fetch_refusal bytes.now used n ≡ number_of_refusal e) }
 {
-    here(begin(bytes, used, n, refusal))
+    Ok(here(begin(bytes, used, n)?))
 }
