@@ -2,22 +2,23 @@
 
 // The refusals that reading and shelving share and that need no payload: 19, 1, 2, 3, 5, 7. It knows heads of records and whether a table is one that loading
 // gives; no payloads and no plans.
-ghost use Rattle.read_checks.specs.Refused.{RefusedUnder};
+ghost use Rattle.std.specs.Prelude.{◌≡◌, IfOk};
+ghost use Rattle.model.specs.Refusals.{number_of};
+ghost use Rattle.model.specs.Shelf.{kind_of, edges_of};
+ghost use Rattle.model.specs.Calls.{record_refusal};
 
-// The first of 19, 1, 2, 3, 5, 7 that concerns the record, with a work area of this length, under a table that loading gives or not; 0 if none does.
-pub fn refusal(loaded: bool, record: &[u8], work: usize) -> u16
-    ensures { RefusedUnder loaded «record».now work result }
+use heads::Head;
+use model::{Refusal, Table};
+
+// The head of the record, or the first of 19, 1, 2, 3, 5, 7 that concerns it, with a work area of this length.
+pub fn checked(table: &Table, record: &[u8], work: usize) -> Result<Head, Refusal>
+    ensures number { number_of result ≡ record_refusal table.now «record».now work }
+    ensures fields { IfOk result (λ h. (h.kind ≡ kind_of «record».now) × (h.edges ≡ edges_of «record».now)) }
 {
-    if !loaded {
-        return 19;
+    table_test::check(table)?;
+    let head = heads::parse(record)?;
+    if work < 32 * head.edges as usize {
+        return Err(Refusal::ShortWork);
     }
-    let h = heads::head_refusal(record);
-    if h != 0 {
-        return h;
-    }
-    let m = heads::field(record, 4) as usize;
-    if work < 32 * m {
-        return 7;
-    }
-    0
+    Ok(head)
 }
