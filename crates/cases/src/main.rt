@@ -202,33 +202,35 @@ fn small(rt: &impl Print) -> io::Result<()> {
 // The car-park spur, from each of its starts.
 fn spur(rt: &impl Print) -> io::Result<()> {
     let order = [0, 2, 5, 4, 3, 1];
-    Case::new("order 0 2 5 4 3 1", &order).write(rt, 1)?;
-    Case::new("order 0 2 5 4 3 1, start 1", &order)
-        .root(1)
-        .write(rt, 1)?;
-    Case::new("order 0 2 5 4 3 1, start 2", &order)
-        .root(2)
-        .write(rt, 1)?;
-    Case::new("order 0 2 5 4 3 1, start 3", &order)
-        .root(3)
-        .write(rt, 1)?;
-    Case::new("order 0 2 5 4 3 1, start 4", &order)
-        .root(4)
-        .write(rt, 1)?;
-    Case::new("order 0 2 5 4 3 1, start 5", &order)
-        .root(5)
-        .write(rt, 1)
+    let names = [
+        "order 0 2 5 4 3 1",
+        "order 0 2 5 4 3 1, start 1",
+        "order 0 2 5 4 3 1, start 2",
+        "order 0 2 5 4 3 1, start 3",
+        "order 0 2 5 4 3 1, start 4",
+        "order 0 2 5 4 3 1, start 5",
+    ];
+    for (root, name) in (0..6).zip(names) {
+        Case::new(name, &order).root(root).write(rt, 1)?;
+    }
+    Ok(())
 }
 
 // Any planar plan, with loops and dead ends.
 fn any_plan(rt: &impl Print) -> io::Result<()> {
-    Case::new("order 1 0", &[1, 0]).write(rt, 4)?;
-    Case::new("order 0 1", &[0, 1]).write(rt, 4)?;
-    Case::new("order 5 2 1 4 3 0", &[5, 2, 1, 4, 3, 0]).write(rt, 4)?;
-    Case::new("order 5 2 4 0 1 3", &[5, 2, 4, 0, 1, 3]).write(rt, 4)?;
-    Case::new("order 0 2 5 4 3 1", &[0, 2, 5, 4, 3, 1]).write(rt, 4)?;
-    Case::new("order 0 1 2 3", &[0, 1, 2, 3]).write(rt, 4)?;
-    Case::new("order 3 2 4 5 1 0", &[3, 2, 4, 5, 1, 0]).write(rt, 4)
+    let cases = [
+        Case::new("order 1 0", &[1, 0]),
+        Case::new("order 0 1", &[0, 1]),
+        Case::new("order 5 2 1 4 3 0", &[5, 2, 1, 4, 3, 0]),
+        Case::new("order 5 2 4 0 1 3", &[5, 2, 4, 0, 1, 3]),
+        Case::new("order 0 2 5 4 3 1", &[0, 2, 5, 4, 3, 1]),
+        Case::new("order 0 1 2 3", &[0, 1, 2, 3]),
+        Case::new("order 3 2 4 5 1 0", &[3, 2, 4, 5, 1, 0]),
+    ];
+    for case in cases {
+        case.write(rt, 4)?;
+    }
+    Ok(())
 }
 
 // Meshes: the triangle, and the four of six trails.
@@ -250,21 +252,17 @@ fn meshes(rt: &impl Print) -> io::Result<()> {
 
 // Plans that are no meshes; 8 comes after all other refusals.
 fn no_meshes(rt: &impl Print) -> io::Result<()> {
-    Case::new("order 0 1, output 0", &[0, 1])
-        .output(0)
-        .write(rt, 3)?;
-    Case::new("order 1 0, output 0", &[1, 0])
-        .output(0)
-        .write(rt, 3)?;
-    Case::new("order 5 2 4 0 1 3, output 0", &[5, 2, 4, 0, 1, 3])
-        .output(0)
-        .write(rt, 3)?;
-    Case::new("order 0 1 2 3, output 0", &[0, 1, 2, 3])
-        .output(0)
-        .write(rt, 3)?;
-    Case::new("order 3 2 4 5 1 0, output 0", &[3, 2, 4, 5, 1, 0])
-        .output(0)
-        .write(rt, 3)
+    let cases = [
+        Case::new("order 0 1, output 0", &[0, 1]),
+        Case::new("order 1 0, output 0", &[1, 0]),
+        Case::new("order 5 2 4 0 1 3, output 0", &[5, 2, 4, 0, 1, 3]),
+        Case::new("order 0 1 2 3, output 0", &[0, 1, 2, 3]),
+        Case::new("order 3 2 4 5 1 0, output 0", &[3, 2, 4, 5, 1, 0]),
+    ];
+    for case in cases {
+        case.output(0).write(rt, 3)?;
+    }
+    Ok(())
 }
 
 fn short_mesh(rt: &impl Print) -> io::Result<()> {
