@@ -9,96 +9,84 @@ ghost use Rattle.model.specs.ShelfWalk.{next_place};
 
 use model::Shelved;
 use searching::Searched;
+use std::{fmt, io};
 use walker::Walker;
 
 // ---- printing
 
-fn digit(n: u8) -> u8 {
-    if n < 10 {
-        return b'0' + n;
-    }
-    if n < 16 {
-        return b'A' + (n - 10);
-    }
-    b'?'
-}
+// Bytes in hexadecimal, a space before each.
+#[derive(Drop)]
+struct Hex<'a>(&'a [u8]);
 
-fn show_byte(byte: u8) {
-    io::write_all(1, &[b' ', digit(byte / 16), digit(byte % 16)]);
-}
-
-fn show_bytes(bytes: &[u8]) {
-    let mut i = 0;
-    while i < bytes.len() {
-        show_byte(bytes[i]);
-        i += 1;
+impl fmt::Display for Hex<'_> {
+    fn fmt<W: fmt::Write>(&self, f: &mut fmt::Formatter<W>) -> fmt::Result {
+        for byte in self.0 {
+            write!(f, " {byte:02X}")?;
+        }
+        Ok(())
     }
 }
 
-fn show(text: &[u8], number: usize) {
-    io::write_all(1, text);
-    io::print_decimal(1, number as u64);
-}
-
-fn show_record(record: &[u8]) {
-    if record.len() == 0 {
-        io::write_all(1, b" none");
+fn show_record(rt: &impl Print, record: &[u8]) -> io::Result<()> {
+    if record.is_empty() {
+        return println!(rt; " none");
     }
-    show_bytes(record);
-    io::write_all(1, b"\n");
+    println!(rt; "{}", Hex(record))
 }
 
 // ---- shelving and fetching
 
 // Of how many records among these bytes the search for the record compares more than the length.
-fn show_compared(record: &[u8], bytes: &[u8]) {
+fn show_compared(rt: &impl Print, record: &[u8], bytes: &[u8]) -> io::Result<()> {
     if record.len() < 6 {
-        return;
+        return Ok(());
     }
     match searching::search(record, bytes) {
-        Searched::There(_, compared) => show(b", compared ", compared),
-        Searched::Missing(_, compared) => show(b", compared ", compared),
-        Searched::Broken => {}
+        Searched::There(_, compared) | Searched::Missing(_, compared) => {
+            print!(rt; ", compared {compared}")
+        }
+        Searched::Broken => Ok(()),
     }
 }
 
 // The record is shelved with this work area. The used length after that is returned.
-fn shelve_with(work: &mut [u16], record: &[u8], shelf: &mut [u8], used: usize) -> usize {
-    io::write_all(1, b"shelve");
-    show_bytes(record);
-    show(b", used ", used);
-    show(b" of ", shelf.len());
-    show(b", work ", work.len());
+fn shelve_with(
+    rt: &impl Print,
+    work: &mut [u16],
+    record: &[u8],
+    shelf: &mut [u8],
+    used: usize,
+) -> io::Result<usize> {
+    print!(rt;
+        "shelve{}, used {used} of {}, work {}",
+        Hex(record),
+        shelf.len(),
+        work.len()
+    )?;
     match shelving::shelve(tables::standard(), record, work, shelf, used) {
         Shelved::At(n, end) => {
-            show(b": record ", n);
-            show(b", used ", end);
-            show_compared(record, shelf::used_part(shelf, used));
-            io::write_all(1, b"\n");
-            end
+            print!(rt; ": record {n}, used {end}")?;
+            show_compared(rt, record, shelf::used_part(shelf, used))?;
+            println!(rt)?;
+            Ok(end)
         }
         Shelved::Refused(number) => {
-            show(b": refusal ", number as usize);
-            io::write_all(1, b"\n");
-            used
+            println!(rt; ": refusal {number}")?;
+            Ok(used)
         }
     }
 }
 
 // With room for three trails.
-fn shelve(record: &[u8], shelf: &mut [u8], used: usize) -> usize {
-    let mut work = [0xEEEE; 96];
-    shelve_with(&mut work, record, shelf, used)
+fn shelve(rt: &impl Print, record: &[u8], shelf: &mut [u8], used: usize) -> io::Result<usize> {
+    shelve_with(rt, &mut [0xEEEE; 96], record, shelf, used)
 }
 
-fn fetch(shelf: &[u8], used: usize, n: usize) {
+fn fetch(rt: &impl Print, shelf: &[u8], used: usize, n: usize) -> io::Result<()> {
     let mut refusal = 99;
     let part = shelf::fetch(shelf, used, n, &mut refusal);
-    show(b"fetch ", n);
-    show(b", used ", used);
-    show(b": refusal ", refusal as usize);
-    io::write_all(1, b",");
-    show_record(part);
+    print!(rt; "fetch {n}, used {used}: refusal {refusal},")?;
+    show_record(rt, part)
 }
 
 // ---- walking
@@ -117,214 +105,231 @@ fn moved(bytes: &[u8], at: usize) -> usize
     walker::onward(Walker { src: bytes, at }).at
 }
 
-fn show_step(bytes: &[u8], at: usize) {
-    show(b"  at ", at);
-    io::write_all(1, b":");
-    show_record(yielded(bytes, at));
-}
-
 // So many steps of a walker that holds the used bytes, from this place on.
-fn steps(shelf: &[u8], used: usize, place: usize, count: usize) {
+fn steps(rt: &impl Print, shelf: &[u8], used: usize, place: usize, count: usize) -> io::Result<()> {
     let bytes = shelf::used_part(shelf, used);
     let mut at = place;
-    let mut left = count;
-    while left > 0 {
-        show_step(bytes, at);
+    for _ in 0..count {
+        print!(rt; "  at {at}:")?;
+        show_record(rt, yielded(bytes, at))?;
         at = moved(bytes, at);
-        left -= 1;
     }
-}
-
-fn show_place(at: usize) {
-    show(b" ", at);
+    Ok(())
 }
 
 // The places of a walk with plain parameters.
-fn places(shelf: &[u8], used: usize, place: usize, count: usize) {
+fn places(
+    rt: &impl Print,
+    shelf: &[u8],
+    used: usize,
+    place: usize,
+    count: usize,
+) -> io::Result<()> {
     let mut at = place;
-    let mut left = count;
-    while left > 0 {
-        show_place(at);
+    for _ in 0..count {
+        print!(rt; " {at}")?;
         at = shelf::walk_next(shelf, used, at);
-        left -= 1;
     }
+    Ok(())
 }
 
 // A walk from record n on, of so many steps.
-fn walk(shelf: &[u8], used: usize, n: usize, count: usize) {
+fn walk(rt: &impl Print, shelf: &[u8], used: usize, n: usize, count: usize) -> io::Result<()> {
     let mut refusal = 99;
     let part = walker::first(shelf, used, n, &mut refusal);
-    show(b"walk from ", n);
-    show(b", used ", used);
-    show(b": refusal ", refusal as usize);
-    io::write_all(1, b",");
-    show_record(part);
+    print!(rt; "walk from {n}, used {used}: refusal {refusal},")?;
+    show_record(rt, part)?;
     let mut again = 99;
     let place = shelf::walk_begin(shelf, used, n, &mut again);
-    steps(shelf, used, place, count);
-    io::write_all(1, b"  places");
-    places(shelf, used, place, count);
-    io::write_all(1, b"\n");
+    steps(rt, shelf, used, place, count)?;
+    print!(rt; "  places")?;
+    places(rt, shelf, used, place, count)?;
+    println!(rt)
 }
 
 // ---- the cases
 
 // The starred records of document 01, one after another.
-fn shelve_kind_1(shelf: &mut [u8]) -> usize {
-    let one = shelve(&[7, 0, 1, 0, 2, 0, 0xC8], shelf, 0);
-    let two = shelve(&[8, 0, 1, 0, 3, 0, 0xE2, 0x00], shelf, one);
-    shelve(&[8, 0, 1, 0, 3, 0, 0xD2, 0x80], shelf, two)
+const STARRED: [&[u8]; 8] = [
+    &[7, 0, 1, 0, 2, 0, 0xC8],
+    &[8, 0, 1, 0, 3, 0, 0xE2, 0x00],
+    &[8, 0, 1, 0, 3, 0, 0xD2, 0x80],
+    &[8, 0, 2, 0, 1, 0, 0x80, 0xA2],
+    &[8, 0, 2, 0, 2, 0, 0xC0, 0x36],
+    &[8, 0, 2, 0, 2, 0, 0xA0, 0xD8],
+    &[8, 0, 2, 0, 2, 0, 0xC0, 0x51],
+    &[8, 0, 2, 0, 3, 0, 0xCC, 0x12],
+];
+
+fn shelve_starred(rt: &impl Print, shelf: &mut [u8]) -> io::Result<usize> {
+    let mut used = 0;
+    for record in STARRED {
+        used = shelve(rt, record, shelf, used)?;
+    }
+    Ok(used)
 }
 
-fn shelve_kind_2(shelf: &mut [u8], used: usize) -> usize {
-    let four = shelve(&[8, 0, 2, 0, 1, 0, 0x80, 0xA2], shelf, used);
-    let five = shelve(&[8, 0, 2, 0, 2, 0, 0xC0, 0x36], shelf, four);
-    let six = shelve(&[8, 0, 2, 0, 2, 0, 0xA0, 0xD8], shelf, five);
-    let seven = shelve(&[8, 0, 2, 0, 2, 0, 0xC0, 0x51], shelf, six);
-    shelve(&[8, 0, 2, 0, 3, 0, 0xCC, 0x12], shelf, seven)
+// The records are shelved one by one, each with this used length.
+fn shelve_each(
+    rt: &impl Print,
+    records: &[&[u8]],
+    shelf: &mut [u8],
+    used: usize,
+) -> io::Result<()> {
+    for record in records {
+        shelve(rt, record, shelf, used)?;
+    }
+    Ok(())
 }
 
 // Records that are there already.
-fn shelve_again(shelf: &mut [u8], used: usize) {
-    shelve(&[7, 0, 1, 0, 2, 0, 0xC8], shelf, used);
-    shelve(&[8, 0, 2, 0, 1, 0, 0x80, 0xA2], shelf, used);
-    shelve(&[8, 0, 2, 0, 2, 0, 0xC0, 0x36], shelf, used);
-    shelve(&[8, 0, 2, 0, 3, 0, 0xCC, 0x12], shelf, used);
-}
+const AGAIN: [&[u8]; 4] = [
+    &[7, 0, 1, 0, 2, 0, 0xC8],
+    &[8, 0, 2, 0, 1, 0, 0x80, 0xA2],
+    &[8, 0, 2, 0, 2, 0, 0xC0, 0x36],
+    &[8, 0, 2, 0, 3, 0, 0xCC, 0x12],
+];
 
 // Refusals 1 and 2, each twice: what is wrong with the kind or the number of edges comes after.
-fn shelve_1_2(shelf: &mut [u8], used: usize) {
-    shelve(&[5, 0, 1, 0, 2], shelf, used);
-    shelve(&[8, 0, 5, 0, 0, 0, 0xC8], shelf, used);
-    shelve(&[7, 0, 0, 0, 0, 0, 0xC8], shelf, used);
-    shelve(&[7, 0, 5, 0, 2, 0, 0xC8], shelf, used);
-}
+const REFUSED_1_2: [&[u8]; 4] = [
+    &[5, 0, 1, 0, 2],
+    &[8, 0, 5, 0, 0, 0, 0xC8],
+    &[7, 0, 0, 0, 0, 0, 0xC8],
+    &[7, 0, 5, 0, 2, 0, 0xC8],
+];
 
 // Refusals 3 and 5, each twice: no edge and 4,097 edges, and lengths for other numbers of edges.
-fn shelve_3_5(shelf: &mut [u8], used: usize) {
-    shelve(&[7, 0, 1, 0, 0, 0, 0xC8], shelf, used);
-    shelve(&[7, 0, 1, 0, 1, 16, 0xC8], shelf, used);
-    shelve(&[7, 0, 1, 0, 3, 0, 0xC8], shelf, used);
-    shelve(&[7, 0, 2, 0, 1, 0, 0x80], shelf, used);
-}
+const REFUSED_3_5: [&[u8]; 4] = [
+    &[7, 0, 1, 0, 0, 0, 0xC8],
+    &[7, 0, 1, 0, 1, 16, 0xC8],
+    &[7, 0, 1, 0, 3, 0, 0xC8],
+    &[7, 0, 2, 0, 1, 0, 0x80],
+];
 
 // Refusal 14: a used length past the shelf's, one that cuts a record, and one that reaches past the records. Then 16, one byte short.
-fn shelve_refused(shelf: &mut [u8]) {
-    shelve(&[7, 0, 1, 0, 2, 0, 0xC8], shelf, 71);
-    shelve(&[7, 0, 1, 0, 2, 0, 0xC8], shelf, 62);
-    shelve(&[7, 0, 1, 0, 2, 0, 0xC8], shelf, 64);
-    shelve(&[8, 0, 1, 0, 3, 0, 0xE1, 0x00], shelf, 63);
+fn shelve_refused(rt: &impl Print, shelf: &mut [u8]) -> io::Result<()> {
+    for used in [71, 62, 64] {
+        shelve(rt, &[7, 0, 1, 0, 2, 0, 0xC8], shelf, used)?;
+    }
+    shelve(rt, &[8, 0, 1, 0, 3, 0, 0xE1, 0x00], shelf, 63)?;
+    Ok(())
 }
 
 // Refusals met while reading: 13, also where 14 or 16 holds, and before it 7.
-fn shelve_unreadable(shelf: &mut [u8]) {
-    shelve_with(&mut [0xEEEE; 64], &[7, 0, 1, 0, 2, 0, 0xCC], shelf, 63);
-    shelve_with(&mut [0xEEEE; 63], &[7, 0, 1, 0, 2, 0, 0xCC], shelf, 63);
-    shelve_with(&mut [0xEEEE; 63], &[7, 0, 1, 0, 2, 0, 0xC8], shelf, 71);
-    shelve(&[7, 0, 1, 0, 2, 0, 0xCC], shelf, 71);
-    shelve(&[8, 0, 1, 0, 3, 0, 0xCC, 0xCC], shelf, 63);
+fn shelve_unreadable(rt: &impl Print, shelf: &mut [u8]) -> io::Result<()> {
+    let unreadable = [7, 0, 1, 0, 2, 0, 0xCC];
+    shelve_with(rt, &mut [0xEEEE; 64], &unreadable, shelf, 63)?;
+    shelve_with(rt, &mut [0xEEEE; 63], &unreadable, shelf, 63)?;
+    shelve_with(rt, &mut [0xEEEE; 63], &[7, 0, 1, 0, 2, 0, 0xC8], shelf, 71)?;
+    shelve(rt, &unreadable, shelf, 71)?;
+    shelve(rt, &[8, 0, 1, 0, 3, 0, 0xCC, 0xCC], shelf, 63)?;
+    Ok(())
 }
 
-fn fetch_kind_1(shelf: &[u8]) {
-    fetch(shelf, 63, 0);
-    fetch(shelf, 63, 1);
-    fetch(shelf, 63, 2);
-}
-
-fn fetch_kind_2(shelf: &[u8]) {
-    fetch(shelf, 63, 3);
-    fetch(shelf, 63, 4);
-    fetch(shelf, 63, 5);
-    fetch(shelf, 63, 6);
-    fetch(shelf, 63, 7);
+fn fetch_all(rt: &impl Print, shelf: &[u8]) -> io::Result<()> {
+    for n in 0..8 {
+        fetch(rt, shelf, 63, n)?;
+    }
+    Ok(())
 }
 
 // Numbers past the last record, an empty shelf, and shelves that are broken.
-fn fetch_refused(shelf: &[u8]) {
-    fetch(shelf, 63, 8);
-    fetch(shelf, 23, 3);
-    fetch(shelf, 0, 0);
-    fetch(shelf, 62, 0);
-    fetch(shelf, 71, 0);
+fn fetch_refused(rt: &impl Print, shelf: &[u8]) -> io::Result<()> {
+    for (used, n) in [(63, 8), (23, 3), (0, 0), (62, 0), (71, 0)] {
+        fetch(rt, shelf, used, n)?;
+    }
+    Ok(())
 }
 
-fn walk_all(shelf: &[u8]) {
-    walk(shelf, 63, 0, 9);
-    walk(shelf, 63, 5, 4);
-    walk(shelf, 15, 1, 2);
-    walk(shelf, 63, 8, 2);
-    walk(shelf, 0, 0, 2);
-    walk(shelf, 62, 0, 2);
-    walk(shelf, 71, 0, 2);
+// Used lengths, records to begin with, and how many steps.
+const WALKS: [(usize, usize, usize); 7] = [
+    (63, 0, 9),
+    (63, 5, 4),
+    (15, 1, 2),
+    (63, 8, 2),
+    (0, 0, 2),
+    (62, 0, 2),
+    (71, 0, 2),
+];
+
+fn walk_all(rt: &impl Print, shelf: &[u8]) -> io::Result<()> {
+    for (used, n, count) in WALKS {
+        walk(rt, shelf, used, n, count)?;
+    }
+    Ok(())
 }
 
 // Steps from places where no record stands.
-fn walk_nowhere(shelf: &[u8]) {
-    io::write_all(1, b"from places where nothing stands\n");
-    steps(shelf, 63, 3, 2);
-    steps(shelf, 63, 62, 2);
-    steps(shelf, 63, 1000, 2);
-    io::write_all(1, b"the last record cut short\n");
-    steps(shelf, 62, 47, 3);
+fn walk_nowhere(rt: &impl Print, shelf: &[u8]) -> io::Result<()> {
+    println!(rt; "from places where nothing stands")?;
+    for place in [3, 62, 1000] {
+        steps(rt, shelf, 63, place, 2)?;
+    }
+    println!(rt; "the last record cut short")?;
+    steps(rt, shelf, 62, 47, 3)
 }
 
 // A shelf that holds equal records: the first one's number.
-fn shelve_twins() {
+fn shelve_twins(rt: &impl Print) -> io::Result<()> {
     let mut shelf = [7, 0, 1, 0, 2, 0, 0xC8, 7, 0, 1, 0, 2, 0, 0xC8];
-    let used = shelve(&[7, 0, 1, 0, 2, 0, 0xC8], &mut shelf, 14);
-    fetch(&shelf, used, 1);
+    let used = shelve(rt, &[7, 0, 1, 0, 2, 0, 0xC8], &mut shelf, 14)?;
+    fetch(rt, &shelf, used, 1)
 }
 
 // An empty shelf that the record just fills.
-fn shelve_first() {
+fn shelve_first(rt: &impl Print) -> io::Result<()> {
     let mut shelf = [0xEE; 7];
-    let used = shelve_with(&mut [0xEEEE; 64], &[7, 0, 1, 0, 2, 0, 0xC8], &mut shelf, 0);
-    fetch(&shelf, used, 0);
+    let record = [7, 0, 1, 0, 2, 0, 0xC8];
+    let used = shelve_with(rt, &mut [0xEEEE; 64], &record, &mut shelf, 0)?;
+    fetch(rt, &shelf, used, 0)
 }
 
 // A lent shelf may hold a record that no plan has: it is fetched and walked over, others are put behind it, and it is not shelved again.
-fn shelve_lent() {
+fn shelve_lent(rt: &impl Print) -> io::Result<()> {
     let mut shelf = [
         7, 0, 1, 0, 2, 0, 0xCC, 0xEE, 0xEE, 0xEE, 0xEE, 0xEE, 0xEE, 0xEE,
     ];
-    shelve(&[7, 0, 1, 0, 2, 0, 0xCC], &mut shelf, 7);
-    let used = shelve(&[7, 0, 1, 0, 2, 0, 0xC8], &mut shelf, 7);
-    fetch(&shelf, used, 0);
-    walk(&shelf, used, 0, 3);
+    shelve(rt, &[7, 0, 1, 0, 2, 0, 0xCC], &mut shelf, 7)?;
+    let used = shelve(rt, &[7, 0, 1, 0, 2, 0, 0xC8], &mut shelf, 7)?;
+    fetch(rt, &shelf, used, 0)?;
+    walk(rt, &shelf, used, 0, 3)
 }
 
-fn shelve_all(shelf: &mut [u8]) {
-    let used = shelve_kind_1(shelf);
-    let full = shelve_kind_2(shelf, used);
-    shelve_again(shelf, full);
-    shelve_1_2(shelf, full);
-    shelve_3_5(shelf, full);
-    shelve_refused(shelf);
-    shelve_unreadable(shelf);
+fn shelve_all(rt: &impl Print, shelf: &mut [u8]) -> io::Result<()> {
+    let full = shelve_starred(rt, shelf)?;
+    shelve_each(rt, &AGAIN, shelf, full)?;
+    shelve_each(rt, &REFUSED_1_2, shelf, full)?;
+    shelve_each(rt, &REFUSED_3_5, shelf, full)?;
+    shelve_refused(rt, shelf)?;
+    shelve_unreadable(rt, shelf)
 }
 
-fn look(shelf: &[u8]) {
-    io::write_all(1, b"the shelf");
-    show_record(shelf);
-    fetch_kind_1(shelf);
-    fetch_kind_2(shelf);
-    fetch_refused(shelf);
-    walk_all(shelf);
-    walk_nowhere(shelf);
+fn look(rt: &impl Print, shelf: &[u8]) -> io::Result<()> {
+    print!(rt; "the shelf")?;
+    show_record(rt, shelf)?;
+    fetch_all(rt, shelf)?;
+    fetch_refused(rt, shelf)?;
+    walk_all(rt, shelf)?;
+    walk_nowhere(rt, shelf)
 }
 
 // A record that just fits.
-fn shelve_last(shelf: &mut [u8]) {
-    let used = shelve(&[7, 0, 4, 0, 1, 0, 0xB0], shelf, 63);
-    fetch(shelf, used, 8);
+fn shelve_last(rt: &impl Print, shelf: &mut [u8]) -> io::Result<()> {
+    let used = shelve(rt, &[7, 0, 4, 0, 1, 0, 0xB0], shelf, 63)?;
+    fetch(rt, shelf, used, 8)
 }
 
-fn main() {
+fn print_lines(rt: &impl Print) -> io::Result<()> {
     let mut shelf = [0xEE; 70];
-    shelve_all(&mut shelf);
-    look(&shelf);
-    shelve_last(&mut shelf);
-    shelve_twins();
-    shelve_first();
-    shelve_lent();
+    shelve_all(rt, &mut shelf)?;
+    look(rt, &shelf)?;
+    shelve_last(rt, &mut shelf)?;
+    shelve_twins(rt)?;
+    shelve_first(rt)?;
+    shelve_lent(rt)
+}
+
+// Output that cannot be written ends the run, which is no failure.
+fn main(rt: HostRuntime) {
+    let _ = print_lines(&rt);
 }
