@@ -11,13 +11,9 @@ pub fn copy(w: &[u16], m: usize, out: &mut [u16])
     requires { (m ≤ 4096) × (2 * m ≤ length w.now) × (2 * m ≤ length out.old) }
     ensures { out.new ≡ front (dual_of (region 0 (2 * m) w.now)) out.old }
 {
-    let mut e = 0;
-    while e < m {
+    for e in 0..m {
         let x = 2 * e;
-        let a = w[x];
-        let b = w[x + 1];
-        out[x] = b;
-        out[x + 1] = a;
-        e += 1;
+        out[x] = w[x + 1];
+        out[x + 1] = w[x];
     }
 }

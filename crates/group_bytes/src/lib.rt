@@ -10,11 +10,7 @@ pub fn apply(bytes: &[u8], out: &mut [u8], from: usize, count: usize)
     requires { (length bytes.now ≡ 243) × (from + count ≤ length out.old) × (from ≤ 2 ^ 20) × (count ≤ 2 ^ 20) × (all_below 243 (region from count out.old) ≡ true) }
     ensures { out.new ≡ placed from (map (λ v. get_or bytes.now v 0) (region from count out.old)) out.old }
 {
-    let mut i = 0;
-    while i < count {
-        let at = from + i;
-        let v = out[at] as usize;
-        out[at] = bytes[v];
-        i += 1;
+    for v in &mut out[from..from + count] {
+        *v = bytes[*v as usize];
     }
 }

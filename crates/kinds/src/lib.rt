@@ -4,45 +4,35 @@
 ghost use Rattle.std.specs.Prelude.{◌≡◌};
 ghost use Rattle.model.specs.Map.{is_family, stores_outside, is_kind, family};
 
+#[tactic(auto, unfolding(model::specs::Map::is_family, model::specs::Numbers::elem))]
 fn is_family(kind: u16) -> bool
     ensures { result ≡ is_family kind }
 {
-    if kind == 0 {
-        return false;
-    }
-    kind <= 4
+    matches!(kind, 1..=4)
 }
 
+#[tactic(auto, unfolding(model::specs::Map::stores_outside, model::specs::Numbers::elem))]
 pub fn stores_outside(kind: u16) -> bool
     ensures { result ≡ stores_outside kind }
 {
-    if kind < 0x100 {
-        return false;
-    }
-    if kind == 0x101 {
-        return true;
-    }
-    if kind == 0x102 {
-        return true;
-    }
-    kind == 0x104
+    matches!(kind, 0x101 | 0x102 | 0x104)
 }
 
+#[tactic(auto, unfolding(model::specs::Map::is_kind))]
 pub fn is_kind(kind: u16) -> bool
     ensures { result ≡ is_kind kind }
 {
-    if is_family(kind) {
-        return true;
-    }
-    stores_outside(kind)
+    is_family(kind) || stores_outside(kind)
 }
 
 // The kind without the outside's bytes.
+#[tactic(auto, unfolding(model::specs::Map::family, model::specs::Map::stores_outside, model::specs::Numbers::elem))]
 pub fn family(kind: u16) -> u16
     ensures { result ≡ family kind }
 {
     if stores_outside(kind) {
-        return kind - 0x100;
+        kind - 0x100
+    } else {
+        kind
     }
-    kind
 }

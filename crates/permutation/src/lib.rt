@@ -10,18 +10,12 @@ fn marked(order: &[u16], marks: &mut [u8]) -> bool
     requires { (length order.now ≤ 8 * length marks.old) × (bits marks.old ≡ replicate (8 * length marks.old) 0) }
     ensures { result ≡ is_permutation order.now }
 {
-    let mut i = 0;
-    while i < order.len() {
-        let x = order[i] as usize;
-        if x >= order.len() {
-            return false;
-        }
-        let b = bits::bit_at(marks, x);
-        if b != 0 {
+    for x in order {
+        let x = *x as usize;
+        if x >= order.len() || bits::bit_at(marks, x) != 0 {
             return false;
         }
         bits::put_bit(marks, x, 1);
-        i += 1;
     }
     true
 }

@@ -9,13 +9,11 @@ ghost use Rattle.standard_test.specs.Entries.{standard_entry, Alike};
 use model::Table;
 
 // The entry of the standard table's inverse at this place.
+#[tactic(auto, unfolding(crate::specs::Entries::standard_entry))]
 fn standard_entry(b: u8) -> u8
     ensures { result ≡ standard_entry b }
 {
-    if b < 243 {
-        return b;
-    }
-    243
+    b.min(243)
 }
 
 // Each of the first 224 entries is its own place in both lists, as in the standard table. The loop has no branch, so that many entries are compared at once,
@@ -25,11 +23,9 @@ fn first_places<'a>(bytes: &'a [u8], inverse: &'a [u8]) -> bool
     ensures { result ≡ true → Alike (λ v. v) 0 224 bytes.now × Alike (λ v. v) 0 224 inverse.now }
 {
     let mut differ = 0u8;
-    let mut v = 0;
-    while v < 224 {
+    for v in 0..224 {
         let here = v as u8;
-        differ = differ | ((bytes[v] ^ here) | (inverse[v] ^ here));
-        v += 1;
+        differ |= (bytes[v] ^ here) | (inverse[v] ^ here);
     }
     differ == 0
 }
@@ -40,10 +36,8 @@ fn last_bytes(bytes: &[u8]) -> bool
     ensures { result ≡ true → Alike (λ v. v) 224 243 bytes.now }
 {
     let mut differ = 0u8;
-    let mut v = 224;
-    while v < 243 {
-        differ = differ | (bytes[v] ^ (v as u8));
-        v += 1;
+    for v in 224..243 {
+        differ |= bytes[v] ^ (v as u8);
     }
     differ == 0
 }
@@ -54,10 +48,8 @@ fn last_entries(inverse: &[u8]) -> bool
     ensures { result ≡ true → Alike standard_entry 224 256 inverse.now }
 {
     let mut differ = 0u8;
-    let mut b = 224;
-    while b < 256 {
-        differ = differ | (inverse[b] ^ standard_entry(b as u8));
-        b += 1;
+    for b in 224..256 {
+        differ |= inverse[b] ^ standard_entry(b as u8);
     }
     differ == 0
 }
@@ -67,13 +59,7 @@ fn is_standard<'a>(bytes: &'a [u8], inverse: &'a [u8]) -> bool
     requires { (length bytes.now ≡ 243) × (length inverse.now ≡ 256) }
     ensures { result ≡ true → (bytes.now ≡ standard_table.bytes) × (inverse.now ≡ standard_table.inverse) }
 {
-    if !first_places(bytes, inverse) {
-        return false;
-    }
-    if !last_bytes(bytes) {
-        return false;
-    }
-    last_entries(inverse)
+    first_places(bytes, inverse) && last_bytes(bytes) && last_entries(inverse)
 }
 
 // The same of a table that is handed over by value: its entries are read at known places, so that no copy of it is made.

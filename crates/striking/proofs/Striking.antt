@@ -2,7 +2,8 @@
 --
 --   counted              of as many marks none is left exactly where the list is a permutation
 --   region_struck, below_struck   the first marks alone; marks stay 0 or 1
---   sum_more, left_few, left_all   how many marks are left: one mark more, no more than n, and all of them
+--   sum_is               the sum of a list, as the library adds it up
+--   few_left, left_is    how many marks are left: no more than n, and their sum
 --   sum_none             no mark is left where their sum is 0
 --   struck_next, rest_next, struck_end   one turn of the loop
 use mathlib.Core.Path.{◌≡◌, refl, sym, ap, ◌∙◌}
@@ -15,10 +16,12 @@ use native.Mathlib.Omega.{arith}
 use native.Mathlib.Numerals.{add-one}
 use lib.Dec.{eqb}
 use lib.ListN.{length, get_or, set, take, drop, replicate, length-set, length-replicate, get_or-replicate}
-use lib.Seq.{get_or-set_same, get_or-set_other, take-take, take-set-lt, drop-set-lt, length-take-le, drop-cons, drop-length}
+use lib.Seq.{get_or-set_same, get_or-set_other, take-set-lt, drop-set-lt, length-take-le, drop-cons, drop-length}
 use borrow.Author.Tests.{lt-ltb, eq-eqb, ne_eqb}
+use Rattle.std.specs.List as list
+use Rattle.std.proofs.lemmas.List.Sums.{sum_by-cons}
 use Rattle.model.specs.Numbers.{all_below, is_permutation, sum}
-use Rattle.model.proofs.Below.{below_head, below_tail, below_take, below_set, below_replicate}
+use Rattle.model.proofs.Below.{below_head, below_tail, below_set, below_replicate}
 use Rattle.model.proofs.Permutations.{below_all}
 use Rattle.work.specs.Area.{region}
 use Rattle.permutation.proofs.Marking.{run, decides}
@@ -26,33 +29,25 @@ use Rattle.striking.specs.Marks.{struck}
 
 -- ---- sums of marks
 
-pub sum_more : (w : List ℕ) (i : ℕ) → i < length w → sum (take (i + 1) w) ≡ sum (take i w) + get_or w i 0
+-- the library's sum
+pub sum_is : (w : List ℕ) → list.sum w ≡ sum w
 unfolding sum
-sum_more w i h = rw add-one (go w i h)
-  where
-    go : (w : List ℕ) (i : ℕ) → i < length w → sum (take (suc i) w) ≡ sum (take i w) + get_or w i 0
-    go [] i h = absurd (not-suc-le-zero h)
-    go (x ∷ w) zero h = omega arith
-    go (x ∷ w) (suc i) h = let ih = go w i (le_of_suc-le-suc h) in omega arith
+sum_is [] = refl
+sum_is (x ∷ w) = sum_by-cons (λ k. k) x w ∙ ap (λ (k : ℕ). x + k) (sum_is w)
 
 sum_few : (w : List ℕ) → all_below 2 w ≡ true → sum w ≤ length w
 unfolding sum
 sum_few [] e = omega arith
 sum_few (x ∷ w) e = let h = below_head 2 x w e in let ih = sum_few w (below_tail 2 x w e) in omega arith
 
--- the marks among the first i + 1 of n
-pub left_few : (n i : ℕ) (w : List ℕ) → i < n → n ≤ length w → all_below 2 (region 0 n w) ≡ true → sum (take i w) + get_or w i 0 ≤ n
+-- the marks among the first n
+pub few_left : (n : ℕ) (w : List ℕ) → n ≤ length w → all_below 2 (region 0 n w) ≡ true → list.sum (take n w) ≤ n
 unfolding region
-left_few n i w h l e =
-    let m = sum_more w i (omega arith) in
-    let t = take-take (i + 1) n w (omega arith) in
-    let f = sum_few (take (i + 1) w) (rw (← t) (below_take 2 (i + 1) (take n w) e)) in
-    let k = length-take-le (i + 1) w (omega arith) in
-    omega arith
+few_left n w h e = let f = sum_few (take n w) e in let k = length-take-le n w h in rw (sum_is (take n w)) (omega arith)
 
-pub left_all : (n i : ℕ) (w : List ℕ) (left : ℕ) → i ≡ n → left ≡ sum (take i w) → eqb left 0 ≡ eqb (sum (region 0 n w)) 0
+pub left_is : (n : ℕ) (w : List ℕ) → list.sum (take n w) ≡ sum (region 0 n w)
 unfolding region
-left_all n i w left h e = rw (e, h)
+left_is n w = sum_is (take n w)
 
 pub sum_none : (w : List ℕ) → sum w ≡ 0 → w ≡ replicate (length w) 0
 unfolding sum

@@ -13,14 +13,12 @@ fn strike(order: &[u16], w: &mut [u16]) -> bool
     ensures { Struck order.now w.old result w.new }
 {
     let n = order.len();
-    let mut i = 0;
-    while i < n {
-        let x = order[i] as usize;
+    for x in order {
+        let x = *x as usize;
         if x >= n {
             return false;
         }
         w[x] = 0;
-        i += 1;
     }
     true
 }
@@ -30,13 +28,7 @@ fn none_left(w: &[u16], n: usize) -> bool
     requires { (n ≤ length w.now) × (n ≤ 8192) × (all_below 2 (region 0 n w.now) ≡ true) }
     ensures { result ≡ eqb (sum (region 0 n w.now)) 0 }
 {
-    let mut left: u16 = 0;
-    let mut i = 0;
-    while i < n {
-        left += w[i];
-        i += 1;
-    }
-    left == 0
+    w[..n].iter().sum::<u16>() == 0
 }
 
 // Every entry is below the dart count, and no two are equal: one mark a dart, struck at each entry. No mark is left, so every number below the dart count is an entry.
@@ -46,9 +38,5 @@ pub fn is_permutation_in(order: &[u16], w: &mut [u16]) -> bool
 {
     let n = order.len();
     work::fill(w, 0, n, 1);
-    let below = strike(order, w);
-    if !below {
-        return false;
-    }
-    none_left(w, n)
+    strike(order, w) && none_left(w, n)
 }

@@ -1,16 +1,15 @@
 -- The test of a table is exact: each value's byte leads back to it, and 13 bytes are marked, exactly when loading gives the table.
 --
---   tick_more, tick_same, tick_bound, marks_on   one more mark, or none
---   leads_stop, leads_on, leads_end   whether each value's byte leads back to it, value by value
+--   mark_more, mark_same   one more entry, a mark or not
 --   test_exact           what is tested says that loading gives the table
 --   loaded_leads, loaded_marks   a table that loading gives passes both parts
 --   told_marks, told_all, told_standard   what the test tells of a table
-use Prim.Native.Nat.{ℕ, zero, suc, ◌+◌, ◌≤◌, ◌<◌}
+use Prim.Native.Nat.{ℕ, zero, suc, ◌+◌, ◌<◌}
 use native.Mathlib.Numerals.{add-one}
 use native.Mathlib.Omega.{arith}
 use mathlib.Core.Path.{◌≡◌, refl, sym, ap, ◌∙◌, subst}
 use mathlib.Core.Logic.{◌≢◌}
-use mathlib.Core.Bool.{Bool, true, false, not, ◌||◌, cond, true≢false, false≢true}
+use mathlib.Core.Bool.{Bool, true, false, not, ◌||◌, cond, true≢false}
 use mathlib.Core.List.{List, [], ◌∷◌}
 use lib.Dec.{T, eqb}
 use lib.ListN.{length, get_or}
@@ -18,7 +17,7 @@ use lib.Seq.{ext_get_or}
 use borrow.Author.Tests.{eqb-true, eqb-false, eq-eqb, ne_eqb, not-true}
 use Rattle.model.specs.declared.Table.{Table}
 use Rattle.model.specs.Numbers.{tick, count, elem, distinct, all_below, position}
-use Rattle.model.specs.Groups.{byte_for, is_table, inverse_of, loaded, standard_table}
+use Rattle.model.specs.Groups.{byte_for, is_table, inverse_of, standard_table}
 use Rattle.model.specs.Calls.{table_refused}
 use Rattle.model.proofs.Booleans.{and_left, and_right, T_true}
 use Rattle.model.proofs.Below.{below_head, below_tail}
@@ -30,38 +29,13 @@ use Rattle.table_test.specs.Tested.{is_mark, LeadsBack, Decides}
 
 -- ---- marks, one by one
 
-pub tick_more : (entry marks : ℕ) → entry ≡ 243 → marks + 1 ≡ tick (eqb entry 243) marks
-tick_more entry marks e = rw (eq-eqb entry 243 e) (omega arith)
-
-pub tick_bound : (b : Bool) (marks n r : ℕ) → marks ≤ n → r ≡ tick b marks → r ≤ n + 1
-tick_bound true marks n r h e = omega arith
-tick_bound false marks n r h e = omega arith
-
-pub marks_on : (inv : List ℕ) (b marks r : ℕ) → marks ≡ count (is_mark inv) b → r ≡ tick (is_mark inv b) marks → r ≡ count (is_mark inv) (b + 1)
+pub mark_more : (inv : List ℕ) (b marks : ℕ) → get_or inv b 0 ≡ 243 → marks ≡ count (is_mark inv) b → marks + 1 ≡ count (is_mark inv) (b + 1)
 unfolding count
-marks_on inv b marks r so_far e = rw (add-one, e, so_far)
+mark_more inv b marks e so_far = rw (add-one b, eq-eqb (get_or inv b 0) 243 e, so_far) (omega arith)
 
-pub tick_same : (entry marks : ℕ) → entry ≢ 243 → marks ≡ tick (eqb entry 243) marks
-tick_same entry marks d = rw (ne_eqb entry 243 d)
-
--- ---- values, one by one
-
-module _ (bs inv : List ℕ) (v : ℕ) where
-  abbrev BackBelow : ℕ → Type 0
-  BackBelow n = (i : ℕ) → i < n → get_or inv (get_or bs i 0) 0 ≡ i
-
-  pub leads_stop : v < 243 → get_or inv (get_or bs v 0) 0 ≢ v → Decides (LeadsBack bs inv) false
-  leads_stop h d = record { yes = λ e. absurd (false≢true e); no = λ e leads. d (leads v h) }
-
-  pub leads_on : get_or inv (get_or bs v 0) 0 ≡ v → BackBelow v → BackBelow (v + 1)
-  leads_on e before i h = go (eqb i v) refl
-    where
-      go : (b : Bool) → eqb i v ≡ b → get_or inv (get_or bs i 0) 0 ≡ i
-      go true s = let same = eqb-true i v s in ap (λ (x : ℕ). get_or inv (get_or bs x 0) 0) same ∙ e ∙ sym same
-      go false s = let other = eqb-false i v s in before i (omega arith)
-
-  pub leads_end : 243 ≤ v → BackBelow v → Decides (LeadsBack bs inv) true
-  leads_end h before = record { yes = λ e i l. before i (omega arith); no = λ e. absurd (true≢false e) }
+pub mark_same : (inv : List ℕ) (b marks : ℕ) → get_or inv b 0 ≢ 243 → marks ≡ count (is_mark inv) b → marks ≡ count (is_mark inv) (b + 1)
+unfolding count
+mark_same inv b marks d so_far = rw (add-one b, ne_eqb (get_or inv b 0) 243 d) so_far
 
 -- ---- how many bytes a list has
 

@@ -2,7 +2,7 @@
 --
 --   Filled g v xs        the first v entries of xs are those of g
 --   one_filled           one entry more
---   all_filled           in the end it is the table of g, or a list with its entries
+--   all_filled           in the end it is the table of g
 use Prim.Native.Nat.{ℕ, ◌+◌, ◌<◌}
 use native.Mathlib.Nat.{zero-add}
 use native.Mathlib.Omega.{arith}
@@ -11,7 +11,7 @@ use mathlib.Core.Bool.{Bool, true, false}
 use mathlib.Core.List.{List}
 use lib.Dec.{eqb}
 use lib.ListN.{length, get_or, set}
-use lib.Seq.{get_or-set_same, get_or-set_other, ext_get_or}
+use lib.Seq.{get_or-set_same, get_or-set_other}
 use borrow.Author.Tests.{eqb-true, eqb-false}
 use Rattle.model.specs.Numbers.{tabulate}
 use Rattle.model.proofs.Tabulated.{is_tabulate}
@@ -26,9 +26,5 @@ one_filled g v x xs h e filled i l = go (eqb i v) refl
     go true s = ap (λ (j : ℕ). get_or (set xs v x) j 0) (eqb-true i v s) ∙ get_or-set_same xs v x 0 h ∙ e ∙ ap g (sym (eqb-true i v s))
     go false s = let d = eqb-false i v s in get_or-set_other xs v i x 0 d ∙ filled i (omega arith)
 
-module _ (g : ℕ → ℕ) (n v : ℕ) (xs : List ℕ) (long : length xs ≡ n) (end : v ≡ n) (filled : Filled g v xs) where
-  pub all_filled : xs ≡ tabulate g 0 n
-  all_filled = is_tabulate g 0 n xs long (λ i h. filled i (omega arith) ∙ ap g (sym (zero-add i)))
-
-  pub all_copied : (ys : List ℕ) → length ys ≡ n → ((i : ℕ) → g i ≡ get_or ys i 0) → xs ≡ ys
-  all_copied ys l e = ext_get_or 0 xs ys (long ∙ sym l) (λ i h. filled i (omega arith) ∙ e i)
+pub all_filled : (g : ℕ → ℕ) (n v : ℕ) (xs : List ℕ) → length xs ≡ n → v ≡ n → Filled g v xs → xs ≡ tabulate g 0 n
+all_filled g n v xs long end filled = is_tabulate g 0 n xs long (λ i h. filled i (omega arith) ∙ ap g (sym (zero-add i)))

@@ -9,7 +9,7 @@ use mathlib.Core.Logic.{◌≢◌}
 use mathlib.Core.Bool.{Bool, true, false, not, true≢false}
 use mathlib.Core.List.{List}
 use lib.ListN.{length}
-use borrow.Author.Tests.{ne_eqb, not-true, not-false}
+use borrow.Author.Tests.{ne_eqb, not-true}
 use Rattle.model.specs.declared.Table.{Table}
 use Rattle.model.specs.Numbers.{first_refusal}
 use Rattle.model.specs.Groups.{is_table, inverse_of, loaded, no_table}
@@ -32,14 +32,14 @@ module _ (bs : List ℕ) (t : Table) (number : ℕ) where
   load_short d = none (rw (ne_eqb (length bs) 243 d))
 
   module _ (u : Table) (made : u ≡ loaded bs) (r : Bool) (told : r ≡ not (table_refused u)) where
-    pub load_equal : not r ≡ true → t ≡ no_table → number ≡ 19 → Loads bs t number
+    pub load_equal : r ≡ false → t ≡ no_table → number ≡ 19 → Loads bs t number
     load_equal failed = none (not_intro (is_table bs) (λ e.
-        true≢false (sym (ap not (ap table_refused made ∙ loaded_stands bs e)) ∙ sym told ∙ not-true r failed)))
+        true≢false (sym (ap not (ap table_refused made ∙ loaded_stands bs e)) ∙ sym told ∙ failed)))
 
-    pub load_good : not r ≡ false → t ≡ u → number ≡ 0 → Loads bs t number
+    pub load_good : r ≡ true → t ≡ u → number ≡ 0 → Loads bs t number
     unfolding loaded_table load_refusal first_refusal loaded
     load_good passed same is =
-        let stands = not-true (table_refused u) (sym told ∙ not-false r passed) in
+        let stands = not-true (table_refused u) (sym told ∙ passed) in
         let e = bytes_table (stands_loaded u stands).0 in
         record { table_is = rw e (same ∙ made); number_is = rw e is }
       where

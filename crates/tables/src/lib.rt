@@ -14,29 +14,14 @@ fn inverted(bytes: &[u8]) -> [u8; 256]
     ensures { result ≡ inverse_of bytes.now }
 {
     let mut inverse = [243u8; 256];
-    let mut v = 243;
-    while v > 0 {
-        v -= 1;
-        let b = bytes[v] as usize;
-        inverse[b] = v as u8;
+    for v in (0..243).rev() {
+        inverse[bytes[v] as usize] = v as u8;
     }
     inverse
 }
 
-fn copied(bytes: &[u8]) -> [u8; 243]
-    requires { length bytes.now ≡ 243 }
-    ensures { result ≡ bytes.now }
-{
-    let mut own = [0u8; 243];
-    let mut v = 0;
-    while v < 243 {
-        own[v] = bytes[v];
-        v += 1;
-    }
-    own
-}
-
 // Refusal 19: the table that every call refuses.
+#[tactic(auto, unfolding(model::specs::Groups::no_table))]
 fn no_table(refusal: &mut u16) -> Table
     ensures { (result ≡ no_table) × (refusal.new ≡ 19) }
 {
@@ -50,10 +35,9 @@ fn no_table(refusal: &mut u16) -> Table
 pub fn load(bytes: &[u8], refusal: &mut u16) -> Table
     ensures { Loads bytes.now result refusal.new }
 {
-    if bytes.len() != 243 {
+    let Ok(own) = <[u8; 243]>::try_from(bytes) else {
         return no_table(refusal);
-    }
-    let own = copied(bytes);
+    };
     let inverse = inverted(&own);
     if !table_test::leads_all_back(&own, &inverse) {
         return no_table(refusal);
@@ -70,15 +54,14 @@ fn numbers() -> [u8; 243]
     ensures { result ≡ tabulate (λ v. v) 0 243 }
 {
     let mut bytes = [0u8; 243];
-    let mut v = 0;
-    while v < 243 {
+    for v in 0..243 {
         bytes[v] = v as u8;
-        v += 1;
     }
     bytes
 }
 
 // The table under which a group's byte is its value.
+#[tactic(auto, using(crate::proofs::Loading::made_loaded), unfolding(model::specs::Groups::standard_table))]
 pub fn standard() -> Table
     ensures { result ≡ standard_table }
 {

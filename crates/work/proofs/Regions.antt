@@ -8,6 +8,7 @@
 --   region_placed, region_placed_other  the region where it was placed, and one beside it
 --   placed_placed, placed_region        placing twice; placing what is there
 --   set_placed, placed_snoc             a store into what was placed; a store just behind it
+--   placed_part                         a part that goes back with other entries
 --   placed_none                         placing nothing
 --   placed_beside                       entries placed in two parts, in either order
 --   placed_cons                         the first entry placed is a store
@@ -133,6 +134,10 @@ module _ (a : ℕ) (xs w : List ℕ) (fits : a + length xs ≤ length w) where
 pub placed_region : (a n : ℕ) (w : List ℕ) → a + n ≤ length w → placed a (region a n w) w ≡ w
 unfolding placed region
 placed_region a n w h = rw (length_region a n w h, ← drop-drop n a w, take-append-drop n (drop a w)) (take-append-drop a w)
+
+pub placed_part : (a n : ℕ) (xs w : List ℕ) → length xs ≡ n → take a w ++ (xs ++ drop n (drop a w)) ≡ placed a xs w
+unfolding placed
+placed_part a n xs w e = rw (drop-drop n a w, e)
 
 pub placed_none : (a : ℕ) (w : List ℕ) → placed a [] w ≡ w
 unfolding placed

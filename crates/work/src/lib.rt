@@ -68,33 +68,25 @@ pub fn fill(w: &mut [u16], a: usize, n: usize, x: u16)
     requires { a + n ≤ length w.old }
     ensures { w.new ≡ placed a (replicate n x) w.old }
 {
-    let e = a + n;
-    let mut i = a;
-    while i < e {
-        w[i] = x;
-        i += 1;
-    }
+    w[a..a + n].fill(x);
 }
 
 // "The work area, short or not, is zeros on every return."
+#[tactic(auto, unfolding(model::specs::Calls::zeros))]
 pub fn clear(w: &mut [u16])
     ensures { w.new ≡ zeros w.old }
 {
-    let mut i = 0;
-    while i < w.len() {
-        w[i] = 0;
-        i += 1;
-    }
+    w.fill(0);
 }
 
 // The first n entries of the work area become those of the output.
+#[tactic(auto, unfolding(model::specs::Calls::front, crate::specs::Area::region))]
 pub fn copy_front(w: &[u16], n: usize, out: &mut [u16])
     requires { (n ≤ length w.now) × (n ≤ length out.old) }
     ensures { out.new ≡ front (region 0 n w.now) out.old }
 {
-    let mut i = 0;
-    while i < n {
+    // Not copy_from_slice: that is compiled to memmove, and the library may need no more than memset and memcpy.
+    for i in 0..n {
         out[i] = w[i];
-        i += 1;
     }
 }
