@@ -36,7 +36,16 @@ pub extern "C" fn jurnadel_work_length(trails: u16) -> usize
 pub extern "C" fn jurnadel_load_table(bytes: &[u8], refusal: &mut u16) -> Table
     ensures { Loads bytes.now result refusal.new }
 {
-    tables::load(bytes, refusal)
+    match tables::load(bytes) {
+        Ok(table) => {
+            *refusal = 0;
+            table
+        }
+        Err(refused) => {
+            *refusal = refused.into();
+            tables::no_table()
+        }
+    }
 }
 
 // The table under which a group's byte is its value.
@@ -65,7 +74,7 @@ pub extern "C" fn jurnadel_write(
     ensures { WriteExport table kind (record { rotation = order.now; root = start; outside = outside }) work.old output.old result length.new characteristic.new work.new output.new }
 {
     let answer = writing::write(table, order, start, outside, kind, work, output);
-    outcomes::written(answer, length, characteristic)
+    outcomes::counted(answer, length, characteristic)
 }
 
 // The plan in its standard numbering goes to the first entries of `order`, the number of its trails to `trails`, and the lowest dart of the outside area to
@@ -98,7 +107,7 @@ pub extern "C" fn jurnadel_area_lengths(
     ensures { MeasureExport order.now work.old list.old result count.new characteristic.new work.new list.new }
 {
     let answer = measuring::measure(order, work, list);
-    outcomes::measured(answer, count, characteristic)
+    outcomes::counted(answer, count, characteristic)
 }
 
 // ---- the shelf
@@ -131,16 +140,18 @@ pub extern "C" fn jurnadel_fetch(
 ) -> u16
     ensures { FetchExport shelf.now used number result at.new length.new }
 {
-    let mut refusal = 0;
-    let place = shelf::walk_begin(shelf, used, number, &mut refusal);
-    if refusal != 0 {
-        *at = 0;
-        *length = 0;
-        return refusal;
+    match shelf::walk_begin(shelf, used, number) {
+        Ok(place) => {
+            *at = place;
+            *length = shelf::walk_length(shelf, used, place);
+            0
+        }
+        Err(refusal) => {
+            *at = 0;
+            *length = 0;
+            refusal.into()
+        }
     }
-    *at = place;
-    *length = shelf::walk_length(shelf, used, place);
-    0
 }
 
 // The place of the record, with which a walk begins, goes to `at`; the used length, where no record is left, if refused.
@@ -153,9 +164,16 @@ pub extern "C" fn jurnadel_walk_begin(
 ) -> u16
     ensures { Begun shelf.now used number at.new result }
 {
-    let mut refusal = 0;
-    *at = shelf::walk_begin(shelf, used, number, &mut refusal);
-    refusal
+    match shelf::walk_begin(shelf, used, number) {
+        Ok(place) => {
+            *at = place;
+            0
+        }
+        Err(refusal) => {
+            *at = used;
+            refusal.into()
+        }
+    }
 }
 
 // The length of the record that stands at this place of the used bytes; 0 if none is left there, or none that passes 1, 2, 3 and 5.

@@ -2,11 +2,13 @@
 
 // Group tables made: one loaded from bytes, with its inverse, and the standard one. It knows bytes and values, no records and no plans.
 ghost use Rattle.std.specs.Prelude.{◌≡◌, length};
+ghost use Rattle.std.specs.Result.{result_unwrap_or};
+ghost use Rattle.model.specs.Refusals.{number_of};
 ghost use Rattle.model.specs.Numbers.{tabulate};
 ghost use Rattle.model.specs.Groups.{inverse_of, standard_table, no_table};
 ghost use Rattle.model.specs.Calls.{Loads};
 
-use model::Table;
+use model::{Refusal, Table};
 
 // For each byte the first place where it stands, 243 where it does not.
 fn inverted(bytes: &[u8]) -> [u8; 256]
@@ -20,33 +22,31 @@ fn inverted(bytes: &[u8]) -> [u8; 256]
     inverse
 }
 
-// Refusal 19: the table that every call refuses.
+// The table of zeros, which every call refuses: it stands for the one that a refused loading does not give.
 #[tactic(auto, unfolding(model::specs::Groups::no_table))]
-fn no_table(refusal: &mut u16) -> Table
-    ensures { (result ≡ no_table) × (refusal.new ≡ 19) }
+pub fn no_table() -> Table
+    ensures { result ≡ no_table }
 {
-    *refusal = 19;
     let bytes = [0u8; 243];
     let inverse = [0u8; 256];
     Table { bytes, inverse }
 }
 
-// The table of these bytes; refused, the table of zeros. Any bytes, and any number of them.
-pub fn load(bytes: &[u8], refusal: &mut u16) -> Table
-    ensures { Loads bytes.now result refusal.new }
+// The table of these bytes. Any bytes, and any number of them.
+pub fn load(bytes: &[u8]) -> Result<Table, Refusal>
+    ensures { Loads bytes.now (result_unwrap_or result no_table) (number_of result) }
 {
     let Ok(own) = <[u8; 243]>::try_from(bytes) else {
-        return no_table(refusal);
+        return Err(Refusal::BadTable);
     };
     let inverse = inverted(&own);
-    if !table_test::leads_all_back(&own, &inverse) {
-        return no_table(refusal);
+    if table_test::leads_all_back(&own, &inverse) {
+        return Ok(Table {
+            bytes: own,
+            inverse,
+        });
     }
-    *refusal = 0;
-    Table {
-        bytes: own,
-        inverse,
-    }
+    Err(Refusal::BadTable)
 }
 
 // 0, 1, .., 242.

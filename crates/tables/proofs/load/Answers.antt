@@ -10,14 +10,11 @@ made : (c : After-leads_all_back) → let t : Table = record { bytes = c.in-Ok.o
 made c = made_loaded _ _ _ c.in-Ok.ensures.1.same c.inverted-inverse.ensures
 
 pub returns-in_default : goal.returns-in_default
-returns-in_default c = load_short _ _ _ c.in_default.ensures.1 c.no_table.ensures.0 c.no_table.ensures.1
+returns-in_default c = load_short _ _ _ c.in_default.ensures.1 refl refl
 
-pub returns-then-not-leads_all_back : goal.returns-then-not-leads_all_back
-returns-then-not-leads_all_back c =
-    let at = (goal.at.returns-then-not-leads_all_back c).After-leads_all_back in
-    let refused = c.no_table-then-not-leads_all_back.ensures in
-    load_equal _ _ _ _ (made at) _ c.leads_all_back.ensures c.if-not-leads_all_back.true refused.0 refused.1
+pub returns-then-leads_all_back : goal.returns-then-leads_all_back
+returns-then-leads_all_back c =
+    load_good _ _ _ _ (made (goal.at.returns-then-leads_all_back c).After-leads_all_back) _ c.leads_all_back.ensures c.if-leads_all_back.true refl refl
 
 pub returns : goal.returns
-returns c =
-    load_good _ _ _ _ (made (goal.at.returns c).After-leads_all_back) _ c.leads_all_back.ensures c.if-not-leads_all_back.false refl refl
+returns c = load_equal _ _ _ _ (made (goal.at.returns c).After-leads_all_back) _ c.leads_all_back.ensures c.if-leads_all_back.false refl refl
