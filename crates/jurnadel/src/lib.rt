@@ -37,9 +37,9 @@ pub extern "C" fn jurnadel_load_table(bytes: &[u8], refusal: &mut u16) -> Table
     ensures { Loads bytes.now result refusal.new }
 {
     match tables::load(bytes) {
-        Ok(table) => {
+        Ok(loaded) => {
             *refusal = 0;
-            table
+            loaded
         }
         Err(refused) => {
             *refusal = refused.into();
@@ -141,9 +141,9 @@ pub extern "C" fn jurnadel_fetch(
     ensures { FetchExport shelf.now used number result at.new length.new }
 {
     match shelf::walk_begin(shelf, used, number) {
-        Ok(place) => {
-            *at = place;
-            *length = shelf::walk_length(shelf, used, place);
+        Ok(begin) => {
+            *at = begin;
+            *length = shelf::walk_length(shelf, used, begin);
             0
         }
         Err(refusal) => {
