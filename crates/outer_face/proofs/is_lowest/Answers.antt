@@ -28,7 +28,7 @@ loop-d-preserved c =
     let f = steps _ c.requires.0 c.requires.1 in
     rw c.along-d-in-loop-d.ensures (
       f.bound c.loop-d.d c.loop-d.invariant.0,
-      (c.loop-d.invariant.1.0 + 1, rising_step _ _ f _ c.requires.2 c.loop-d.invariant.1.1 c.loop-d-test.true),
+      (c.loop-d.invariant.1.0 + 1, rising_step _ _ f _ c.requires.2 c.loop-d.invariant.1.1 (omega arith)),
     )
 
 pub returns : goal.returns

@@ -31,13 +31,11 @@ loop-x-smaller c =
 
 pub loop-x-preserved : goal.loop-x-preserved
 loop-x-preserved c =
-    let e = c.standard.ensures in
-    let m = c.min-least.ensures in
     rw c.along-x-in-loop-x.ensures (
       (along_faces c.requires).bound c.loop-x.x c.loop-x.invariant.0,
       (
         c.loop-x.invariant.1.0 + 1,
-        along_on _ _ _ c.loop-x.invariant.1.1 c.loop-x-test.true _ (omega (arith, e, m)) (omega (arith, e, m)) (grind (arith, e, m)),
+        along_on _ _ _ c.loop-x.invariant.1.1 c.loop-x-test.true _ (omega arith) (omega arith) (grind arith),
       ),
     )
 
