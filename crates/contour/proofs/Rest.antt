@@ -2,11 +2,11 @@
 --
 --   left rot root d i w                how many darts the walk from d on meets, i darts being met
 --   Started, started                   a walk's area w, and w₂, the same with no dart met and no vertex seen
---   Walking rot root w₀ d i w          i darts are met and d comes next: with those that are left they are the darts of the walk
+--   Walking rot root d i w             i darts are met and d comes next: with those that are left they are the darts of the walk
 --   begun                              at the root, its vertex seen
 --   going_on                           one step that doesn't lead back to the root
 --   walked_back, walked_all            the step that leads back to the root ends the walk, and so does the last dart
-use mathlib.Core.Path.{◌≡◌, refl, sym, ap, subst, ◌∙◌}
+use mathlib.Core.Path.{◌≡◌, sym, ap, subst, ◌∙◌}
 use mathlib.Core.Logic.{◌≢◌}
 use mathlib.Core.Bool.{true}
 use mathlib.Core.List.{List, []}
@@ -38,13 +38,10 @@ pub record Started (rot : List ℕ) (root : ℕ) (w w₂ : List ℕ) : Type 0 wh
   pub bound : get_or w₂ root 0 < length rot
   pub unmet : met_in (length rot) w₂ ≡ replicate (length rot) 0
   pub unseen : seen_in (length rot) w₂ ≡ replicate (length rot) 0
-  pub kept : length w₂ ≡ length w
 
-pub record Walking (rot : List ℕ) (root : ℕ) (w₀ : List ℕ) (d i : ℕ) (w : List ℕ) : Type 0 where
+pub record Walking (rot : List ℕ) (root : ℕ) (d i : ℕ) (w : List ℕ) : Type 0 where
   pub inside : d < length rot
-  pub places : i ≤ length rot
   pub room : 3 * length rot ≤ length w
-  pub kept : length w ≡ length w₀
   pub names : VerticesNamed rot w
   pub rest : i + left rot root d i w ≡ length (visits (record { rotation = rot; root = root; outside = 0 }))
 
@@ -73,7 +70,6 @@ started rot root w w₁ w₂ count perm inside room named e₁ e₂ =
       unmet = ap (met_in n) e₂ ∙ region_placed_other (SEEN * n) zs w₁ (omega arith) (MET * n) n (λ h. absurd (omega arith))
           ∙ ap (met_in n) e₁ ∙ region_placed (MET * n) zs w (omega arith) n (sym z);
       unseen = ap (seen_in n) e₂ ∙ region_placed (SEEN * n) zs w₁ (omega arith) n (sym z);
-      kept = k₂ ∙ k₁;
     }
 
 -- ---- the definition of the walk, one step of it
@@ -97,7 +93,7 @@ module _ {rot : List ℕ} {root : ℕ} {w w₂ : List ℕ} (s : Started rot root
 
   -- ---- the start
 
-  pub begun : Walking rot root (set w₂ (SEEN * n + get_or w₂ root 0) 1) root 0 (set w₂ (SEEN * n + get_or w₂ root 0) 1)
+  pub begun : Walking rot root root 0 (set w₂ (SEEN * n + get_or w₂ root 0) 1)
   unfolding visits
   begun =
       let v = get_or w₂ root 0 in
@@ -110,44 +106,40 @@ module _ {rot : List ℕ} {root : ℕ} {w w₂ : List ℕ} (s : Started rot root
       let whole : n - 0 ≡ n = omega arith in
       record {
         inside = s.inside;
-        places = omega arith;
         room = omega (arith, s.room, length-set w₂ (SEEN * n + v) 1);
-        kept = refl;
         names = region_set_other 0 n w₂ (SEEN * n + v) 1 (λ _. omega arith) ∙ s.names;
         rest = rw (met, seen, whole) (omega arith);
       }
 
   -- ---- the end
 
-  pub walked_all : {w₀ : List ℕ} {d i : ℕ} {w' : List ℕ} → Walking rot root w₀ d i w' → length w₀ ≡ length w₂ → n ≤ i → Walked p w i w'
+  pub walked_all : {d i : ℕ} {w' : List ℕ} → Walking rot root d i w' → length w' ≡ length w → i ≡ n → Walked p w n w'
   unfolding walk
-  walked_all {w₀} {d} {i} {w'} at l h =
+  walked_all {d} {i} {w'} at kept h =
       let none : n - i ≡ 0 = omega arith in
       let rest = rw none at at.rest in
-      record { counted = omega arith; kept = at.kept ∙ (l ∙ s.kept) }
+      record { counted = omega arith; kept = kept }
 
   -- ---- one step
 
-  module _ {w₀ : List ℕ} {d i : ℕ} {u : List ℕ} (at : Walking rot root w₀ d i u) (more : i < n) {e : ℕ} {w' : List ℕ} (v : Visited rot d u e w') where
+  module _ {d i : ℕ} {u : List ℕ} (at : Walking rot root d i u) (more : i < n) {e : ℕ} {w' : List ℕ} (v : Visited rot d u e w') where
     spent : n - i ≡ suc (n - (i + 1))
     spent = omega arith
 
-    pub going_on : (e ≢ root) → Walking rot root w₀ e (i + 1) w'
+    pub going_on : (e ≢ root) → Walking rot root e (i + 1) w'
     unfolding letter_in
     going_on ne =
         let step : left rot root d i u ≡ suc (left rot root e (i + 1) w') =
         rw spent (walk_on rot root (n - (i + 1)) d e _ _ _ _ v.onwards v.met v.seen ne) in
         record {
           inside = subst (λ (x : ℕ). x < n) (sym v.onwards) (onward_bound rot s.perm s.count (letter_in rot u d) d at.inside);
-          places = omega arith;
           room = omega (arith, v.kept, at.room);
-          kept = v.kept ∙ at.kept;
           names = v.names ∙ at.names;
           rest = omega (arith, step, at.rest);
         }
 
-    pub walked_back : length w₀ ≡ length w₂ → e ≡ root → Walked p w (i + 1) w'
+    pub walked_back : length w' ≡ length w → e ≡ root → Walked p w (i + 1) w'
     unfolding letter_in
-    walked_back l b =
+    walked_back kept b =
         let step : left rot root d i u ≡ 1 = rw spent (walk_back rot root (n - (i + 1)) d e _ _ [] [] v.onwards b) in
-        record { counted = omega (arith, step, at.rest); kept = v.kept ∙ (at.kept ∙ (l ∙ s.kept)) }
+        record { counted = omega (arith, step, at.rest); kept = kept }

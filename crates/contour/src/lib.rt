@@ -57,13 +57,11 @@ pub fn walk(order: &[u16], root: usize, w: &mut [u16]) -> usize
     let v = w[root] as usize;
     w[work::SEEN * n + v] = 1;
     let mut d = root;
-    let mut i = 0;
-    while i < n {
+    for i in 0..n {
         d = visit(order, w, d);
-        i += 1;
         if d == root {
-            return i;
+            return i + 1;
         }
     }
-    i
+    n
 }

@@ -8,17 +8,16 @@
 --   turn_room            there is room for one more size
 --   turn_ready           d is unnamed: its cycle can be followed
 --   turn_size            the size of that cycle is a small number
---   turn_length          and the area is as long after it
 --   turn_new, turn_old   after the turn of an unnamed dart, and of a named one
 use mathlib.Core.Path.{◌≡◌, refl, sym, ap, ap₂, ◌∙◌}
 use mathlib.Core.Logic.{◌≢◌}
-use mathlib.Core.Bool.{Bool, true}
+use mathlib.Core.Bool.{true}
 use mathlib.Core.List.{List}
 use Prim.Native.Nat.{ℕ, suc, ◌+◌, ◌≤◌, ◌<◌}
 use native.Mathlib.Omega.{arith}
 use native.Mathlib.Numerals.{add-one}
 use lib.Dec.{eqb→eq}
-use lib.ListN.{length, get_or, set, replicate, length-set}
+use lib.ListN.{length, get_or, set, replicate}
 use Rattle.model.specs.Numbers.{count, least, is_least, cycles, cycle_size, sizes_below, cycle_sizes, is_permutation}
 use Rattle.model.specs.Map.{dart_count_fits}
 use Rattle.model.proofs.Fitness.{count_parts}
@@ -28,8 +27,7 @@ use Rattle.orbits.proofs.Tally.{count_in, count_out, count_le}
 use Rattle.orbits.proofs.Sizes.{size_le, sizes_in, sizes_out, length_sizes}
 use Rattle.work.specs.Area.{region, placed}
 use Rattle.work.proofs.Regions.{getD-region, length_placed, region_placed, region_placed_other, placed_none, placed_placed, placed_snoc, placed_beside}
-use Rattle.dart_steps.specs.Steps.{step_of}
-use Rattle.dart_steps.proofs.Steps.{step_perm}
+use Rattle.dart_steps.specs.Steps.{Permutes}
 use Rattle.following.specs.Half.{unnamed, names_below, HalfNamed, Followed}
 use Rattle.following.proofs.Naming.{length_names, names_none, names_skip, names_all, unnamed_least, named_other}
 use Rattle.cycles.specs.Cycles.{Named}
@@ -77,24 +75,25 @@ module _ (f : ℕ → ℕ) (n a b : ℕ) (w₀ : List ℕ) (apart : a + n ≤ b)
 
 -- ---- one turn
 
-pub record Turn (rot : List ℕ) (across : Bool) (a b : ℕ) (w₀ : List ℕ) (d c : ℕ) (w : List ℕ) : Type 0 where
+pub record Turn (step : List ℕ → ℕ → ℕ) (rot : List ℕ) (a b : ℕ) (w₀ : List ℕ) (d c : ℕ) (w : List ℕ) : Type 0 where
+  pub permutes : Permutes step
   pub size : dart_count_fits (length rot) ≡ true
   pub entries : is_permutation rot ≡ true
   pub apart : a + length rot ≤ b
   pub fits : b + length rot ≤ length w₀
   pub below : d < length rot
   pub as_long : length w ≡ length w₀
-  pub half : Half (step_of rot across) (length rot) a b w₀ d c w
+  pub half : Half (step rot) (length rot) a b w₀ d c w
 
-module _ {rot : List ℕ} {across : Bool} {a b : ℕ} {w₀ : List ℕ} {d c : ℕ} {w : List ℕ} (t : Turn rot across a b w₀ d c w) where
+module _ {step : List ℕ → ℕ → ℕ} {rot : List ℕ} {a b : ℕ} {w₀ : List ℕ} {d c : ℕ} {w : List ℕ} (t : Turn step rot a b w₀ d c w) where
   abbrev f : ℕ → ℕ
-  f = step_of rot across
+  f = step rot
 
   abbrev n : ℕ
   n = length rot
 
   perm : Perm n f
-  perm = step_perm rot t.entries t.size across
+  perm = t.permutes rot t.entries t.size
 
   few : n ≤ 8192
   few = (count_parts n t.size).2
@@ -120,7 +119,7 @@ module _ {rot : List ℕ} {across : Bool} {a b : ℕ} {w₀ : List ℕ} {d c : �
   pub turn_room : b + c < length w
   turn_room = omega (arith, turn_count, t.below, t.fits, t.as_long)
 
-  pub turn_ready : get_or w (a + d) 0 ≡ unnamed → HalfNamed rot across a d w
+  pub turn_ready : get_or w (a + d) 0 ≡ unnamed → HalfNamed step rot a d w
   turn_ready e = record {
     size = t.size;
     entries = t.entries;
@@ -141,11 +140,6 @@ module _ {rot : List ℕ} {across : Bool} {a b : ℕ} {w₀ : List ℕ} {d c : �
         ∙ placed_beside a b (names_below f n (suc d)) (sizes_below f n d) (placed a (names_below f n d) w₀)
         (omega (arith, length_names f n (suc d), t.apart)) sizes_there
         ∙ ap (placed b (sizes_below f n d)) (replaced f n a b w₀ t.apart t.fits d (suc d))
-
-    pub turn_length : {w' : List ℕ} → w' ≡ set w₁ (b + c) steps → length w' ≡ length w₀
-    turn_length ew =
-        ap length ew ∙ length-set w₁ (b + c) steps ∙ ap length s.names
-        ∙ length_placed a (names_below f n (d + 1)) w (omega (arith, length_names f n (d + 1), t.apart, t.fits, t.as_long)) ∙ t.as_long
 
     pub turn_new : get_or w (a + d) 0 ≡ unnamed → {c' : ℕ} {w' : List ℕ} → c' ≡ c + 1 → w' ≡ set w₁ (b + c) steps → Half f n a b w₀ (d + 1) c' w'
     turn_new e {c'} {w'} ec ew =

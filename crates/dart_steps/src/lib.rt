@@ -1,16 +1,36 @@
 #![tactic(auto)]
 
 // From a dart to the next: the other one of its edge, the next round its vertex, the next along its face. It knows rotations dart by dart, no whole cycles.
-ghost use Rattle.std.specs.Prelude.{◌≡◌, true, ◌<◌, length};
-ghost use Rattle.model.specs.Map.{opposite, dart_count_fits};
-ghost use Rattle.dart_steps.specs.Steps.{step_of};
+ghost use Rattle.std.specs.Prelude.{◌≡◌, true, false, ℕ, ◌<◌, List, length};
+ghost use Rattle.model.specs.Map.{opposite, next, face_next, dart_count_fits};
+ghost use Rattle.orbits.proofs.Maps.{next_perm, face_perm};
+ghost use Rattle.model.proofs.Fitness.{count_even};
+ghost use Rattle.dart_steps.specs.Steps.{step_of, Permutes};
 
 // The other dart of d's edge.
+#[tactic(auto, using(crate::proofs::Crossing::crossed))]
 pub fn other(d: usize) -> usize
     requires { d < 65536 }
     ensures { result ≡ opposite d }
 {
     d ^ 1
+}
+
+// One step round a vertex.
+#[tactic(auto, unfolding(model::specs::Map::next))]
+pub fn around(order: &[u16], d: usize) -> usize
+    requires { (dart_count_fits (length order.now) ≡ true) × (d < length order.now) }
+    ensures { result ≡ step_of order.now false d }
+{
+    order[d] as usize
+}
+
+// One step along a face: across d's edge.
+pub fn along(order: &[u16], d: usize) -> usize
+    requires { (dart_count_fits (length order.now) ≡ true) × (d < length order.now) }
+    ensures { result ≡ step_of order.now true d }
+{
+    order[other(d)] as usize
 }
 
 // One step round a vertex, or, across an edge, along a face.
@@ -19,8 +39,47 @@ pub fn step(order: &[u16], across: bool, d: usize) -> usize
     ensures { result ≡ step_of order.now across d }
 {
     if across {
-        let o = other(d);
-        return order[o] as usize;
+        along(order, d)
+    } else {
+        around(order, d)
     }
-    order[d] as usize
+}
+
+// ---- whose cycles are the vertices, and whose are the faces
+
+// A step that permutes the darts of a rotation.
+pub trait Steps {
+    ghost of: { List ℕ → ℕ → ℕ };
+
+    fn step(order: &[u16], d: usize) -> usize
+        requires { (dart_count_fits (length order.now) ≡ true) × (d < length order.now) }
+        ensures { result ≡ of order.now d };
+
+    ghost permutes: { Permutes of };
+}
+
+// Round a vertex.
+pub struct Vertices;
+
+impl Steps for Vertices {
+    ghost of = { next };
+
+    ghost permutes = { λ rot entries size. next_perm rot entries };
+
+    fn step(order: &[u16], d: usize) -> usize {
+        around(order, d)
+    }
+}
+
+// Along a face.
+pub struct Faces;
+
+impl Steps for Faces {
+    ghost of = { face_next };
+
+    ghost permutes = { λ rot entries size. face_perm rot entries (count_even (length rot) size) };
+
+    fn step(order: &[u16], d: usize) -> usize {
+        along(order, d)
+    }
 }

@@ -1,46 +1,40 @@
--- The search for dead ends, from dart 0 on.
+-- Dead ends by the entries alone.
 --
 --   dead_end_at p d        dart d is alone at its vertex, which is not the root's
---   dead_end_here        the search ends at one
---   root_alone, not_alone   a dart that is none
---   none_here, dead_end_none   there is none so far, and none at all
-use Prim.Native.Nat.{ℕ, ◌+◌, ◌<◌}
-use native.Mathlib.Numerals.{add-one}
-use mathlib.Core.Path.{◌≡◌, sym, ap}
-use mathlib.Core.Logic.{◌≢◌}
-use mathlib.Core.Bool.{Bool, true, false, not, ◌&&◌}
+--   alone_at rot root d    dart d is alone at its vertex, and is not the root
+--   by_entries             where it is alone the two are the same
+use Prim.Native.Nat.{ℕ, ◌<◌}
+use mathlib.Core.Path.{◌≡◌, sym, ap, ◌∙◌}
+use mathlib.Core.Bool.{Bool, true, not, ◌&&◌}
+use mathlib.Core.List.{List}
 use lib.Dec.{eqb}
-use lib.ListN.{get_or}
-use borrow.Author.Tests.{eq-eqb, ne_eqb, eqb-true, eqb-false, not-false, not-true}
+use lib.ListN.{length, get_or}
+use borrow.Author.Tests.{eq-eqb, ne_eqb}
 use Rattle.model.specs.Numbers.{some, is_permutation}
-use Rattle.model.specs.Map.{Plan, darts, next, vertex_of, degree_one, has_dead_end}
-use Rattle.model.proofs.Booleans.{some_in, both}
+use Rattle.model.specs.Map.{next, vertex_of, degree_one, has_dead_end}
+use Rattle.model.proofs.Booleans.{some_same}
+use Rattle.orbits.proofs.Order.{eq_split}
 use Rattle.orbits.proofs.Maps.{next_perm, vertex_alone}
 
-abbrev pub dead_end_at : Plan → ℕ → Bool
-dead_end_at p d = degree_one p.rotation d && not (eqb (vertex_of p.rotation d) (vertex_of p.rotation p.root))
+abbrev pub alone_at : List ℕ → ℕ → ℕ → Bool
+alone_at rot root d = eqb (get_or rot d 0) d && not (eqb d root)
 
-module _ (p : Plan) (d : ℕ) where
-  pub dead_end_here : is_permutation p.rotation ≡ true → p.root < darts p → d < darts p → get_or p.rotation d 0 ≡ d → not (eqb d p.root) ≡ true
-      → true ≡ has_dead_end p
-  unfolding has_dead_end degree_one next
-  dead_end_here entries low h own other =
-      let alone = vertex_alone p.rotation (next_perm p.rotation entries) d p.root low own in
-      let apart : vertex_of p.rotation d ≢ vertex_of p.rotation p.root = λ same. eqb-false d p.root (not-true _ other) (alone same) in
-      sym (some_in (dead_end_at p) (darts p) d h (both (eq-eqb _ d own) (ap not (ne_eqb _ _ apart))))
+module _ (rot : List ℕ) (root : ℕ) (entries : is_permutation rot ≡ true) (low : root < length rot) where
+  abbrev dead_end_at : ℕ → Bool
+  dead_end_at d = degree_one rot d && not (eqb (vertex_of rot d) (vertex_of rot root))
 
-  pub root_alone : get_or p.rotation d 0 ≡ d → not (eqb d p.root) ≡ false → dead_end_at p d ≡ false
+  other_vertex : (d : ℕ) → get_or rot d 0 ≡ d → eqb d root ≡ eqb (vertex_of rot d) (vertex_of rot root)
+  unfolding next
+  other_vertex d own = eq_split d root
+      (λ e. eq-eqb d root e ∙ sym (eq-eqb _ _ (ap (vertex_of rot) e)))
+      (λ ne. ne_eqb d root ne ∙ sym (ne_eqb _ _ (λ same. ne (vertex_alone rot (next_perm rot entries) d root low own same))))
+
+  same_test : (d : ℕ) → alone_at rot root d ≡ dead_end_at d
   unfolding degree_one next
-  root_alone own same = rw (eq-eqb _ d own, eq-eqb _ _ (ap (vertex_of p.rotation) (eqb-true d p.root (not-false _ same))))
+  same_test d = eq_split (get_or rot d 0) d
+      (λ own. rw (eq-eqb _ _ own) (ap not (other_vertex d own)))
+      (λ other. rw (ne_eqb _ _ other))
 
-  pub not_alone : (get_or p.rotation d 0 ≢ d) → dead_end_at p d ≡ false
-  unfolding degree_one next
-  not_alone other = rw (ne_eqb _ _ other)
-
-  pub none_here : dead_end_at p d ≡ false → some (dead_end_at p) d ≡ false → some (dead_end_at p) (d + 1) ≡ false
-  unfolding some
-  none_here e none = rw (add-one d, e) none
-
-  pub dead_end_none : d ≡ darts p → some (dead_end_at p) d ≡ false → false ≡ has_dead_end p
+  pub by_entries : some (alone_at rot root) (length rot) ≡ has_dead_end (record { rotation = rot; root = root; outside = 0 })
   unfolding has_dead_end
-  dead_end_none e none = sym (rw (sym e) none)
+  by_entries = some_same (alone_at rot root) dead_end_at (length rot) (λ d h. same_test d)

@@ -10,12 +10,5 @@ pub fn has_dead_end(order: &[u16], root: usize) -> bool
     requires { (is_permutation order.now ≡ true) × (root < length order.now) }
     ensures { result ≡ has_dead_end (record { rotation = order.now; root = root; outside = 0 }) }
 {
-    let mut d = 0;
-    while d < order.len() {
-        if order[d] as usize == d && d != root {
-            return true;
-        }
-        d += 1;
-    }
-    false
+    (0..order.len()).any(|d| order[d] as usize == d && d != root)
 }

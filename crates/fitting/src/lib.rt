@@ -7,6 +7,8 @@ ghost use Rattle.model.specs.Numbers.{is_permutation};
 ghost use Rattle.model.specs.Map.{dart_count_fits};
 ghost use Rattle.fitting.specs.Judged.{Surveyed, Judged};
 
+use dart_steps::{Faces, Vertices};
+
 // What is found: the plan fits the kinds of the family, and has so many faces; a refusal other than 10; refusal 10 with the characteristic.
 #[derive(Drop)]
 pub enum Verdict {
@@ -30,7 +32,7 @@ fn surveyed(order: &[u16], root: usize, family: u16, w: &mut [u16]) -> Survey
     ensures { Surveyed family (record { rotation = order.now; root = root; outside = 0 }) w.old result w.new }
 {
     let n = order.len();
-    let vertices = cycles::name(order, false, w, 0, work::DEGREES * n);
+    let vertices = cycles::name::<Vertices>(order, w, 0, work::DEGREES * n);
     let looped = loops::loop_refused(order, family, w);
     let met = contour::walk(order, root, w);
     Survey {
@@ -52,7 +54,7 @@ pub fn judge(order: &[u16], root: usize, family: u16, w: &mut [u16]) -> Verdict
     if met != n {
         return Verdict::Refused(9);
     }
-    let faces = cycles::name(order, true, w, work::FACES * n, work::LENGTHS * n);
+    let faces = cycles::name::<Faces>(order, w, work::FACES * n, work::LENGTHS * n);
     let x = characteristic::euler(s.vertices, n / 2, faces);
     if x != 2 {
         return Verdict::NotPlanar(x);

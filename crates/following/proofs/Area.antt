@@ -5,7 +5,6 @@
 --   following_start, following_step, following_end   at the start d, one step, and back at d
 use mathlib.Core.Path.{◌≡◌, refl, sym, ap, ◌∙◌, subst}
 use mathlib.Core.Logic.{◌≢◌}
-use mathlib.Core.Bool.{Bool}
 use mathlib.Core.List.{List}
 use Prim.Native.Nat.{ℕ, suc, ◌+◌, ◌≤◌, ◌<◌}
 use native.Mathlib.Omega.{arith}
@@ -14,8 +13,7 @@ use Rattle.model.proofs.Fitness.{count_parts}
 use Rattle.orbits.specs.Permutation.{Perm}
 use Rattle.work.specs.Area.{region, placed}
 use Rattle.work.proofs.Regions.{length_region, region_set, set_placed, placed_region}
-use Rattle.dart_steps.specs.Steps.{step_of}
-use Rattle.dart_steps.proofs.Steps.{step_perm}
+use Rattle.dart_steps.specs.Steps.{Permutes}
 use Rattle.following.specs.Half.{names_below, HalfNamed, Followed}
 use Rattle.following.proofs.Naming.{Naming, naming_start, naming_here, naming_few, naming_step, naming_end, naming_size}
 
@@ -24,15 +22,15 @@ pub record Following (f : ℕ → ℕ) (n a d : ℕ) (w₀ w : List ℕ) (x k : 
   pub around : w ≡ placed a (region a n w) w₀
   pub naming : Naming f n d (region a n w) x k
 
-module _ {rot : List ℕ} {across : Bool} {a d : ℕ} {w₀ : List ℕ} (b : HalfNamed rot across a d w₀) where
+module _ {step : List ℕ → ℕ → ℕ} (permutes : Permutes step) {rot : List ℕ} {a d : ℕ} {w₀ : List ℕ} (b : HalfNamed step rot a d w₀) where
   abbrev f : ℕ → ℕ
-  f = step_of rot across
+  f = step rot
 
   abbrev n : ℕ
   n = length rot
 
   perm : Perm n f
-  perm = step_perm rot b.entries b.size across
+  perm = permutes rot b.entries b.size
 
   few : n ≤ 8192
   few = (count_parts n b.size).2

@@ -1,66 +1,63 @@
--- The search for loops, from dart 0 on.
+-- Loops by the vertices' names, edge by edge.
 --
---   NoneBelow f i        no number below i passes the test f
---   none_more            nor any below i + 1, if i does not pass
---   loop_at rot d         the edge of dart d is a loop
---   even_below           an even number below an even one leaves room for the next
---   loop_here, loop_pair, loop_none   the ways of a search for loops, by the vertices' names
-use Prim.Native.Nat.{ℕ, ◌+◌, ◌%◌, ◌≤◌, ◌<◌}
-use native.Mathlib.Omega.{arith}
+--   pair_at names e      the darts of edge e have one name
+--   by_pairs             some edge is a loop exactly when some edge's darts have one name
+use Prim.Native.Nat.{ℕ, ◌+◌, ◌*◌, ◌/◌, ◌%◌, ◌<◌}
 use native.Mathlib.Decide.{ℕ_discrete}
+use native.Mathlib.Omega.{arith}
 use mathlib.Core.Path.{◌≡◌, sym, ap, ◌∙◌}
-use mathlib.Core.Logic.{◌≢◌}
-use mathlib.Core.Bool.{Bool, true, false}
+use mathlib.Core.Bool.{Bool, true}
+use mathlib.Core.Logic.{◌⊎◌, inl, inr}
 use mathlib.Core.List.{List}
 use lib.Dec.{eqb}
 use lib.ListN.{length, get_or}
-use borrow.Author.Tests.{eq-eqb, ne_eqb}
-use Rattle.model.specs.Map.{opposite, vertex_of, has_loop}
-use Rattle.model.proofs.Booleans.{some_in, no_some}
+use borrow.Author.Tests.{eq-eqb, eqb-true}
+use Rattle.model.specs.Numbers.{some}
+use Rattle.model.specs.Map.{opposite, vertex_of, dart_count_fits, has_loop}
+use Rattle.model.proofs.Booleans.{some_at, some_in, bool_ext}
+use Rattle.model.proofs.Fitness.{count_even}
 use Rattle.contour.specs.Steps.{VerticesNamed}
 use Rattle.contour.proofs.Steps.{name_at}
 
-abbrev pub NoneBelow : (ℕ → Bool) → ℕ → Type 0
-NoneBelow f i = (j : ℕ) → j < i → f j ≡ false
+abbrev pub pair_at : List ℕ → ℕ → Bool
+pair_at names e = eqb (get_or names (2 * e) 0) (get_or names (2 * e + 1) 0)
 
-pub none_more : (f : ℕ → Bool) (i : ℕ) → NoneBelow f i → f i ≡ false → NoneBelow f (i + 1)
-none_more f i none e j h = go (ℕ_discrete j i)
-  where
-    go : Dec (j ≡ i) → f j ≡ false
-    go (yes q) = ap f q ∙ e
-    go (no q) = none j (omega arith)
-
-abbrev pub loop_at : List ℕ → ℕ → Bool
-loop_at rot d = eqb (vertex_of rot d) (vertex_of rot (opposite d))
-
--- an even dart and the one after it are opposite
-opposite_even : (d : ℕ) → d % 2 ≡ 0 → (opposite d ≡ d + 1) × (opposite (d + 1) ≡ d)
+-- a dart is the first or the second of its edge
+darts_of : (d : ℕ) → ((d ≡ 2 * (d / 2)) × (opposite d ≡ 2 * (d / 2) + 1)) ⊎ ((d ≡ 2 * (d / 2) + 1) × (opposite d ≡ 2 * (d / 2)))
 unfolding opposite
-opposite_even d e = (omega arith, omega arith)
+darts_of d = elim (ℕ_discrete (d % 2) 0) [ yes h ↦ inl (omega arith, omega arith) | no h ↦ inr (omega arith, omega arith) ]
 
-pub even_below : (n d : ℕ) → d < n → n % 2 ≡ 0 → d % 2 ≡ 0 → d + 2 ≤ n
-even_below n d h e f = omega arith
+opposite_first : (e : ℕ) → opposite (2 * e) ≡ 2 * e + 1
+unfolding opposite
+opposite_first e = omega arith
 
-module _ (rot names : List ℕ) (named : VerticesNamed rot names) (d : ℕ) (even : d % 2 ≡ 0) (fits : d + 2 ≤ length rot) where
-  name : get_or names d 0 ≡ vertex_of rot d
-  name = name_at rot names named d (omega arith)
+module _ (rot names : List ℕ) (fits : dart_count_fits (length rot) ≡ true) (named : VerticesNamed rot names) where
+  abbrev loop_at : ℕ → Bool
+  loop_at d = eqb (vertex_of rot d) (vertex_of rot (opposite d))
 
-  name_next : get_or names (d + 1) 0 ≡ vertex_of rot (d + 1)
-  name_next = name_at rot names named (d + 1) (omega arith)
+  name : (d : ℕ) → d / 2 < length rot / 2 → get_or names d 0 ≡ vertex_of rot d
+  name d h = let even = count_even (length rot) fits in name_at rot names named d (omega arith)
 
-  pub loop_here : get_or names d 0 ≡ get_or names (d + 1) 0 → true ≡ has_loop rot
+  pair_loop : (e : ℕ) → e < length rot / 2 → pair_at names e ≡ true → some loop_at (length rot) ≡ true
+  pair_loop e h p =
+      let q = eqb-true _ _ p in
+      some_in loop_at (length rot) (2 * e) (omega arith) (rw opposite_first (eq-eqb _ _ (sym (name (2 * e) (omega arith)) ∙ q ∙ name (2 * e + 1) (omega arith))))
+
+  loop_pair : (d : ℕ) → d < length rot → loop_at d ≡ true → pair_at names (d / 2) ≡ true
+  loop_pair d h p =
+      let even = count_even (length rot) fits in
+      let q : vertex_of rot d ≡ vertex_of rot (opposite d) = eqb-true _ _ p in
+      let first = name (2 * (d / 2)) (omega arith) in
+      let second = name (2 * (d / 2) + 1) (omega arith) in
+      elim (darts_of d) [
+        | inl (a, b) ↦ eq-eqb _ _ (first ∙ ap (vertex_of rot) (sym a) ∙ q ∙ ap (vertex_of rot) b ∙ sym second)
+        | inr (a, b) ↦ eq-eqb _ _ (first ∙ ap (vertex_of rot) (sym b) ∙ sym q ∙ ap (vertex_of rot) a ∙ sym second)
+      ]
+
+  pub by_pairs : some (pair_at names) (length rot / 2) ≡ has_loop rot
   unfolding has_loop
-  loop_here q = sym (some_in (loop_at rot) (length rot) d (omega arith)
-      (eq-eqb _ _ (sym name ∙ q ∙ name_next ∙ ap (vertex_of rot) (sym (opposite_even d even).0))))
-
-  pub loop_pair : (get_or names d 0 ≢ get_or names (d + 1) 0) → NoneBelow (loop_at rot) d → NoneBelow (loop_at rot) (d + 2)
-  loop_pair ne none j h =
-      let o = opposite_even d even in
-      let apart : vertex_of rot d ≢ vertex_of rot (d + 1) = λ q. ne (name ∙ q ∙ sym name_next) in
-      let here : loop_at rot d ≡ false = rw o.0 (ne_eqb _ _ apart) in
-      let there : loop_at rot (d + 1) ≡ false = rw o.1 (ne_eqb _ _ (λ q. apart (sym q))) in
-      none_more (loop_at rot) (d + 1) (none_more (loop_at rot) d none here) there j (omega arith)
-
-pub loop_none : (rot : List ℕ) (d : ℕ) → length rot ≤ d → NoneBelow (loop_at rot) d → false ≡ has_loop rot
-unfolding has_loop
-loop_none rot d h none = sym (no_some (loop_at rot) (length rot) (λ j l. none j (omega arith)))
+  by_pairs = bool_ext _ _
+      (λ p. let (e, h, q) = some_at (pair_at names) (length rot / 2) p in pair_loop e h q)
+      (λ p. let (d, h, q) = some_at loop_at (length rot) p in
+      let even = count_even (length rot) fits in
+      some_in (pair_at names) (length rot / 2) (d / 2) (omega arith) (loop_pair d h q))

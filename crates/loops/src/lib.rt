@@ -11,23 +11,14 @@ fn has_loop(order: &[u16], names: &[u16]) -> bool
     requires { (dart_count_fits (length order.now) ≡ true) × (length order.now ≤ length names.now) × VerticesNamed order.now names.now }
     ensures { result ≡ has_loop order.now }
 {
-    let mut d = 0;
-    while d < order.len() {
-        if names[d] == names[d + 1] {
-            return true;
-        }
-        d += 2;
-    }
-    false
+    (0..order.len() / 2).any(|e| names[2 * e] == names[2 * e + 1])
 }
 
 // Some edge is a loop, and this family takes none.
+#[tactic(auto, unfolding(model::specs::Map::loop_refused))]
 pub fn loop_refused(order: &[u16], family: u16, names: &[u16]) -> bool
     requires { (dart_count_fits (length order.now) ≡ true) × (length order.now ≤ length names.now) × VerticesNamed order.now names.now }
     ensures { result ≡ loop_refused family order.now }
 {
-    if family == 4 {
-        return false;
-    }
-    has_loop(order, names)
+    family != 4 && has_loop(order, names)
 }

@@ -9,13 +9,17 @@
 --   all, at                      a test of every number below n
 --   some_at, some_in             some number below n passes a test
 --   some_no, no_some             none does
+--   some_same                    tests that agree below n
+--   some_list                    a chain that asks them all, from 0 on
 use mathlib.Core.Path.{◌≡◌, refl, sym}
 use mathlib.Core.Bool.{Bool, true, false, ◌&&◌, ◌||◌, false≢true, true≢false}
-use Prim.Native.Nat.{ℕ, zero, suc, ◌<◌}
+use Prim.Native.Nat.{ℕ, zero, suc, ◌+◌, ◌<◌}
 use native.Mathlib.Nat.{not-suc-le-zero, lt-suc_self, le_step}
 use native.Mathlib.Decide.{ℕ_discrete}
 use native.Mathlib.Omega.{arith}
 use lib.Dec.{T}
+use Rattle.std.proofs.Common.{add-zero, add-one}
+use Rattle.std.specs.List.{list_any, range_with_len}
 use Rattle.model.specs.Numbers.{some}
 
 pub and_left : (a b : Bool) → (a && b) ≡ true → a ≡ true
@@ -100,3 +104,28 @@ pub no_some : (f : ℕ → Bool) (n : ℕ) → ((i : ℕ) → i < n → f i ≡ 
 unfolding some
 no_some f zero h = refl
 no_some f (suc n) h = rw (h n (lt-suc_self n)) (no_some f n (λ i k. h i (le_step k)))
+
+pub some_same : (f g : ℕ → Bool) (n : ℕ) → ((i : ℕ) → i < n → f i ≡ g i) → some f n ≡ some g n
+unfolding some
+some_same f g zero e = refl
+some_same f g (suc n) e = rw (e n (lt-suc_self n), some_same f g n (λ i h. e i (le_step h)))
+
+or_none_right : (a : Bool) → a ≡ (a || false)
+or_none_right true = refl
+or_none_right false = refl
+
+or_exchanged : (a b c : Bool) → ((a || b) || c) ≡ (b || (a || c))
+or_exchanged true true c = refl
+or_exchanged true false c = refl
+or_exchanged false b c = refl
+
+some_more : (f : ℕ → Bool) (a n : ℕ) → some f (a + n) ≡ (some f a || list_any f (range_with_len a n))
+unfolding some
+some_more f a zero = rw add-zero (or_none_right (some f a))
+some_more f a (suc n) =
+    let e : a + suc n ≡ (a + 1) + n = omega arith in
+    rw (e, some_more f (a + 1) n, add-one) (or_exchanged (f a) (some f a) (list_any f (range_with_len (suc a) n)))
+
+pub some_list : (f : ℕ → Bool) (n : ℕ) → list_any f (range_with_len 0 n) ≡ some f n
+unfolding some
+some_list f n = let e : 0 + n ≡ n = omega arith in rw e at (sym (some_more f 0 n))

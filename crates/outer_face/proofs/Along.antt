@@ -4,7 +4,7 @@
 --   along_start          it begins
 --   along_low, along_keep   it goes on past a value that is lower, or is not
 --   along_on             it goes on with a number that is one of the two, and above neither
---   along_few            where it goes on it made fewer steps than there are numbers
+--   along_gone           it was not back at o before
 --   along_end            back at o, m is the least value of the whole cycle
 use Prim.Native.Nat.{ℕ, zero, suc, ◌+◌, ◌-◌, ◌≤◌, ◌<◌}
 use native.Mathlib.Omega.{arith}
@@ -12,10 +12,9 @@ use native.Mathlib.Numerals.{add-one}
 use mathlib.Core.Path.{◌≡◌, refl, sym, ap, subst, ◌∙◌}
 use mathlib.Core.Logic.{◌≢◌, ◌⊎◌, inl, inr}
 use Rattle.model.specs.Numbers.{iter}
-use Rattle.orbits.specs.Permutation.{Perm}
 use Rattle.orbits.proofs.Order.{le_split, lt_suc_split}
 use Rattle.orbits.proofs.Cycle.{iter_out, on_iter}
-use Rattle.orbits.proofs.Sizes.{size_le, size_above}
+use Rattle.outer_face.proofs.Ahead.{Gone}
 
 pub record Along (f v : ℕ → ℕ) (o k x m : ℕ) : Type 0 where
   pub some : 0 < k
@@ -61,12 +60,8 @@ module _ (f v : ℕ → ℕ) (o : ℕ) where
         rw e (le_split below (λ same. rw same (along_keep away (omega arith))) (along_low away))
     along_on away l low own (inr e) = rw e (along_keep away (omega arith))
 
-    pub along_few : (n : ℕ) → Perm n f → o < n → x ≢ o → k < n
-    along_few n perm h away =
-        let all = size_le f n o in
-        let more = size_above n f perm o h k (λ j a b. le_split b
-        (λ e back. away (r.at ∙ ap (λ (i : ℕ). iter f i o) (sym e) ∙ back)) (r.new j a)) in
-        omega arith
+    pub along_gone : Gone f o k x
+    along_gone = record { some = r.some; at = r.at; new = r.new }
 
     pub along_end : x ≡ o → (j : ℕ) → m ≤ v (iter f j o)
     along_end back j =

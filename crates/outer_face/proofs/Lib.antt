@@ -1,3 +1,4 @@
+mod Ahead
 mod Rising
 mod Along
 mod Face

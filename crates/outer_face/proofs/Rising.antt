@@ -2,7 +2,7 @@
 --
 --   Rising f x j d       the walk stands at d after j steps, and was above x before
 --   rising_start, rising_step   it begins, and goes on where it is above x
---   rising_fewer         where it goes on it made fewer steps than there are numbers
+--   rising_gone          it was not back at x before
 --   risen, fallen        back at x, x is the least of its cycle; below x, it is not
 --   walk_ends            so that is told by where it ends
 use Prim.Native.Nat.{ℕ, zero, suc, ◌+◌, ◌-◌, ◌≤◌, ◌<◌}
@@ -14,8 +14,9 @@ use lib.Dec.{eqb}
 use borrow.Author.Tests.{eq-eqb, ne_eqb}
 use Rattle.model.specs.Numbers.{iter, least}
 use Rattle.orbits.specs.Permutation.{Perm}
-use Rattle.orbits.proofs.Order.{lt_or_le, le_split, lt_suc_split}
-use Rattle.orbits.proofs.Cycle.{iter_out, least_le, least_in, least_iter, on_iter, first_back}
+use Rattle.orbits.proofs.Order.{le_split, lt_suc_split}
+use Rattle.orbits.proofs.Cycle.{iter_out, least_le, least_in, least_iter, on_iter}
+use Rattle.outer_face.proofs.Ahead.{Gone}
 
 pub record Rising (f : ℕ → ℕ) (x j d : ℕ) : Type 0 where
   pub some : 0 < j
@@ -36,16 +37,8 @@ module _ (n : ℕ) (f : ℕ → ℕ) (perm : Perm n f) (x : ℕ) (h : x < n) whe
           (λ e. subst (λ (k : ℕ). x < iter f k x) (sym e) (subst (λ (y : ℕ). x < y) r.next up)) (r.above i a);
     }
 
-    -- x is met again after so many steps
-    back : (q : ℕ) × (q < n) × (iter f (suc q) x ≡ x)
-    back = let (q, hq, e, first) = first_back n f perm x h in (q, hq, e)
-
-    pub rising_fewer : x < d → j < n
-    rising_fewer up = let (q, hq, e) = back in
-        lt_or_le j (suc q) (λ early. omega arith)
-        (λ late. lt_suc_split {a = suc q} {b = j} (omega arith)
-        (λ (same : suc q ≡ j). let z = r.next ∙ ap (λ (k : ℕ). iter f k x) (sym same) ∙ e in absurd (omega arith))
-        (λ before. let z = r.above (suc q) (omega arith) before in absurd (omega arith)))
+    pub rising_gone : Gone f x j d
+    rising_gone = record { some = r.some; at = r.next; new = λ i a b same. let up = r.above i a b in absurd (omega arith) }
 
     fallen : d < x → least f n x ≡ x → ⊥
     fallen down own =

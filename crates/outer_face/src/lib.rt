@@ -15,11 +15,9 @@ pub fn is_lowest(order: &[u16], x: usize) -> bool
     requires { (dart_count_fits (length order.now) ≡ true) × (is_permutation order.now ≡ true) × (x < length order.now) }
     ensures { result ≡ eqb (face_of order.now x) x }
 {
-    let mut d = dart_steps::step(order, true, x);
-    let mut steps: usize = 1;
+    let mut d = dart_steps::along(order, x);
     while x < d {
-        d = dart_steps::step(order, true, d);
-        steps += 1;
+        d = dart_steps::along(order, d);
     }
     d == x
 }
@@ -33,6 +31,7 @@ const SECOND: u16 = 32768;
 const EDGES: u16 = 8192;
 
 // The standard number of dart x, by the marks: 2e if it is met first of edge e, 2e + 1 if its opposite is.
+#[tactic(auto, unfolding(crate::specs::Marks::number_by))]
 fn standard(w: &[u16], x: usize) -> u16
     requires { (x < 65536) × (x < length w.now) × (opposite x < length w.now) }
     ensures { result ≡ number_by w.now x }
@@ -52,18 +51,13 @@ pub fn lowest(order: &[u16], root: usize, outside: usize, w: &[u16]) -> u16
     ensures { result ≡ standard_face (record { rotation = order.now; root = root; outside = outside }) outside }
 {
     let mut least = standard(w, outside);
-    let mut x = dart_steps::step(order, true, outside);
-    let mut steps: usize = 1;
+    let mut x = dart_steps::along(order, outside);
     while x != outside {
         if least == 0 {
             return 0;
         }
-        let e = standard(w, x);
-        if e < least {
-            least = e;
-        }
-        x = dart_steps::step(order, true, x);
-        steps += 1;
+        least = least.min(standard(w, x));
+        x = dart_steps::along(order, x);
     }
     least
 }
