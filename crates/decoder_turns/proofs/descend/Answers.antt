@@ -32,7 +32,7 @@ back-state-requires c =
 pub returns-then-bit-eq0 : goal.returns-then-bit-eq0
 returns-then-bit-eq0 c =
     let l = c.requires.labelled in let z = c.requires.sees in
-    let x = c.label-label in let y = c.bit-bit in let r = c.back-state.ensures in (
+    let x = c.label-label in let y = c.bit-bit-2 in let r = c.back-state.ensures in (
       λ k q o.
           to_back _ _ _ _ _ _ l.0 l.1 z.0 z.1 k q o c.if-m-c.false c.if-m-e.false x.result x.ensures y.result y.ensures _ _
           c.if-label-eq-STAR.false c.if-bit-eq0.true r.0 r.1,
@@ -47,7 +47,7 @@ enter-state-requires c =
 pub returns : goal.returns
 returns c =
     let l = c.requires.labelled in let z = c.requires.sees in
-    let x = c.label-label in let y = c.bit-bit in let r = c.enter-state.ensures in (
+    let x = c.label-label in let y = c.bit-bit-2 in let r = c.enter-state.ensures in (
       λ k q o.
           to_tree _ _ _ _ _ _ l.0 l.1 z.0 z.1 k q o c.if-m-c.false c.if-m-e.false x.result x.ensures y.result y.ensures _ _
           c.if-label-eq-STAR.false c.if-bit-eq0.false r.0 r.1,
