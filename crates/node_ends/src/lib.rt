@@ -32,26 +32,17 @@ pub enum Outcome {
     Whole,
 }
 
-// The node on top was entered at the height `base` and has had all its letters but up: a leaf of its tree must be open. `put` and `height` are as they are
-// now.
-fn complete(
-    w: &mut [u16],
-    m: usize,
-    s: State,
-    base: usize,
-    put: usize,
-    height: usize,
-) -> Option<Outcome>
-    requires { Standing m 1 w.old (popped s put height) × (0 < s.depth) }
-    ensures { Turned m s.read s.depth (ending (view_at m w.old (popped s put height)) base height) result w.old w.new }
+// The node on top was entered at the height `base` and has had all its letters but up: a leaf of its tree must be open.
+fn complete(w: &mut [u16], m: usize, s: State, base: usize) -> Option<Outcome>
+    requires { Standing m 1 w.old (popped s s.put s.height) × (0 < s.depth) }
+    ensures { Turned m s.read s.depth (ending (view_at m w.old (popped s s.put s.height)) base s.height) result w.old w.new }
 {
-    if height <= base {
+    if s.height <= base {
         return None;
     }
-    w[work::LETTERS * (2 * m) + put] = work::UP;
+    w[work::LETTERS * (2 * m) + s.put] = work::UP;
     Some(Outcome::Climbs(State {
-        put: put + 1,
-        height,
+        put: s.put + 1,
         depth: s.depth - 1,
         ..s
     }))
@@ -62,8 +53,6 @@ pub fn ascend(w: &mut [u16], m: usize, s: State) -> Option<Outcome>
     requires { Standing m 0 w.old s × (0 < s.depth) }
     ensures { Turned m s.read s.depth (left m w.old (Some (Climbs s))) result w.old w.new }
 {
-    let put = s.put;
-    let height = s.height;
     let top = s.depth - 1;
     let base = w[work::BASES * (2 * m) + top] as usize;
     match w[work::PLACES * (2 * m) + top] {
@@ -72,14 +61,24 @@ pub fn ascend(w: &mut [u16], m: usize, s: State) -> Option<Outcome>
             Some(Outcome::Reads(s))
         }
         GAP => {
-            w[work::LETTERS * (2 * m) + put] = work::SECOND;
-            complete(w, m, s, base, put + 1, height - 1)
+            w[work::LETTERS * (2 * m) + s.put] = work::SECOND;
+            let t = State {
+                put: s.put + 1,
+                height: s.height - 1,
+                ..s
+            };
+            complete(w, m, t, base)
         }
         LEAF => {
-            w[work::LETTERS * (2 * m) + put] = work::FIRST;
-            complete(w, m, s, base, put + 1, height + 1)
+            w[work::LETTERS * (2 * m) + s.put] = work::FIRST;
+            let t = State {
+                put: s.put + 1,
+                height: s.height + 1,
+                ..s
+            };
+            complete(w, m, t, base)
         }
-        _ => complete(w, m, s, base, put, height),
+        _ => complete(w, m, s, base),
     }
 }
 
