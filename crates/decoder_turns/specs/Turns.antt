@@ -1,6 +1,6 @@
 -- What a turn of the machine in the code does, in the terms of the reading machine: bs and ls are its bits and labels, of which k and e are read before it.
 --
---   Slid bs c r              the bits that the cursor c sees are still seen by that of the outcome r
+--   Slid bs c r              the bits that the cursor c sees are still seen by that of the outcome r, if there is one
 --   Turned                   what a turn comes to; the label then is below q
 --   Risen                    the same where a bit 0 was read up to the cursor c, whichever bits and labels there are
 --   Descended                the same for the payload ps of family f, where a bit that is not 0 was read up to c

@@ -9,7 +9,7 @@
 --   with_letter, with_node     one more letter is put; one more node is not complete, entered at the height b, with the number x to come
 --   reading, climbing        the word that is found if the next type is to be read at the height h, and if a tree is complete there
 --   ending v b h             the same at the end of a node that was entered at the height b, all its letters but up put
---   left m w r               the word that is found after the outcome r
+--   left m w r               the word that is found after the outcome r; none where there is no outcome
 --   owes, owed s             how many letters a node, and all of s, are owed, a child that is to come counted as one
 --   letters_to, Coded         the first k letters in the work area; the entries that hold them are codes of letters
 --   Standing m c w s         numbers are in range: each type read brings three letters, and the tree below the start node one more; besides those of the
