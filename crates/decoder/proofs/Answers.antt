@@ -36,9 +36,9 @@ use Rattle.bit_cursor.proofs.Cursors.{labelled_kept}
 use Rattle.builder.specs.Decoded.{Answered}
 use Rattle.builder.proofs.Linking.{linked_end, linked_whole}
 use Rattle.builder.proofs.Whole.{blank_area}
+use Rattle.std.specs.Prelude.{Option, Some, None}
 use Rattle.decoder_ends.specs.declared.State.{State}
 use Rattle.decoder_turns.specs.declared.Outcome.{Outcome}
-use Rattle.decoder_turns.specs.declared.Outcome.TheVariants.{Goes, Stuck}
 use Rattle.decoder_ends.specs.States.{Stage, stage, Area, area_of, area_at, trees_of, ups_of, edges_of, labels_of, machine_of, machine_at, outcome_of, outcome_at, first_stage}
 use Rattle.decoder_ends.specs.States.{Hangs, Fits}
 use Rattle.decoder_ends.specs.Ends.{Passed, Finished}
@@ -47,7 +47,6 @@ use Rattle.decoder_ends.proofs.Areas.{below_long, begun_long, below_none, begun_
 use Rattle.decoder_ends.proofs.Letters.{something_left, finishing}
 use Rattle.decoder_ends.proofs.Moves.{none_passed, fewer_passed, more_passed}
 use Rattle.decoder_ends.proofs.Runs.{left_is, passed_less, passed_stuck}
-use Rattle.decoder_turns.proofs.Steps.{turned_goes, turned_stuck}
 use Rattle.decoder.proofs.Openings.{first_dart_lem}
 
 -- ---- the start
@@ -106,38 +105,33 @@ module _ (f m : ℕ) (ps w₀ : List ℕ) where
     pub running_asks : Labelled f m ps w₀ → Labelled f m ps w × Fits m w S × (c.bits < 2 * m)
     running_asks g = (labelled_kept f m ps w₀ w x.passes.labels_kept g, x.passes.fits, x.more)
 
-    pub running_kept : length w ≡ length w₀
-    running_kept = x.passes.kept
+    -- a stretch, under the labels in the work area w₀
+    stretched : (r : Option Outcome) (w' : List ℕ) → Turned 1 m bs (labels_in f m ps w) w c.labels s c.bits r w'
+        → Turned 1 m bs ls w c.labels s c.bits r w'
+    stretched r w' = subst (λ (zs : List ℕ). Turned 1 m bs zs w c.labels s c.bits r w') (labels_in_same f m ps w₀ w x.passes.labels_kept)
 
-    module _ (r : Outcome) (w' : List ℕ) (y : Turned 1 m bs (labels_in f m ps w) w c.labels s c.bits r w') where
-      here : Turned 1 m bs ls w c.labels s c.bits r w'
-      here =
-          subst (λ (zs : List ℕ). Turned 1 m bs zs w c.labels s c.bits r w') (labels_in_same f m ps w₀ w x.passes.labels_kept) y
+    pub answer_stuck : (w' : List ℕ) → Turned 1 m bs (labels_in f m ps w) w c.labels s c.bits None w' → Answered (decode_word bs ls) (2 * m) false w'
+    answer_stuck w' y = answer_none w' (passed_stuck 0 m bs ls w₀ first_stage 0 0 S 0 c.bits w x.passes (stretched None w' y))
 
-      pub answer_stuck : r ≡ Stuck → (u : List ℕ) → Answered (decode_word bs ls) (2 * m) false u
-      answer_stuck e u =
-          answer_none u
-          (passed_stuck 0 m bs ls w₀ first_stage 0 0 S 0 c.bits w x.passes (turned_stuck 1 m bs ls w c.labels s c.bits r w' here e))
+    module _ (t : Outcome) (w' : List ℕ) (y : Turned 1 m bs (labels_in f m ps w) w c.labels s c.bits (Some t) w') where
+      abbrev T : Stage
+      T = stage t.cursor.labels t.state
 
-      module _ (t : State) (l : ℕ) (d : Cursor) (e : r ≡ Goes t l d) where
-        abbrev T : Stage
-        T = stage d.labels t
+      gone : (t.label < 1) × Passed 1 m bs ls w S 0 c.bits T t.label t.cursor.bits w'
+      gone = stretched (Some t) w' y
 
-        gone : (l < 1) × Passed 1 m bs ls w S 0 c.bits T l d.bits w'
-        gone = turned_goes 1 m bs ls w c.labels s c.bits r w' here t l d e
+      pub running_less : length bs - t.cursor.bits + t.state.opens < length bs - c.bits + s.opens
+      running_less = let z = passed_less 1 m bs ls w S 0 c.bits T t.label t.cursor.bits w' gone.1 in omega arith
 
-        pub running_less : length bs - d.bits + t.opens < length bs - c.bits + s.opens
-        running_less = let z = passed_less 1 m bs ls w S 0 c.bits T l d.bits w' gone.1 in omega arith
+      pub so_far : Passed 0 m bs ls w₀ first_stage 0 0 T 0 t.cursor.bits w'
+      so_far =
+          let z = gone.0 in let zero_left : t.label ≡ 0 = omega arith in
+          subst (λ (j : ℕ). Passed 0 m bs ls w₀ first_stage 0 0 T j t.cursor.bits w') zero_left
+          (fewer_passed m bs ls w₀ first_stage 0 0 1 T t.label t.cursor.bits w'
+          (more_passed m bs ls w₀ first_stage 0 0 0 S 0 c.bits w x.passes 1 T t.label t.cursor.bits w' gone.1) 0 (omega arith))
 
-        pub so_far : Passed 0 m bs ls w₀ first_stage 0 0 T 0 d.bits w'
-        so_far =
-            let z = gone.0 in let zero_left : l ≡ 0 = omega arith in
-            subst (λ (j : ℕ). Passed 0 m bs ls w₀ first_stage 0 0 T j d.bits w') zero_left
-            (fewer_passed m bs ls w₀ first_stage 0 0 1 T l d.bits w'
-            (more_passed m bs ls w₀ first_stage 0 0 0 S 0 c.bits w x.passes 1 T l d.bits w' gone.1) 0 (omega arith))
-
-        pub running_on : d.bits < 2 * m → Running f m ps w₀ w' t d
-        running_on h = record { passes = so_far; more = h }
+      pub running_on : t.cursor.bits < 2 * m → Running f m ps w₀ w' t.state t.cursor
+      running_on h = record { passes = so_far; more = h }
 
   -- ---- the end
 

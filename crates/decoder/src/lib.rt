@@ -34,7 +34,14 @@ fn window_end(m: usize, at: usize) -> usize
 }
 
 // The steps that read from one word, the first at the cursor c, where it is filled.
-fn stretch(payload: &[u8], family: u16, m: usize, w: &mut [u16], s: State, c: Cursor) -> Outcome
+fn stretch(
+    payload: &[u8],
+    family: u16,
+    m: usize,
+    w: &mut [u16],
+    s: State,
+    c: Cursor,
+) -> Option<Outcome>
     requires { Labelled family m payload.now w.old × Fits m w.old (stage c.labels s) × (c.bits < 2 * m) }
     ensures { Turned 1 m (payload_bits m payload.now) (labels_in family m payload.now w.old) w.old c.labels s c.bits result
         w.new }
@@ -43,19 +50,12 @@ fn stretch(payload: &[u8], family: u16, m: usize, w: &mut [u16], s: State, c: Cu
     let mut s = s;
     let mut c = c.filled(payload);
     loop {
-        match decoder_turns::step(payload, family, m, w, s, c) {
-            Outcome::Stuck => {
-                return Outcome::Stuck;
-            }
-            Outcome::Goes(t, l, d) => {
-                let next = d.bits;
-                if end <= next {
-                    return Outcome::Goes(t, l, d);
-                }
-                s = t;
-                c = d;
-            }
+        let turn = decoder_turns::step(payload, family, m, w, s, c)?;
+        if end <= turn.cursor.bits {
+            return Some(turn);
         }
+        s = turn.state;
+        c = turn.cursor;
     }
 }
 
@@ -76,21 +76,14 @@ fn run(payload: &[u8], family: u16, m: usize, w: &mut [u16]) -> bool
         bits: 0,
         labels: 0,
     };
-    loop {
-        match stretch(payload, family, m, w, s, c) {
-            Outcome::Stuck => {
-                return false;
-            }
-            Outcome::Goes(t, _, d) => {
-                let next = d.bits;
-                if 2 * m <= next {
-                    return decoder_ends::finish(w, m, t, d.labels);
-                }
-                s = t;
-                c = d;
-            }
+    while let Some(turn) = stretch(payload, family, m, w, s, c) {
+        if 2 * m <= turn.cursor.bits {
+            return decoder_ends::finish(w, m, turn.state, turn.cursor.labels);
         }
+        s = turn.state;
+        c = turn.cursor;
     }
+    false
 }
 
 // The standard plan of a payload of kind 1 or 2, under the table with this inverse: whether there is one, and its rotation in the first 2m entries.
@@ -98,8 +91,7 @@ pub fn decode(payload: &[u8], family: u16, inverse: [u8; 256], m: usize, w: &mut
     requires { (has_labels family ≡ true) × Sized family m payload.now × (32 * m ≤ length w.old) }
     ensures { Answered (decode_labelled family m (undone inverse family m payload.now)) (2 * m) result w.new }
 {
-    let clean = unpacker::unpack(payload, family, inverse, m, w);
-    if !clean {
+    if !unpacker::unpack(payload, family, inverse, m, w) {
         return false;
     }
     work::fill(w, 0, 2 * m, 0);

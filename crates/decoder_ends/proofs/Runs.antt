@@ -2,9 +2,8 @@
 --
 --   passed_less           letters that are read leave less to read
 --   passed_stuck          where the machine is stuck after them, it finds no word
---   ended_goes, ended_stuck   what the end of an edge outside the tree hands back, by its case
 --   Closing               what the loop over ends keeps
---   closing_start, closing_fits, closing_less, closing_on, closing_end, closing_stuck   at its start, in a turn, at its end
+--   closing_fits, closing_less, closing_on, closing_end, closing_stuck   in a turn, at its end
 use Prim.Native.Nat.{ℕ, ◌+◌, ◌-◌, ◌≤◌, ◌<◌}
 use native.Mathlib.Omega.{arith}
 use mathlib.Core.Path.{◌≡◌, sym, ap, ◌∙◌, subst}
@@ -14,13 +13,13 @@ use lib.ListN.{length, length-drop}
 use Rattle.words.specs.Word.{none, after}
 use Rattle.words.proofs.Found.{after_none}
 use Rattle.machine.specs.Reading.{left, run}
+use Rattle.std.specs.Prelude.{Option, Some, None}
 use Rattle.decoder_ends.specs.declared.State.{State}
 use Rattle.decoder_ends.specs.declared.Ending.{Ending}
-use Rattle.decoder_ends.specs.declared.Ending.TheVariants.{Ends, Stays}
 use Rattle.decoder_ends.specs.States.{Stage, stage, machine_of, machine_at, Fits, Standing}
 use Rattle.decoder_ends.specs.Ends.{Passed, EndedOne, Ended}
 use Rattle.decoder_ends.proofs.Areas.{begun_long}
-use Rattle.decoder_ends.proofs.Moves.{none_passed, fewer_passed, more_passed}
+use Rattle.decoder_ends.proofs.Moves.{fewer_passed, more_passed}
 
 pub left_is : (m : ℕ) (bs ls w : List ℕ) (s : Stage) (l k : ℕ) → left (machine_at m bs ls w s l k) ≡ length bs - k + s.opens
 unfolding machine_of
@@ -35,28 +34,11 @@ module _ (p m : ℕ) (bs ls w : List ℕ) (s : Stage) (l k : ℕ) (t : Stage) (j
   pub passed_stuck : run (machine_at m bs ls w' t j i) ≡ none → run (machine_at m bs ls w s l k) ≡ none
   passed_stuck e = x.read.answer ∙ ap (after x.read.letters) e ∙ after_none x.read.letters
 
--- ---- what is handed back
-
-module _ (p q m : ℕ) (bs ls w : List ℕ) (e : ℕ) (s : State) (l k : ℕ) (r : Ending) (w' : List ℕ) (x : EndedOne p q m bs ls w e s l k r w') where
-  ended : (y : Ending) → r ≡ y → EndedOne p q m bs ls w e s l k y w'
-  ended y i = subst (λ (z : Ending). EndedOne p q m bs ls w e s l k z w') i x
-
-  pub ended_goes : (t : State) (j : ℕ) → r ≡ Ends t j → (j < q) × Passed p m bs ls w (stage e s) l k (stage e t) j k w'
-  unfolding EndedOne
-  ended_goes t j = ended (Ends t j)
-
-  pub ended_stuck : r ≡ Stays → run (machine_at m bs ls w (stage e s) l k) ≡ none
-  unfolding EndedOne
-  ended_stuck = ended Stays
-
 -- ---- edges outside the tree end while the label is 1
 
 pub record Closing (m : ℕ) (w₀ : List ℕ) (s₀ : State) (l₀ : ℕ) (w : List ℕ) (s : State) (l : ℕ) : Type 0 where
   pub passes : (e : ℕ) → Fits m w₀ (stage e s₀) → (bs ls : List ℕ) (k : ℕ) → Passed 0 m bs ls w₀ (stage e s₀) l₀ k (stage e s) l k w
   pub small : l < 2
-
-pub closing_start : (m : ℕ) (w : List ℕ) (s : State) (l : ℕ) → l < 2 → Closing m w s l w s l
-closing_start m w s l h = record { passes = λ e f bs ls k. none_passed m bs ls w (stage e s) l k f; small = h }
 
 module _ (m : ℕ) (w₀ : List ℕ) (s₀ : State) (l₀ : ℕ) (w : List ℕ) (s : State) (l : ℕ) (c : Closing m w₀ s₀ l₀ w s l) where
   module _ (f : Standing m w₀ s₀) where
@@ -66,40 +48,34 @@ module _ (m : ℕ) (w₀ : List ℕ) (s₀ : State) (l₀ : ℕ) (w : List ℕ) 
     pub closing_fits : Standing m w s
     closing_fits = record { edges = f.edges; fits = so_far.fits }
 
-    pub closing_kept : length w ≡ length w₀
-    closing_kept = so_far.kept
+  pub closing_end : l ≢ 1 → Ended 0 1 m w₀ s₀ l₀ (Some (record { state = s; label = l })) w
+  closing_end h e f bs ls k = let z = c.small in (omega arith, c.passes e f bs ls k)
 
-  pub closing_end : l ≢ 1 → (e : ℕ) → Fits m w₀ (stage e s₀) → (bs ls : List ℕ) (k : ℕ)
-      → (0 < 1) × Passed 0 m bs ls w₀ (stage e s₀) l₀ k (stage e s) 0 k w
-  closing_end h e f bs ls k =
-      let z = c.small in let zero_left : l ≡ 0 = omega arith in
-      (omega arith, subst (λ (j : ℕ). Passed 0 m bs ls w₀ (stage e s₀) l₀ k (stage e s) j k w) zero_left (c.passes e f bs ls k))
+  -- the edge opened last is asked to end too
+  module _ (one_left : l ≡ 1) (w' : List ℕ) where
+    here : (r : Option Ending) → Ended 1 2 m w s 1 r w' → (e : ℕ) → Fits m w₀ (stage e s₀) → (bs ls : List ℕ) (k : ℕ) → EndedOne 1 2 m bs ls w e s l k r w'
+    here r x e f bs ls k = subst (λ (j : ℕ). EndedOne 1 2 m bs ls w e s j k r w') (sym one_left) (x e (c.passes e f bs ls k).fits bs ls k)
 
-  module _ (one_left : l ≡ 1) (r : Ending) (w' : List ℕ) (x : Ended 1 2 m w s 1 r w') where
-    here : (e : ℕ) → Fits m w₀ (stage e s₀) → (bs ls : List ℕ) (k : ℕ) → EndedOne 1 2 m bs ls w e s l k r w'
-    here e f bs ls k = subst (λ (j : ℕ). EndedOne 1 2 m bs ls w e s j k r w') (sym one_left) (x e (c.passes e f bs ls k).fits bs ls k)
+    pub closing_stuck : Ended 1 2 m w s 1 None w' → Ended 0 1 m w₀ s₀ l₀ None w'
+    closing_stuck x e f bs ls k =
+        passed_stuck 0 m bs ls w₀ (stage e s₀) l₀ k (stage e s) l k w (c.passes e f bs ls k) (here None x e f bs ls k)
 
-    pub closing_stuck : r ≡ Stays → (e : ℕ) → Fits m w₀ (stage e s₀) → (bs ls : List ℕ) (k : ℕ) → run (machine_at m bs ls w₀ (stage e s₀) l₀ k) ≡ none
-    closing_stuck q e f bs ls k =
-        passed_stuck 0 m bs ls w₀ (stage e s₀) l₀ k (stage e s) l k w (c.passes e f bs ls k)
-        (ended_stuck 1 2 m bs ls w e s l k r w' (here e f bs ls k) q)
+    module _ (t : Ending) (x : Ended 1 2 m w s 1 (Some t) w') (f : Standing m w₀ s₀) where
+      one : (e : ℕ) → Fits m w₀ (stage e s₀) → (bs ls : List ℕ) (k : ℕ)
+          → (t.label < 2) × Passed 1 m bs ls w (stage e s) l k (stage e t.state) t.label k w'
+      one = here (Some t) x
 
-    module _ (t : State) (j : ℕ) (q : r ≡ Ends t j) where
-      one : (e : ℕ) → Fits m w₀ (stage e s₀) → (bs ls : List ℕ) (k : ℕ) → (j < 2) × Passed 1 m bs ls w (stage e s) l k (stage e t) j k w'
-      one e f bs ls k = ended_goes 1 2 m bs ls w e s l k r w' (here e f bs ls k) t j q
+      abbrev e : ℕ
+      e = f.edges
 
-      module _ (f : Standing m w₀ s₀) where
-        abbrev e : ℕ
-        e = f.edges
+      pub closing_less : t.state.opens < s.opens
+      closing_less = let y = passed_less 1 m [] [] w (stage e s) l 0 (stage e t.state) t.label 0 w' (one e f.fits [] [] 0).1 in omega arith
 
-        pub closing_less : t.opens < s.opens
-        closing_less = let y = passed_less 1 m [] [] w (stage e s) l 0 (stage e t) j 0 w' (one e f.fits [] [] 0).1 in omega arith
-
-        pub closing_on : Closing m w₀ s₀ l₀ w' t j
-        closing_on = record {
-          passes = λ n g bs ls k.
-              fewer_passed m bs ls w₀ (stage n s₀) l₀ k (0 + 1) (stage n t) j k w'
-              (more_passed m bs ls w₀ (stage n s₀) l₀ k 0 (stage n s) l k w (c.passes n g bs ls k) 1 (stage n t) j k w' (one n g bs ls k).1) 0
-              (omega arith);
-          small = (one e f.fits [] [] 0).0;
-        }
+      pub closing_on : Closing m w₀ s₀ l₀ w' t.state t.label
+      closing_on = record {
+        passes = λ n g bs ls k.
+            fewer_passed m bs ls w₀ (stage n s₀) l₀ k (0 + 1) (stage n t.state) t.label k w'
+            (more_passed m bs ls w₀ (stage n s₀) l₀ k 0 (stage n s) l k w (c.passes n g bs ls k) 1 (stage n t.state) t.label k w' (one n g bs ls k).1) 0
+            (omega arith);
+        small = (one e f.fits [] [] 0).0;
+      }

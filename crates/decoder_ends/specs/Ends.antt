@@ -7,14 +7,13 @@
 --   Ended                    what the end of edges outside the tree comes to, however many edges have begun and whichever bits and labels are still to be read; the
 --                            label then is below q
 --   Finished                 whether all edges have begun and ended; if so, dart 0 is entered
-use Rattle.std.specs.Prelude.{ℕ, ◌+◌, ◌-◌, ◌≤◌, ◌<◌, ◌≡◌, Bool, true, false, List, ◌++◌, length, set}
+use Rattle.std.specs.Prelude.{ℕ, ◌+◌, ◌-◌, ◌≤◌, ◌<◌, ◌≡◌, Bool, true, false, List, ◌++◌, length, set, Option, MatchOption}
 use Rattle.model.specs.Traversal.{Letter}
 use Rattle.words.specs.Word.{none, after}
 use Rattle.machine.specs.Reading.{left, run}
 use Rattle.unpacker.specs.Unpacked.{labels_at}
 use Rattle.decoder_ends.specs.declared.State.{State}
 use Rattle.decoder_ends.specs.declared.Ending.{Ending}
-use Rattle.decoder_ends.specs.declared.Ending.TheVariants.{Ends, Stays}
 use Rattle.decoder_ends.specs.States.{Stage, stage, Area, area_at, machine_of, machine_at, outcome_of, Fits}
 
 pub record Read (p : ℕ) (bs ls : List ℕ) (a : Area) (s : Stage) (l k : ℕ) (t : Stage) (j i : ℕ) (b : Area) : Type 0 where
@@ -31,11 +30,12 @@ pub record Passed (p m : ℕ) (bs ls w : List ℕ) (s : Stage) (l k : ℕ) (t : 
   pub labels_kept : labels_at m w' ≡ labels_at m w
 
 -- no bit is read and no edge begins
-unfoldable pub EndedOne : ℕ → ℕ → ℕ → List ℕ → List ℕ → List ℕ → ℕ → State → ℕ → ℕ → Ending → List ℕ → Type 0
-EndedOne p q m bs ls w e s l k (Ends t j) w' = (j < q) × Passed p m bs ls w (stage e s) l k (stage e t) j k w'
-EndedOne p q m bs ls w e s l k Stays w' = run (machine_at m bs ls w (stage e s) l k) ≡ none
+abbrev pub EndedOne : ℕ → ℕ → ℕ → List ℕ → List ℕ → List ℕ → ℕ → State → ℕ → ℕ → Option Ending → List ℕ → Type 0
+EndedOne p q m bs ls w e s l k r w' =
+    MatchOption r (run (machine_at m bs ls w (stage e s) l k) ≡ none)
+    (λ t. (t.label < q) × Passed p m bs ls w (stage e s) l k (stage e t.state) t.label k w')
 
-abbrev pub Ended : ℕ → ℕ → ℕ → List ℕ → State → ℕ → Ending → List ℕ → Type 0
+abbrev pub Ended : ℕ → ℕ → ℕ → List ℕ → State → ℕ → Option Ending → List ℕ → Type 0
 Ended p q m w s l r w' = (e : ℕ) → Fits m w (stage e s) → (bs ls : List ℕ) (k : ℕ) → EndedOne p q m bs ls w e s l k r w'
 
 pub record Finished (m : ℕ) (w : List ℕ) (s : Stage) (r : Bool) (w' : List ℕ) : Type 0 where

@@ -8,7 +8,7 @@ ghost use Rattle.decoder_ends.specs.States.{stage, Fits, Standing};
 ghost use Rattle.decoder_ends.specs.Ends.{Ended, Finished};
 
 // Where the traversal stands: the name of the present vertex, how many tree edges and how many others are open, and the dart whose entry is the next dart.
-#[derive(Drop)]
+#[derive(Clone, Copy)]
 pub struct State {
     pub here: u16,
     pub depth: usize,
@@ -16,64 +16,50 @@ pub struct State {
     pub place: usize,
 }
 
-// What ends an edge outside the tree comes to: where the machine stands then, with the label of that edge.
-#[derive(Drop)]
-pub enum Ending {
-    Ends(State, u16),
-    Stays,
+// Where the machine stands when edges outside the tree have ended, with the label of the one that ended last.
+#[derive(Clone, Copy)]
+pub struct Ending {
+    pub state: State,
+    pub label: u16,
 }
 
 // ---- an edge of label 1 has ended
 
 // The edge outside the tree that was opened last ends here too, if this is a proper ancestor of where it began.
-fn close_last(w: &mut [u16], m: usize, s: State) -> Ending
+fn close_last(w: &mut [u16], m: usize, s: State) -> Option<Ending>
     requires { Standing m w.old s }
     ensures { Ended 1 2 m w.old s 1 result w.new }
 {
-    let here = s.here;
-    let depth = s.depth;
-    let opens = s.opens;
-    let q = s.place;
-    if opens == 0 {
-        return Ending::Stays; // a label 1 is left over
+    if s.opens == 0 {
+        return None; // a label 1 is left over
     }
-    let top = opens - 1;
-    let v = w[work::BEGUN * (2 * m) + top];
-    if v <= here {
-        return Ending::Stays;
+    let opens = s.opens - 1;
+    let v = w[work::BEGUN * (2 * m) + opens];
+    if v <= s.here {
+        return None;
     }
-    let x = w[work::OPENS * (2 * m) + top];
+    let x = w[work::OPENS * (2 * m) + opens];
     let label = x % 2;
     let dart = x - label + 1;
-    w[q] = dart;
-    let t = State {
-        here,
-        depth,
-        opens: top,
+    w[s.place] = dart;
+    let state = State {
+        opens,
         place: dart as usize,
+        ..s
     };
-    Ending::Ends(t, label)
+    Some(Ending { state, label })
 }
 
 // An edge of this label has ended: edges outside the tree end while it is 1.
-pub fn close_all(w: &mut [u16], m: usize, s: State, label: u16) -> Ending
+pub fn close_all(w: &mut [u16], m: usize, s: State, label: u16) -> Option<Ending>
     requires { Standing m w.old s × (label < 2) }
     ensures { Ended 0 1 m w.old s label result w.new }
 {
-    let mut s = s;
-    let mut label = label;
-    while label == 1 {
-        match close_last(w, m, s) {
-            Ending::Ends(t, l) => {
-                s = t;
-                label = l;
-            }
-            Ending::Stays => {
-                return Ending::Stays;
-            }
-        }
+    let mut end = Ending { state: s, label };
+    while end.label == 1 {
+        end = close_last(w, m, end.state)?;
     }
-    Ending::Ends(s, 0)
+    Some(end)
 }
 
 // ---- the traversal ends
@@ -83,15 +69,12 @@ pub fn finish(w: &mut [u16], m: usize, s: State, edges: usize) -> bool
     requires { Fits m w.old (stage edges s) }
     ensures { Finished m w.old (stage edges s) result w.new }
 {
-    let depth = s.depth;
-    let opens = s.opens;
-    let place = s.place;
-    if 0 < depth + opens {
+    if 0 < s.depth + s.opens {
         return false;
     }
     if edges < m {
         return false;
     }
-    w[place] = 0;
+    w[s.place] = 0;
     true // also where dart 0 follows itself
 }

@@ -21,14 +21,14 @@ use Rattle.bit_cursor.specs.declared.Cursor.{Cursor}
 use Rattle.bit_cursor.specs.declared.Next.{Next}
 use Rattle.bit_cursor.specs.Cursors.{Labelled, Sees, past_label, next_bit, next_label}
 use Rattle.bit_cursor.proofs.Cursors.{sees_tree_bit}
+use Rattle.std.specs.Prelude.{None}
 use Rattle.decoder_ends.specs.declared.State.{State}
 use Rattle.decoder_ends.specs.States.{stage, area_at, leaf_stage, leaf_area, back_stage, back_area, enter_stage, enter_area, Fits}
 use Rattle.decoder_ends.proofs.Letters.{no_bit, no_label}
 use Rattle.decoder_ends.proofs.Moves.{leafing, backing, entering}
-use Rattle.decoder_turns.specs.declared.Outcome.TheVariants.{Goes, Stuck}
 use Rattle.decoder_turns.specs.Turns.{Turned}
 use Rattle.decoder_turns.proofs.Lists.{one_next, two_next, last_next}
-use Rattle.decoder_turns.proofs.Steps.{turned_to}
+use Rattle.decoder_turns.proofs.Steps.{goes, turned_to}
 
 module _ (f m : ℕ) (ps w : List ℕ) (s : State) (c : Cursor) (g : Labelled f m ps w) (fits : Fits m w (stage c.labels s)) (h : Sees (bits ps) c 1)
     (i : c.bits ≤ 2 * m) where
@@ -51,8 +51,7 @@ module _ (f m : ℕ) (ps w : List ℕ) (s : State) (c : Cursor) (g : Labelled f 
   label_fits l x p = let z = g.label_count in rw (label_is x p) (below_all 3 ls g.labels_small e (omega arith))
 
   module _ (k : ℕ) (after : c.bits ≡ k + 1) (one : get_or bs k 0 ≢ 0) where
-    pub no_second : 2 * m ≤ c.bits → Turned 2 m bs ls w e s k Stuck w
-    unfolding Turned
+    pub no_second : 2 * m ≤ c.bits → Turned 2 m bs ls w e s k None w
     no_second l = let z = size in no_bit bs ls (area_at m w (stage e s)) (stage e s) k _ one (last_next bs k (omega arith) (omega arith))
 
     module _ (j : c.bits < 2 * m) where
@@ -60,8 +59,7 @@ module _ (f m : ℕ) (ps w : List ℕ) (s : State) (c : Cursor) (g : Labelled f 
       second : c.word / 2 ^ 63 ≡ get_or bs (k + 1) 0
       second = sees_tree_bit ps m c h j ∙ ap (λ (n : ℕ). get_or bs n 0) after
 
-      pub no_more : m ≤ e → Turned 2 m bs ls w e s k Stuck w
-      unfolding Turned
+      pub no_more : m ≤ e → Turned 2 m bs ls w e s k None w
       no_more l =
           let z = size in let n = g.label_count in
           no_label bs ls (area_at m w (stage e s)) (stage e s) k _ one _ _ (two_next bs k _ _ (omega arith) refl second)
@@ -93,20 +91,20 @@ module _ (f m : ℕ) (ps w : List ℕ) (s : State) (c : Cursor) (g : Labelled f 
 
         module _ (t : State) (w' : List ℕ) where
           pub to_leaf : x.value ≡ star → stage (e + 1) t ≡ leaf_stage (stage e s) → w' ≡ leaf_area w (stage e s)
-              → Turned 2 m bs ls w e s k (Goes t y.value y.cursor) w'
+              → Turned 2 m bs ls w e s k (goes t y.value y.cursor) w'
           to_leaf z r u =
               turned_to 2 m bs ls w e s k t _ y.cursor w' _ _ _ _ labels_read bits_read r u bit_small
               (leafing m w (stage e s) fits bs ls k _ _ _ one l both next_label_lem z)
 
           module _ (z : x.value ≢ star) where
             pub to_back : y.value ≡ 0 → stage (e + 1) t ≡ back_stage (stage e s) → w' ≡ back_area m w (stage e s) x.value
-                → Turned 2 m bs ls w e s k (Goes t 0 y.cursor) w'
+                → Turned 2 m bs ls w e s k (goes t 0 y.cursor) w'
             to_back o r u =
                 turned_to 2 m bs ls w e s k t 0 y.cursor w' _ _ _ _ labels_read bits_read r u (omega arith)
                 (backing m w (stage e s) fits bs ls k _ _ _ one l both next_label_lem z (label_fits l x p) o)
 
             pub to_tree : y.value ≢ 0 → stage (e + 1) t ≡ enter_stage (stage e s) x.value → w' ≡ enter_area m w (stage e s)
-                → Turned 2 m bs ls w e s k (Goes t 0 x.cursor) w'
+                → Turned 2 m bs ls w e s k (goes t 0 x.cursor) w'
             to_tree o r u =
                 let n = size in let d : k + 1 + 1 ≡ k + 2 = omega arith in
                 turned_to 2 m bs ls w e s k t 0 x.cursor w' _ _ _ _ (ap (λ (v : Next). v.cursor.labels) p)

@@ -1,6 +1,5 @@
 -- A bit was read at the cursor c: what the turn is then. Assumes nothing.
 --
---   still_fits            as many edges have begun as before
 --   turn_up               the bit is 0
 --   more_seen, turn_down  it is not
 use Prim.Native.Nat.{ℕ, ◌*◌, ◌≤◌, ◌<◌}
@@ -16,8 +15,8 @@ use Rattle.bit_cursor.specs.declared.Cursor.{Cursor}
 use Rattle.bit_cursor.specs.declared.Next.{Next}
 use Rattle.bit_cursor.specs.Cursors.{Labelled, Sees, next_bit}
 use Rattle.bit_cursor.proofs.Cursors.{sees_less, sees_past, sees_tree_bit}
+use Rattle.std.specs.Prelude.{Option}
 use Rattle.decoder_ends.specs.declared.State.{State}
-use Rattle.decoder_ends.specs.States.{stage, Fits}
 use Rattle.decoder_turns.specs.declared.Outcome.{Outcome}
 use Rattle.decoder_turns.specs.Turns.{Risen, Descended, Stepped}
 use Rattle.decoder_turns.proofs.Lists.{one_next}
@@ -27,9 +26,6 @@ module _ (f m : ℕ) (ps w : List ℕ) (s : State) (c : Cursor) (x : Next) (p : 
   abbrev bs : List ℕ
   bs = payload_bits m ps
 
-  pub still_fits : Fits m w (stage c.labels s) → Fits m w (stage x.cursor.labels s)
-  still_fits = subst (λ (z : Next). Fits m w (stage z.cursor.labels s)) (sym p)
-
   module _ (h : Sees (bits ps) c 2) (i : c.bits < 2 * m) where
     pub more_seen : Sees (bits ps) x.cursor 1 × (x.cursor.bits ≤ 2 * m)
     more_seen = subst (λ (z : Next). Sees (bits ps) z.cursor 1 × (z.cursor.bits ≤ 2 * m)) (sym p) (sees_past (bits ps) c 2 h, omega arith)
@@ -37,7 +33,7 @@ module _ (f m : ℕ) (ps w : List ℕ) (s : State) (c : Cursor) (x : Next) (p : 
     bit_is : x.value ≡ get_or bs c.bits 0
     bit_is = ap (λ (z : Next). z.value) p ∙ sees_tree_bit ps m c (sees_less (bits ps) c 2 1 (omega arith) h) i
 
-    module _ (r : Outcome) (w' : List ℕ) where
+    module _ (r : Option Outcome) (w' : List ℕ) where
       pub turn_up : Labelled f m ps w → x.value ≡ 0 → Risen m w s x.cursor r w' → Stepped 2 f m ps w s c r w'
       turn_up g z y =
           let size = bit_count ps m g.bits_room in

@@ -12,8 +12,9 @@ use mathlib.Core.List.{List}
 use lib.ListN.{length, set, length-set}
 use Rattle.model.specs.Traversal.{down, up, first}
 use Rattle.work.specs.Map.{BASES, PLACES}
+use Rattle.std.specs.Prelude.{Some, None}
 use Rattle.node_ends.specs.declared.State.{State}
-use Rattle.node_ends.specs.declared.Outcome.TheVariants.{Reads, Climbs, Stuck}
+use Rattle.node_ends.specs.declared.Outcome.TheVariants.{Reads, Climbs}
 use Rattle.node_ends.specs.Steps.{place_for, view_at, with_letter, with_node, reading, left, owes, Standing, Stands, Turned}
 use Rattle.mesh_decoder.specs.Spelled.{Entering}
 use Rattle.node_ends.proofs.Founds.{with_type, ends_up}
@@ -24,7 +25,7 @@ use Rattle.mesh_decoder.proofs.Founds.{reads_zero, reads_bad, reads_node, reads_
 use Rattle.mesh_decoder.proofs.Standings.{node_pushed, pushed_stands, read_stands}
 
 opened : (m : ℕ) (w : List ℕ) (s : State) (b x : ℕ) → Standing m (1 + owes (place_for x)) w s
-    → Turned m s.read 0 (reading (with_node b x (view_at m w s)) s.height) (Reads (counted s.read s.put s.height (s.depth + 1))) w
+    → Turned m s.read 0 (reading (with_node b x (view_at m w s)) s.height) (Some (Reads (counted s.read s.put s.height (s.depth + 1)))) w
     (set (set w (BASES * (2 * m) + s.depth) b) (PLACES * (2 * m) + s.depth) x)
 unfolding left Stands
 opened m w s b x g =
@@ -47,16 +48,16 @@ module _ (m t : ℕ) (w : List ℕ) (s : State) (g : Entering m t w s) where
   abbrev taken : State
   taken = counted (s.read + 1) s.put h s.depth
 
-  takes : left m w (Reads s) ≡ reading (with_type t (view_at m w taken)) h
+  takes : left m w (Some (Reads s)) ≡ reading (with_type t (view_at m w taken)) h
   unfolding left
   takes = rw (add-one s.read, type_read m w s.read s.put s.depth g.standing.room g.more, g.next)
 
   -- ---- no such type
 
-  pub none_turn : t ≡ 0 → Turned m (s.read + 1) 0 (left m w (Reads s)) Stuck w w
+  pub none_turn : t ≡ 0 → Turned m (s.read + 1) 0 (left m w (Some (Reads s))) None w w
   none_turn e = stuck (takes ∙ rw e (reads_zero (view_at m w taken) h))
 
-  pub big_turn : 5 < t → Turned m (s.read + 1) 0 (left m w (Reads s)) Stuck w w
+  pub big_turn : 5 < t → Turned m (s.read + 1) 0 (left m w (Some (Reads s))) None w w
   big_turn l = stuck (takes ∙ reads_bad (view_at m w taken) h t l)
 
   -- ---- down
@@ -74,7 +75,7 @@ module _ (m t : ℕ) (w : List ℕ) (s : State) (g : Entering m t w s) where
   down_view = put_view m w 3 taken taken_stands down _ refl
 
   pub node_turn : 0 < t → t < 4
-      → Turned m (s.read + 1) 0 (left m w (Reads s)) (Reads (counted (s.read + 1) (s.put + 1) h (s.depth + 1))) w
+      → Turned m (s.read + 1) 0 (left m w (Some (Reads s))) (Some (Reads (counted (s.read + 1) (s.put + 1) h (s.depth + 1)))) w
       (set (set w₁ (BASES * (2 * m) + s.depth) h) (PLACES * (2 * m) + s.depth) t)
   node_turn p l = turned_from
       (opened m w₁ (with 1 h) h t (rw (owes_two t p l) down_stands))
@@ -97,7 +98,7 @@ module _ (m t : ℕ) (w : List ℕ) (s : State) (g : Entering m t w s) where
   leaf_kept = put_kept m w₁ (s.put + 1) first ∙ put_kept m w s.put down
 
   pub soon_turn : t ≡ 4
-      → Turned m (s.read + 1) 0 (left m w (Reads s)) (Reads (counted (s.read + 1) (s.put + 2) (h + 1) (s.depth + 1))) w
+      → Turned m (s.read + 1) 0 (left m w (Some (Reads s))) (Some (Reads (counted (s.read + 1) (s.put + 2) (h + 1) (s.depth + 1)))) w
       (set (set w₂ (BASES * (2 * m) + s.depth) h) (PLACES * (2 * m) + s.depth) 0)
   soon_turn e = turned_from
       (opened m w₂ (with 2 (h + 1)) h 0 (rw owes_zero leaf_stands))
@@ -127,7 +128,7 @@ module _ (m t : ℕ) (w : List ℕ) (s : State) (g : Entering m t w s) where
     leaf_view,
   )
 
-  pub tips_turn : t ≡ 5 → left m w₄ (Climbs (with 4 (h + 2))) ≡ left m w (Reads s)
+  pub tips_turn : t ≡ 5 → left m w₄ (Some (Climbs (with 4 (h + 2)))) ≡ left m w (Some (Reads s))
   unfolding left
   tips_turn e =
       let v = with_letter first (with_letter first (with_letter down (view_at m w taken))) in

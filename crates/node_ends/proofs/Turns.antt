@@ -19,9 +19,10 @@ use Rattle.model.specs.Traversal.{Letter, up, first, second, code}
 use Rattle.words.specs.Word.{Found, found, none}
 use Rattle.work.specs.Map.{LETTERS, BASES, PLACES}
 use Rattle.work.specs.Area.{stack}
+use Rattle.std.specs.Prelude.{Option, Some, None}
 use Rattle.node_ends.specs.declared.State.{State}
 use Rattle.node_ends.specs.declared.Outcome.{Outcome}
-use Rattle.node_ends.specs.declared.Outcome.TheVariants.{Reads, Climbs, Whole, Stuck}
+use Rattle.node_ends.specs.declared.Outcome.TheVariants.{Reads, Climbs, Whole}
 use Rattle.node_ends.specs.Steps.{type_count, place_for, frames, View, view_of, view_at, with_letter, with_node, climbing, ending, left}
 use Rattle.node_ends.specs.Steps.{owes, owed, Coded, popped, Standing, Stands, Turned}
 use Rattle.node_ends.proofs.Founds.{with_type, ends_up, ends_stuck, child_comes, gap_comes, leaf_comes, nothing_comes}
@@ -31,11 +32,11 @@ use Rattle.node_ends.proofs.Standings.{counted, owes_two, owes_one, put_stands, 
 
 -- ---- steps after one another
 
-pub turned_from : {m i d : ℕ} {f f' : Found} {r : Outcome} {w₁ w w' : List ℕ} → Turned m i d f r w₁ w' → f ≡ f' → length w₁ ≡ length w
+pub turned_from : {m i d : ℕ} {f f' : Found} {r : Option Outcome} {w₁ w w' : List ℕ} → Turned m i d f r w₁ w' → f ≡ f' → length w₁ ≡ length w
     → Turned m i d f' r w w'
 turned_from t q l = record { finds = t.finds ∙ q; stands = t.stands; kept = t.kept ∙ l }
 
-pub stuck : {m i d : ℕ} {f : Found} {w : List ℕ} → f ≡ none → Turned m i d f Stuck w w
+pub stuck : {m i d : ℕ} {f : Found} {w : List ℕ} → f ≡ none → Turned m i d f None w w
 unfolding left Stands
 stuck e = record { finds = sym e; stands = tt; kept = refl }
 
@@ -56,7 +57,7 @@ put_view m w c s g l k e =
 
 module _ (m : ℕ) (w : List ℕ) (s : State) (b d : ℕ) where
   pub ended : Standing m 1 w s → b < s.height → s.depth < d
-      → Turned m s.read d (ending (view_at m w s) b s.height) (Climbs (counted s.read (s.put + 1) s.height s.depth)) w
+      → Turned m s.read d (ending (view_at m w s) b s.height) (Some (Climbs (counted s.read (s.put + 1) s.height s.depth))) w
       (putting m w s.put up)
   unfolding left Stands
   ended g h n = let l = g.low in record {
@@ -65,7 +66,7 @@ module _ (m : ℕ) (w : List ℕ) (s : State) (b d : ℕ) where
     kept = put_kept m w s.put up;
   }
 
-  pub not_ended : s.height ≤ b → Turned m s.read d (ending (view_at m w s) b s.height) Stuck w w
+  pub not_ended : s.height ≤ b → Turned m s.read d (ending (view_at m w s) b s.height) None w w
   not_ended h = stuck (ends_stuck (view_at m w s) b s.height h)
 
 -- ---- a tree is complete below the node on top
@@ -83,11 +84,11 @@ module _ (m : ℕ) (w : List ℕ) (s : State) (g : Standing m 0 w s) (some : 0 <
   abbrev under : State
   under = popped s s.put s.height
 
-  climbs : (x : ℕ) → place ≡ x → left m w (Climbs s) ≡ climbing (with_node base x (view_at m w under)) s.height
+  climbs : (x : ℕ) → place ≡ x → left m w (Some (Climbs s)) ≡ climbing (with_node base x (view_at m w under)) s.height
   unfolding left
   climbs x e = rw (node_popped m w s.read s.put s.depth g.room some, e)
 
-  pub child_turn : place ≡ 1 → Turned m s.read s.depth (left m w (Climbs s)) (Reads s) w (set w (PLACES * (2 * m) + top) 0)
+  pub child_turn : place ≡ 1 → Turned m s.read s.depth (left m w (Some (Climbs s))) (Some (Reads s)) w (set w (PLACES * (2 * m) + top) 0)
   unfolding left Stands
   child_turn e =
       let u = g.within in
@@ -110,7 +111,7 @@ module _ (m : ℕ) (w : List ℕ) (s : State) (g : Standing m 0 w s) (some : 0 <
 
   pub gap_turn : place ≡ 2
       → ending (view_at m (putting m w s.put second) (popped s (s.put + 1) (s.height - 1))) base (s.height - 1)
-      ≡ left m w (Climbs s)
+      ≡ left m w (Some (Climbs s))
   gap_turn e =
       let p = one_comes (omega arith) (omega arith) in
       rw (put_view m w 1 under p second _ refl) (sym (gap_comes (view_at m w under) base s.height)) ∙ sym (climbs 2 e)
@@ -122,7 +123,7 @@ module _ (m : ℕ) (w : List ℕ) (s : State) (g : Standing m 0 w s) (some : 0 <
 
   pub leaf_turn : place ≡ 3
       → ending (view_at m (putting m w s.put first) (popped s (s.put + 1) (s.height + 1))) base (s.height + 1)
-      ≡ left m w (Climbs s)
+      ≡ left m w (Some (Climbs s))
   leaf_turn e =
       let p = one_comes (omega arith) (omega arith) in
       rw (put_view m w 1 under p first _ refl, add-one s.height) (sym (leaf_comes (view_at m w under) base s.height)) ∙ sym (climbs 3 e)
@@ -130,7 +131,7 @@ module _ (m : ℕ) (w : List ℕ) (s : State) (g : Standing m 0 w s) (some : 0 <
   pub nothing_stands : place ≢ 1 → place ≢ 2 → place ≢ 3 → Standing m 1 w under
   nothing_stands p q r = popped_stands m w s g some 1 (owes_one place p q r)
 
-  pub nothing_turn : place ≢ 1 → place ≢ 2 → place ≢ 3 → ending (view_at m w under) base s.height ≡ left m w (Climbs s)
+  pub nothing_turn : place ≢ 1 → place ≢ 2 → place ≢ 3 → ending (view_at m w under) base s.height ≡ left m w (Some (Climbs s))
   nothing_turn p q r = sym (nothing_comes (view_at m w under) base s.height place p q r) ∙ sym (climbs place refl)
 
 -- ---- a tree is complete below the start node
@@ -140,7 +141,7 @@ unfolding view_of frames stack
 nodes_none m w s e = rw e refl
 
 module _ (m : ℕ) (w : List ℕ) (s : State) (g : Standing m 0 w s) (none_open : s.depth ≡ 0) where
-  pub early : s.read < type_count m → Turned m s.read 0 (left m w (Climbs s)) Stuck w w
+  pub early : s.read < type_count m → Turned m s.read 0 (left m w (Some (Climbs s))) None w w
   unfolding left with_type
   early h =
       let t = ap (λ (v : View). v.types) (type_read m w s.read s.put s.depth g.room h) in
@@ -150,7 +151,7 @@ module _ (m : ℕ) (w : List ℕ) (s : State) (g : Standing m 0 w s) (none_open 
     no_type : (view_at m w s).types ≡ []
     no_type = types_out m w s.read s.put s.depth g.room read_all
 
-    pub other_height : s.height ≢ 2 → Turned m s.read 0 (left m w (Climbs s)) Stuck w w
+    pub other_height : s.height ≢ 2 → Turned m s.read 0 (left m w (Some (Climbs s))) None w w
     unfolding left
     other_height h = stuck (start_stuck (view_at m w s) s.height (nodes_none m w s none_open) h no_type)
 
@@ -174,7 +175,7 @@ module _ (m : ℕ) (w : List ℕ) (s : State) (g : Standing m 0 w s) (none_open 
         (rw (e, add-one s.put) (v' ∙ ap (with_letter second) v), rw (e, add-one s.put) c')
 
     pub finished : s.height ≡ 2
-        → Turned m s.read 0 (left m w (Climbs s)) Whole w (putting m (putting m w s.put second) (s.put + 1) second)
+        → Turned m s.read 0 (left m w (Some (Climbs s))) (Some Whole) w (putting m (putting m w s.put second) (s.put + 1) second)
     unfolding left Stands view_of
     finished h =
         let w₁ = putting m w s.put second in

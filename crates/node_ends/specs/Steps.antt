@@ -9,7 +9,7 @@
 --   with_letter, with_node     one more letter is put; one more node is not complete, entered at the height b, with the number x to come
 --   reading, climbing        the word that is found if the next type is to be read at the height h, and if a tree is complete there
 --   ending v b h             the same at the end of a node that was entered at the height b, all its letters but up put
---   left m w r               the word that is found after the outcome r
+--   left m w r               the word that is found after the outcome r; none where there is no outcome
 --   owes, owed s             how many letters a node, and all of s, are owed, a child that is to come counted as one
 --   letters_to, Coded         the first k letters in the work area; the entries that hold them are codes of letters
 --   Standing m c w s         numbers are in range: each type read brings three letters, and the tree below the start node one more; besides those of the
@@ -17,7 +17,7 @@
 --   popped s k h             the state after s with the node on top taken off, k letters put and the height h
 --   Stands m i d w r         `Standing` of an outcome, where i types are read; while it climbs, fewer than d nodes are not complete
 --   Turned                   what a step hands back that finds the word `result`: w and w' are the work area before and after
-use Rattle.std.specs.Prelude.{ℕ, ◌+◌, ◌-◌, ◌*◌, ◌/◌, ◌%◌, ◌≤◌, ◌<◌, ◌≡◌, cond, List, [], ◌∷◌, ◌++◌, map, eqb, length}
+use Rattle.std.specs.Prelude.{ℕ, ◌+◌, ◌-◌, ◌*◌, ◌/◌, ◌%◌, ◌≤◌, ◌<◌, ◌≡◌, cond, List, [], ◌∷◌, ◌++◌, map, eqb, length, Option, Some, None}
 use Rattle.model.specs.Traversal.{Letter, code}
 use Rattle.words.specs.Word.{Found, found, none, after}
 use Rattle.node_types.specs.Machine.{Place, child, gap, leaf, nothing, Frame, frame, is_nil, complete, climb, read_types}
@@ -26,7 +26,7 @@ use Rattle.work.specs.Area.{region, stack}
 use Rattle.work.specs.Letters.{to_letter}
 use Rattle.node_ends.specs.declared.State.{State}
 use Rattle.node_ends.specs.declared.Outcome.{Outcome}
-use Rattle.node_ends.specs.declared.Outcome.TheVariants.{Reads, Climbs, Whole, Stuck}
+use Rattle.node_ends.specs.declared.Outcome.TheVariants.{Reads, Climbs, Whole}
 
 -- ---- the work area
 
@@ -76,11 +76,11 @@ climbing v h = after v.letters (climb (read_types v.types) (is_nil v.types) h v.
 unfoldable pub ending : View → ℕ → ℕ → Found
 ending v b h = after v.letters (complete b h (climb (read_types v.types) (is_nil v.types) h v.nodes))
 
-unfoldable pub left : ℕ → List ℕ → Outcome → Found
-left m w (Reads s) = reading (view_at m w s) s.height
-left m w (Climbs s) = climbing (view_at m w s) s.height
-left m w Whole = found (letters_to m (2 * m) w)
-left m w Stuck = none
+unfoldable pub left : ℕ → List ℕ → Option Outcome → Found
+left m w (Some (Reads s)) = reading (view_at m w s) s.height
+left m w (Some (Climbs s)) = climbing (view_at m w s) s.height
+left m w (Some Whole) = found (letters_to m (2 * m) w)
+left m w None = none
 
 -- ---- ranges
 
@@ -112,13 +112,13 @@ pub record Standing (m c : ℕ) (w : List ℕ) (s : State) : Type 0 where
 abbrev pub popped : State → ℕ → ℕ → State
 popped s k h = record { read = s.read; put = k; height = h; depth = s.depth - 1 }
 
-unfoldable pub Stands : ℕ → ℕ → ℕ → List ℕ → Outcome → Type 0
-Stands m i d w (Reads s) = Standing m 1 w s × (s.read ≡ i)
-Stands m i d w (Climbs s) = Standing m 0 w s × (s.read ≡ i) × (s.depth < d)
-Stands m i d w Whole = Coded m (2 * m) w
-Stands m i d w Stuck = Unit {0}
+unfoldable pub Stands : ℕ → ℕ → ℕ → List ℕ → Option Outcome → Type 0
+Stands m i d w (Some (Reads s)) = Standing m 1 w s × (s.read ≡ i)
+Stands m i d w (Some (Climbs s)) = Standing m 0 w s × (s.read ≡ i) × (s.depth < d)
+Stands m i d w (Some Whole) = Coded m (2 * m) w
+Stands m i d w None = Unit {0}
 
-pub record Turned (m i d : ℕ) (result : Found) (r : Outcome) (w w' : List ℕ) : Type 0 where
+pub record Turned (m i d : ℕ) (result : Found) (r : Option Outcome) (w w' : List ℕ) : Type 0 where
   pub finds : left m w' r ≡ result
   pub stands : Stands m i d w' r
   pub kept : length w' ≡ length w

@@ -2,11 +2,11 @@
 
 // Where the reading of node types as the word of a mesh's dual stands, in the lent work area, and what ends in it: a node that gets its last letters, and the
 // tree below the start node. It knows letters and nodes that are not complete, and no types.
-ghost use Rattle.std.specs.Prelude.{◌≡◌, ◌<◌};
+ghost use Rattle.std.specs.Prelude.{◌≡◌, ◌<◌, Some};
 ghost use Rattle.node_ends.specs.declared.Outcome.TheVariants.{Climbs};
 ghost use Rattle.node_ends.specs.Steps.{view_at, ending, left, popped, Standing, Turned};
 
-// What is still to come at a node's second place; `specs/Steps` has the same in `place_for`.
+// What is still to come at a node's second place, a number as the work area holds; `specs/Steps` has the same in `place_for`.
 pub const NOTHING: u16 = 0;
 
 const CHILD: u16 = 1;
@@ -16,7 +16,7 @@ const GAP: u16 = 2;
 const LEAF: u16 = 3;
 
 // Where the reading stands: types read, letters put, leaves open and nodes that are not complete.
-#[derive(Drop)]
+#[derive(Clone, Copy)]
 pub struct State {
     pub read: usize,
     pub put: usize,
@@ -24,75 +24,76 @@ pub struct State {
     pub depth: usize,
 }
 
-// What a step comes to: the next type is to be read; a tree is complete, and the node above it comes next; the whole word is put; there is no word.
-#[derive(Drop)]
+// What a step comes to where there is a word: the next type is to be read; a tree is complete, and the node above it comes next; the whole word is put.
+#[derive(Clone, Copy)]
 pub enum Outcome {
     Reads(State),
     Climbs(State),
     Whole,
-    Stuck,
 }
 
-// The node on top was entered at the height `base` and has had all its letters but up: a leaf of its tree must be open. `put` and `height` are as they are
-// now.
-fn complete(w: &mut [u16], m: usize, s: State, base: usize, put: usize, height: usize) -> Outcome
-    requires { Standing m 1 w.old (popped s put height) × (0 < s.depth) }
-    ensures { Turned m s.read s.depth (ending (view_at m w.old (popped s put height)) base height) result w.old w.new }
+// The node on top was entered at the height `base` and has had all its letters but up: a leaf of its tree must be open.
+fn complete(w: &mut [u16], m: usize, s: State, base: usize) -> Option<Outcome>
+    requires { Standing m 1 w.old (popped s s.put s.height) × (0 < s.depth) }
+    ensures { Turned m s.read s.depth (ending (view_at m w.old (popped s s.put s.height)) base s.height) result w.old w.new }
 {
-    let read = s.read;
-    let depth = s.depth - 1;
-    if height <= base {
-        return Outcome::Stuck;
+    if s.height <= base {
+        return None;
     }
-    w[work::LETTERS * (2 * m) + put] = work::UP;
-    Outcome::Climbs(State {
-        read,
-        put: put + 1,
-        height,
-        depth,
-    })
+    w[work::LETTERS * (2 * m) + s.put] = work::UP;
+    Some(Outcome::Climbs(State {
+        put: s.put + 1,
+        depth: s.depth - 1,
+        ..s
+    }))
 }
 
 // A tree is complete below the node on top: its child is to be read, or it gets its last letters.
-pub fn ascend(w: &mut [u16], m: usize, s: State) -> Outcome
+pub fn ascend(w: &mut [u16], m: usize, s: State) -> Option<Outcome>
     requires { Standing m 0 w.old s × (0 < s.depth) }
-    ensures { Turned m s.read s.depth (left m w.old (Climbs s)) result w.old w.new }
+    ensures { Turned m s.read s.depth (left m w.old (Some (Climbs s))) result w.old w.new }
 {
-    let put = s.put;
-    let height = s.height;
     let top = s.depth - 1;
     let base = w[work::BASES * (2 * m) + top] as usize;
-    let place = w[work::PLACES * (2 * m) + top];
-    if place == CHILD {
-        w[work::PLACES * (2 * m) + top] = NOTHING;
-        return Outcome::Reads(s);
+    match w[work::PLACES * (2 * m) + top] {
+        CHILD => {
+            w[work::PLACES * (2 * m) + top] = NOTHING;
+            Some(Outcome::Reads(s))
+        }
+        GAP => {
+            w[work::LETTERS * (2 * m) + s.put] = work::SECOND;
+            let t = State {
+                put: s.put + 1,
+                height: s.height - 1,
+                ..s
+            };
+            complete(w, m, t, base)
+        }
+        LEAF => {
+            w[work::LETTERS * (2 * m) + s.put] = work::FIRST;
+            let t = State {
+                put: s.put + 1,
+                height: s.height + 1,
+                ..s
+            };
+            complete(w, m, t, base)
+        }
+        _ => complete(w, m, s, base),
     }
-    if place == GAP {
-        w[work::LETTERS * (2 * m) + put] = work::SECOND;
-        return complete(w, m, s, base, put + 1, height - 1);
-    }
-    if place == LEAF {
-        w[work::LETTERS * (2 * m) + put] = work::FIRST;
-        return complete(w, m, s, base, put + 1, height + 1);
-    }
-    complete(w, m, s, base, put, height)
 }
 
 // The tree below the start node is complete: no type may be left, and the two leaves that are open end.
-pub fn finish(w: &mut [u16], m: usize, s: State) -> Outcome
+pub fn finish(w: &mut [u16], m: usize, s: State) -> Option<Outcome>
     requires { Standing m 0 w.old s × (s.depth ≡ 0) }
-    ensures { Turned m s.read 0 (left m w.old (Climbs s)) result w.old w.new }
+    ensures { Turned m s.read 0 (left m w.old (Some (Climbs s))) result w.old w.new }
 {
-    let read = s.read;
-    let put = s.put;
-    let height = s.height;
-    if read < 2 * (m / 3) - 1 {
-        return Outcome::Stuck;
+    if s.read < 2 * (m / 3) - 1 {
+        return None;
     }
-    if height == 2 {
-        w[work::LETTERS * (2 * m) + put] = work::SECOND;
-        w[work::LETTERS * (2 * m) + (put + 1)] = work::SECOND;
-        return Outcome::Whole;
+    if s.height == 2 {
+        w[work::LETTERS * (2 * m) + s.put] = work::SECOND;
+        w[work::LETTERS * (2 * m) + (s.put + 1)] = work::SECOND;
+        return Some(Outcome::Whole);
     }
-    Outcome::Stuck
+    None
 }
