@@ -5,33 +5,34 @@
 use Prim.Native.Nat.{ℕ, ◌*◌, ◌≤◌}
 use mathlib.Core.Path.{◌≡◌, sym, ap, ◌∙◌}
 use mathlib.Core.List.{List}
+use lib.IntN.{pos}
 use lib.ListN.{length}
 use Rattle.model.specs.declared.Table.{Table}
 use Rattle.model.specs.declared.ReadBack.{ReadBack}
-use Rattle.model.specs.declared.ReadBack.TheVariants as readback
+use Rattle.std.specs.Prelude.{Result, Ok, Err}
+use Rattle.model.specs.declared.Refusal.{Refusal}
 use Rattle.model.specs.declared.Shelved.{Shelved}
-use Rattle.model.specs.declared.Shelved.TheVariants as shelved
 use Rattle.model.specs.Shelf.{edges_of}
-use Rattle.model.specs.Calls.{Reads, refused, read, unreadable, number_of_read, shelve_answer, shelved_bytes, Shelves, unread, planless, readable}
+use Rattle.model.specs.Refusals.{numbered}
+use Rattle.model.specs.Calls.{Reads, refused, read, unreadable, shelve_answer, shelved_bytes, Shelves, unread, planless, readable}
 use Rattle.model.proofs.Reading.{read_record, clear_read, read_clear}
-use Rattle.decoding.proofs.Answers.{not_both}
 
-module _ (t : Table) (r : List ℕ) (w : ℕ) (out : List ℕ) (a : ReadBack) (out' : List ℕ) (room : 2 * edges_of r ≤ length out) (s : List ℕ) (u : ℕ) (b : Shelved) (s' : List ℕ) where
-  pub passed_on : Reads t r w out a out' → Shelves t r w s u b s' → (x : ℕ) → a ≡ readback.Refused x → (b ≡ shelved.Refused x) × (s' ≡ s)
+module _ (t : Table) (r : List ℕ) (w : ℕ) (out : List ℕ) (a : Result ReadBack Refusal) (out' : List ℕ) (room : 2 * edges_of r ≤ length out) (s : List ℕ) (u : ℕ) (b : Result Shelved Refusal) (s' : List ℕ) where
+  pub passed_on : Reads t r w out a out' → Shelves t r w s u b s' → (x : Refusal) → a ≡ Err x → (b ≡ Err x) × (s' ≡ s)
   passed_on (refused d e f) (unread n p q) x is = (
-    p ∙ ap shelved.Refused (read_record t r w (length out) n ∙ ap number_of_read (sym e ∙ is)),
+    p ∙ ap (λ (k : ℕ). Err (numbered k (pos 0))) (read_record t r w (length out) n) ∙ ap Err (cc (sym e ∙ is)),
     q,
   )
   passed_on (refused d e f) (planless z never p q) x is = absurd (d (clear_read t r w (length out) z room))
   passed_on (refused d e f) (readable z pl has p q) x is = absurd (d (clear_read t r w (length out) z room))
-  passed_on (read z pl has e f) c x is = absurd (not_both _ _ x (sym e ∙ is))
+  passed_on (read z pl has e f) c x is = cc (sym e ∙ is)
   passed_on (unreadable z never e f) (unread n p q) x is = absurd (n (read_clear t r w (length out) z).0)
-  passed_on (unreadable z never e f) (planless n none p q) x is = (p ∙ ap (λ (y : ReadBack). shelved.Refused (number_of_read y)) (sym e ∙ is), q)
+  passed_on (unreadable z never e f) (planless n none p q) x is = (p ∙ ap Err (cc (sym e ∙ is)), q)
   passed_on (unreadable z never e f) (readable n pl has p q) x is = absurd (never pl has)
 
-  pub read_placed : Reads t r w out a out' → Shelves t r w s u b s' → (m x : ℕ) → a ≡ readback.Edges m x → (b ≡ shelve_answer r s u) × (s' ≡ shelved_bytes r s u)
-  read_placed (refused d e f) c m x is = absurd (not_both m x _ (sym is ∙ e))
-  read_placed (unreadable z never e f) c m x is = absurd (not_both m x _ (sym is ∙ e))
-  read_placed (read z pl has e f) (unread n p q) m x is = absurd (n (read_clear t r w (length out) z).0)
-  read_placed (read z pl has e f) (planless n never p q) m x is = absurd (never pl has)
-  read_placed (read z pl has e f) (readable n pl' has' p q) m x is = (p, q)
+  pub read_placed : Reads t r w out a out' → Shelves t r w s u b s' → (y : ReadBack) → a ≡ Ok y → (b ≡ shelve_answer r s u) × (s' ≡ shelved_bytes r s u)
+  read_placed (refused d e f) c y is = cc (sym is ∙ e)
+  read_placed (unreadable z never e f) c y is = cc (sym is ∙ e)
+  read_placed (read z pl has e f) (unread n p q) y is = absurd (n (read_clear t r w (length out) z).0)
+  read_placed (read z pl has e f) (planless n never p q) y is = absurd (never pl has)
+  read_placed (read z pl has e f) (readable n pl' has' p q) y is = (p, q)

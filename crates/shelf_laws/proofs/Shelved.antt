@@ -13,17 +13,20 @@ use mathlib.Core.Bool.{Bool, true, false, ◌&&◌, cond, true≢false}
 use mathlib.Core.List.{List, [], ◌∷◌, ◌++◌}
 use Prim.Native.Nat.{ℕ, ◌+◌, ◌*◌, ◌≤◌, ◌<◌}
 use native.Mathlib.Omega.{arith}
+use lib.IntN.{pos}
 use lib.Dec.{eqb}
 use lib.ListN.{length, get_or, take, drop, length-append, get_or-append}
 use lib.Seq.{length-take-le, take-append-add, take-append_seam}
 use borrow.Author.Tests.{lt-ltb, le-ltb, eq-eqb, ne_eqb, eqb-true, eqb-false}
 use Rattle.model.specs.declared.Table.{Table}
 use Rattle.model.specs.declared.Shelved.{Shelved}
-use Rattle.model.specs.declared.Shelved.TheVariants.{At, Refused}
+use Rattle.std.specs.Prelude.{Result, Ok, Err}
+use Rattle.model.specs.declared.Refusal.{Refusal}
+use Rattle.model.specs.Refusals.{numbered}
 use Rattle.model.specs.Numbers.{first_refusal}
 use Rattle.model.specs.Map.{Plan}
 use Rattle.model.specs.Shelf.{edges_of, passes, records_in, end_to_end, first_equal, shelf_refused}
-use Rattle.model.specs.Calls.{front, table_refused, record_refusal, HasRecord, shelve_refusal, shelve_answer, shelved_bytes, Shelves, unread, planless, readable, Stored, used_of_shelved}
+use Rattle.model.specs.Calls.{front, table_refused, record_refusal, HasRecord, shelve_refusal, shelve_answer, shelved_bytes, Shelves, unread, planless, readable, Stored, record_number_of_shelved, used_of_shelved}
 use Rattle.model.specs.Calls.{fetch_refusal, fetched, Fetched}
 use Rattle.model.proofs.Heads.{passes_long}
 use Rattle.model.proofs.Reading.{record_clear, clear_record}
@@ -128,7 +131,11 @@ module _ (r s : List ℕ) (u : ℕ) (passed : passes r ≡ true) (e : shelve_ref
         earlier = λ k h. (omega arith, ap (λ (rs : List (List ℕ)). get_or rs k []) behind.1 ∙ get_or-append (records s u) (r ∷ []) [] k h);
       }
 
-not_both : (n u x : ℕ) → At n u ≡ Refused x → ⊥
+-- the answer that gives record n and the used length u
+abbrev At : ℕ → ℕ → Result Shelved Refusal
+At n u = Ok (record { number = n; used = u })
+
+not_both : (n u : ℕ) (x : Refusal) → At n u ≡ Err x → ⊥
 not_both n u x e = let z : true ≡ false = cc e in true≢false z
 
 -- a call that gave a number read the record, and placed it
@@ -146,15 +153,15 @@ accepted t r w s u n u' w' s' c =
     go (record_clear t r (length w) none).passed (eqb (shelve_refusal r s u) 0) (unlike r s u) refl refl answer bytes
   where
     go : passes r ≡ true → (a b : Bool) → eqb (shelve_refusal r s u) 0 ≡ a → unlike r s u ≡ b
-        → At n u' ≡ cond a (At (first_equal r (records s u)) (cond b (u + length r) u)) (Refused (shelve_refusal r s u))
+        → At n u' ≡ cond a (At (first_equal r (records s u)) (cond b (u + length r) u)) (Err (numbered (shelve_refusal r s u) (pos 0)))
         → s' ≡ cond (a && b) (take u s ++ front r (drop u s)) s → Accepted r s u n u' s'
     go passed true true p q e f =
-        let n_is : n ≡ first_equal r (records s u) = cc e in
-        let u_is : u' ≡ u + length r = cc e in
+        let n_is : n ≡ first_equal r (records s u) = ap record_number_of_shelved e in
+        let u_is : u' ≡ u + length r = ap (used_of_shelved 0) e in
         rw (n_is, u_is, f) (stored r s u passed (eqb-true _ _ p) q)
     go passed true false p q e f =
-        let n_is : n ≡ first_equal r (records s u) = cc e in
-        let u_is : u' ≡ u = cc e in
+        let n_is : n ≡ first_equal r (records s u) = ap record_number_of_shelved e in
+        let u_is : u' ≡ u = ap (used_of_shelved 0) e in
         rw (n_is, u_is, f) (found r s u passed (eqb-true _ _ p) q)
     go passed false b p q e f = absurd (not_both n u' _ e)
 
@@ -189,7 +196,7 @@ module _ (t : Table) (r w s : List ℕ) (u n u' : ℕ) (w' s' : List ℕ) (c : S
 
   -- a second shelving of the same bytes, under any table under which a plan has them and with room, gives the same number and used length, and changes nothing
   pub again : (under : Table) → table_refused under ≡ false → (p : Plan) → HasRecord under r p → (v : List ℕ) → 32 * edges_of r ≤ length v
-      → (answer : Shelved) (v' s'' : List ℕ) → Stored under r v s' u' answer v' s'' → (answer ≡ At n u') × (s'' ≡ s')
+      → (answer : Result Shelved Refusal) (v' s'' : List ℕ) → Stored under r v s' u' answer v' s'' → (answer ≡ At n u') × (s'' ≡ s')
   unfolding shelve_answer shelved_bytes shelve_refusal first_refusal
   again under stands p has v room answer v' s'' d = go d.outcome
     where
@@ -204,29 +211,29 @@ module _ (t : Table) (r w s : List ℕ) (u n u' : ℕ) (w' s' : List ℕ) (c : S
       go (planless z never e f) = absurd (never p has)
       go (readable z q h e f) = let a = here in (e ∙ rw (a.after_fine, a.number_first, new), f ∙ rw (a.after_fine, a.number_first, new))
 
-  pub again_same : (v : List ℕ) → 32 * edges_of r ≤ length v → (answer : Shelved) (v' s'' : List ℕ) → Stored t r v s' u' answer v' s''
+  pub again_same : (v : List ℕ) → 32 * edges_of r ≤ length v → (answer : Result Shelved Refusal) (v' s'' : List ℕ) → Stored t r v s' u' answer v' s''
       → (answer ≡ At n u') × (s'' ≡ s')
   again_same =
       let (none, (p, has), answer, bytes) = placed t r (length w) s u n u' s' c.outcome in
       again t (record_clear t r (length w) none).stands p has
 
-pub refused_kept : (t : Table) (r w s : List ℕ) (u x : ℕ) (w' s' : List ℕ) → Stored t r w s u (Refused x) w' s' → s' ≡ s
+pub refused_kept : (t : Table) (r w s : List ℕ) (u : ℕ) (x : Refusal) (w' s' : List ℕ) → Stored t r w s u (Err x) w' s' → s' ≡ s
 unfolding shelve_answer shelved_bytes
 refused_kept t r w s u x w' s' c = go c.outcome
   where
-    by_shelf : (a b : Bool) → Refused x ≡ cond a (At (first_equal r (records s u)) (cond b (u + length r) u)) (Refused (shelve_refusal r s u))
+    by_shelf : (a b : Bool) → Err x ≡ cond a (At (first_equal r (records s u)) (cond b (u + length r) u)) (Err (numbered (shelve_refusal r s u) (pos 0)))
         → s' ≡ cond (a && b) (take u s ++ front r (drop u s)) s → s' ≡ s
     by_shelf true b e f = absurd (not_both _ _ x (sym e))
     by_shelf false b e f = f
 
-    go : Shelves t r (length w) s u (Refused x) s' → s' ≡ s
+    go : Shelves t r (length w) s u (Err x) s' → s' ≡ s
     go (unread d e f) = f
     go (planless z never e f) = f
     go (readable z p has e f) = by_shelf (eqb (shelve_refusal r s u) 0) (unlike r s u) e f
 
 -- ---- shelving is determined
 
-pub shelves_one : (t : Table) (r : List ℕ) (w : ℕ) (s : List ℕ) (u : ℕ) (a b : Shelved) (s' s'' : List ℕ) → Shelves t r w s u a s' → Shelves t r w s u b s''
+pub shelves_one : (t : Table) (r : List ℕ) (w : ℕ) (s : List ℕ) (u : ℕ) (a b : Result Shelved Refusal) (s' s'' : List ℕ) → Shelves t r w s u a s' → Shelves t r w s u b s''
     → (a ≡ b) × (s' ≡ s'')
 shelves_one t r w s u a b s' s'' (unread d e f) (unread d' e' f') = (e ∙ sym e', f ∙ sym f')
 shelves_one t r w s u a b s' s'' (unread d e f) (planless z never e' f') = absurd (d z)
@@ -244,12 +251,12 @@ pub data Step (t : Table) (r s : List ℕ) (u u' : ℕ) (s' : List ℕ) : Type 0
   same_shelf : u' ≡ u → s' ≡ s → Step t r s u u' s'
   one_stored : (u' ≡ u → ⊥) → (p : Plan) → HasRecord t r p → shelf_refused s' u' ≡ false → records s' u' ≡ records s u ++ (r ∷ []) → Step t r s u u' s'
 
-pub step : (t : Table) (r w s : List ℕ) (u : ℕ) (a : Shelved) (w' s' : List ℕ) → Stored t r w s u a w' s' → Step t r s u (used_of_shelved u a) s'
+pub step : (t : Table) (r w s : List ℕ) (u : ℕ) (a : Result Shelved Refusal) (w' s' : List ℕ) → Stored t r w s u a w' s' → Step t r s u (used_of_shelved u a) s'
 unfolding shelve_answer shelved_bytes
 step t r w s u a w' s' c = go c.outcome
   where
     by_shelf : passes r ≡ true → (p : Plan) → HasRecord t r p → (y b : Bool) → eqb (shelve_refusal r s u) 0 ≡ y → unlike r s u ≡ b
-        → a ≡ cond y (At (first_equal r (records s u)) (cond b (u + length r) u)) (Refused (shelve_refusal r s u))
+        → a ≡ cond y (At (first_equal r (records s u)) (cond b (u + length r) u)) (Err (numbered (shelve_refusal r s u) (pos 0)))
         → s' ≡ cond (y && b) (take u s ++ front r (drop u s)) s → Step t r s u (used_of_shelved u a) s'
     by_shelf passed p has true true y b e f =
         let long = passes_long r passed in

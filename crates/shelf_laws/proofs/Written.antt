@@ -9,7 +9,8 @@ use mathlib.Core.Bool.{false}
 use mathlib.Core.List.{List}
 use lib.ListN.{length, take}
 use Rattle.model.specs.declared.Table.{Table}
-use Rattle.model.specs.declared.Written.TheVariants as written
+use Rattle.std.specs.Prelude.{Result, Ok}
+use Rattle.model.specs.declared.Refusal.{Refusal}
 use Rattle.model.specs.declared.Shelved.{Shelved}
 use Rattle.model.specs.Map.{Plan, edges}
 use Rattle.model.specs.Calls.{table_refused, record_refusal, Wrote, HasRecord, shelve_answer, shelved_bytes, Shelves, unread, planless, readable, Stored}
@@ -17,7 +18,7 @@ use Rattle.model.proofs.Reading.{clear_record}
 use Rattle.reading.proofs.FitRecords.{has_edges, has_passes}
 use Rattle.reading.proofs.RoundTrip.{wrote_stands, wrote_has}
 
-pub shelves_read : (t : Table) → table_refused t ≡ false → (r : List ℕ) (p : Plan) → HasRecord t r p → (w s : List ℕ) (u : ℕ) (a : Shelved) (w' s' : List ℕ)
+pub shelves_read : (t : Table) → table_refused t ≡ false → (r : List ℕ) (p : Plan) → HasRecord t r p → (w s : List ℕ) (u : ℕ) (a : Result Shelved Refusal) (w' s' : List ℕ)
     → Stored t r w s u a w' s' → 32 * edges p.rotation ≤ length w → (a ≡ shelve_answer r s u) × (s' ≡ shelved_bytes r s u)
 shelves_read t stands r p has w s u a w' s' c h = go c.outcome
   where
@@ -31,8 +32,8 @@ shelves_read t stands r p has w s u a w' s' c h = go c.outcome
     go (planless z never e f) = absurd (never p has)
     go (readable z q g e f) = (e, f)
 
-pub written_shelved : (t : Table) (k : ℕ) (p : Plan) (w o : List ℕ) (n : ℕ) (w' o' : List ℕ) → Wrote t k p w o (written.Length n) w' o'
-    → (v s : List ℕ) (u : ℕ) (a : Shelved) (v' s' : List ℕ) → Stored t (take n o') v s u a v' s' → 32 * edges p.rotation ≤ length v
+pub written_shelved : (t : Table) (k : ℕ) (p : Plan) (w o : List ℕ) (n : ℕ) (w' o' : List ℕ) → Wrote t k p w o (Ok n) w' o'
+    → (v s : List ℕ) (u : ℕ) (a : Result Shelved Refusal) (v' s' : List ℕ) → Stored t (take n o') v s u a v' s' → 32 * edges p.rotation ≤ length v
     → (a ≡ shelve_answer (take n o') s u) × (s' ≡ shelved_bytes (take n o') s u)
 written_shelved t k p w o n w' o' wrote v s u a v' s' c h =
     shelves_read t (wrote_stands t k p w o n w' o' wrote) (take n o') p (wrote_has t k p w o n w' o' wrote) v s u a v' s' c h
