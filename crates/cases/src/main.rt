@@ -5,7 +5,7 @@
 // has what it must write; tests/cases.py holds it to the second coder.
 ghost use Rattle.std.specs.Prelude.{◌≤◌, length};
 
-use model::{Measured, Written};
+use model::Refusal;
 use std::{array, io};
 
 // The longest work area, output and list that a case may have.
@@ -37,20 +37,18 @@ fn show_record(rt: &impl Print, n: u16, out: &[u8]) -> io::Result<()> {
     println!(rt)
 }
 
-fn show_refusal(rt: &impl Print, number: u16) -> io::Result<()> {
-    println!(rt; "refusal {number}")
+fn show_refusal(rt: &impl Print, refusal: Refusal) -> io::Result<()> {
+    if let Refusal::NotPlanar(x) = refusal {
+        let value = if x == 0 { "0" } else { "not 0" };
+        return println!(rt; "{refusal}, characteristic {value}");
+    }
+    println!(rt; "{refusal}")
 }
 
-fn show_characteristic(rt: &impl Print, x: i32) -> io::Result<()> {
-    let value = if x == 0 { "0" } else { "not 0" };
-    println!(rt; "refusal 10, characteristic {value}")
-}
-
-fn show_written(rt: &impl Print, answer: Written, out: &[u8]) -> io::Result<()> {
+fn show_written(rt: &impl Print, answer: Result<u16, Refusal>, out: &[u8]) -> io::Result<()> {
     match answer {
-        Written::Length(n) => show_record(rt, n, out),
-        Written::Refused(number) => show_refusal(rt, number),
-        Written::NotPlanar(x) => show_characteristic(rt, x),
+        Ok(n) => show_record(rt, n, out),
+        Err(refusal) => show_refusal(rt, refusal),
     }
 }
 
@@ -72,11 +70,10 @@ fn show_areas(rt: &impl Print, n: u16, list: &[u16]) -> io::Result<()> {
     println!(rt)
 }
 
-fn show_measured(rt: &impl Print, answer: Measured, list: &[u16]) -> io::Result<()> {
+fn show_measured(rt: &impl Print, answer: Result<u16, Refusal>, list: &[u16]) -> io::Result<()> {
     match answer {
-        Measured::Count(n) => show_areas(rt, n, list),
-        Measured::Refused(number) => show_refusal(rt, number),
-        Measured::NotPlanar(x) => show_characteristic(rt, x),
+        Ok(n) => show_areas(rt, n, list),
+        Err(refusal) => show_refusal(rt, refusal),
     }
 }
 

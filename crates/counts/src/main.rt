@@ -5,7 +5,6 @@
 // number from 0 to 2m. The file stdout has what it must write.
 ghost use Rattle.std.specs.Prelude.{◌≤◌, length};
 
-use model::ReadBack;
 use std::io;
 
 // How many bytes the payload of a record has.
@@ -59,10 +58,7 @@ const LINES: [(u8, u8, Payload); 15] = [
 fn is_read(record: &[u8]) -> bool {
     let mut work = [0; 192];
     let mut out = [0; 12];
-    match reading::read(tables::standard(), record, &mut work, &mut out) {
-        ReadBack::Edges(_, _) => true,
-        ReadBack::Refused(_) => false,
-    }
+    reading::read(tables::standard(), record, &mut work, &mut out).is_ok()
 }
 
 // How many records of this head are read, over all payloads.

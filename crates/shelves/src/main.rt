@@ -7,7 +7,7 @@ ghost use Rattle.std.specs.Prelude.{◌≡◌};
 ghost use Rattle.model.specs.Parts.{CutOut};
 ghost use Rattle.model.specs.ShelfWalk.{next_place};
 
-use model::Shelved;
+use model::Refusal;
 use searching::Searched;
 use std::{fmt, io};
 use walker::Walker;
@@ -42,10 +42,10 @@ fn show_compared(rt: &impl Print, record: &[u8], bytes: &[u8]) -> io::Result<()>
         return Ok(());
     }
     match searching::search(record, bytes) {
-        Searched::There(_, compared) | Searched::Missing(_, compared) => {
+        Some(Searched::There(_, compared) | Searched::Missing(_, compared)) => {
             print!(rt; ", compared {compared}")
         }
-        Searched::Broken => Ok(()),
+        None => Ok(()),
     }
 }
 
@@ -64,14 +64,14 @@ fn shelve_with(
         work.len()
     )?;
     match shelving::shelve(tables::standard(), record, work, shelf, used) {
-        Shelved::At(n, end) => {
-            print!(rt; ": record {n}, used {end}")?;
+        Ok(shelved) => {
+            print!(rt; ": record {}, used {}", shelved.number, shelved.used)?;
             show_compared(rt, record, shelf::used_part(shelf, used))?;
             println!(rt)?;
-            Ok(end)
+            Ok(shelved.used)
         }
-        Shelved::Refused(number) => {
-            println!(rt; ": refusal {number}")?;
+        Err(refusal) => {
+            println!(rt; ": {refusal}")?;
             Ok(used)
         }
     }
@@ -82,11 +82,20 @@ fn shelve(rt: &impl Print, record: &[u8], shelf: &mut [u8], used: usize) -> io::
     shelve_with(rt, &mut [0xEEEE; 96], record, shelf, used)
 }
 
+// The refusal and the record: 0 and a record, or a refusal and none.
+fn show_part(rt: &impl Print, part: Result<&[u8], Refusal>) -> io::Result<()> {
+    match part {
+        Ok(record) => {
+            print!(rt; "refusal 0,")?;
+            show_record(rt, record)
+        }
+        Err(refusal) => println!(rt; "{refusal}, none"),
+    }
+}
+
 fn fetch(rt: &impl Print, shelf: &[u8], used: usize, n: usize) -> io::Result<()> {
-    let mut refusal = 99;
-    let part = shelf::fetch(shelf, used, n, &mut refusal);
-    print!(rt; "fetch {n}, used {used}: refusal {refusal},")?;
-    show_record(rt, part)
+    print!(rt; "fetch {n}, used {used}: ")?;
+    show_part(rt, shelf::fetch(shelf, used, n))
 }
 
 // ---- walking
@@ -135,12 +144,9 @@ fn places(
 
 // A walk from record n on, of so many steps.
 fn walk(rt: &impl Print, shelf: &[u8], used: usize, n: usize, count: usize) -> io::Result<()> {
-    let mut refusal = 99;
-    let part = walker::first(shelf, used, n, &mut refusal);
-    print!(rt; "walk from {n}, used {used}: refusal {refusal},")?;
-    show_record(rt, part)?;
-    let mut again = 99;
-    let place = shelf::walk_begin(shelf, used, n, &mut again);
+    print!(rt; "walk from {n}, used {used}: ")?;
+    show_part(rt, walker::first(shelf, used, n))?;
+    let place = shelf::walk_begin(shelf, used, n).unwrap_or(used);
     steps(rt, shelf, used, place, count)?;
     print!(rt; "  places")?;
     places(rt, shelf, used, place, count)?;
