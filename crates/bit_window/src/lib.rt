@@ -62,7 +62,7 @@ pub fn from(bytes: &[u8], k: usize) -> u64
 
 // ---- a number and its places
 
-// The number with the 64 bits from byte q on, the first of them highest.
+// The number with the 64 bits from byte q on, the first of them highest. `inside` under another name: its clauses are those that `mesh_codewords` cites.
 pub fn eight(s: &[u8], q: usize) -> u64
     requires { (length s.now < 65536) × (q + 8 ≤ length s.now) }
     ensures { result ≡ digits 2 64 (drop (8 * q) (bits s.now)) }
