@@ -20,7 +20,7 @@ use Rattle.model.proofs.Below.{below_drop}
 use Rattle.packing.specs.Unpack.{digits_of, unpack, bits}
 use Rattle.packing.proofs.Digits.{digits_cons, digits_append, length_digits_of, digits_of_digits, digits_digits_of, digits_of_at}
 use Rattle.packing.proofs.Packed.{unpack_drop, length_bits, bits_below}
-use Rattle.bit_window.specs.Window.{joined_bytes}
+use Rattle.bit_window.proofs.Window.{joined_bytes}
 
 digits_split : (u w : ℕ) (ds : List ℕ) → u ≤ length ds → digits 2 (u + w) ds ≡ digits 2 u ds * 2 ^ w + digits 2 w (drop u ds)
 unfolding digits_from

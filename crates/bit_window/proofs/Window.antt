@@ -5,19 +5,23 @@
 --   holds_moved           moved on by some bits at once
 --   bit_in_byte           a bit by its byte; past the end both are 0
 --   holds_bit, holds_byte   a bit and a byte in front of a window
+--   joined_bytes          eight bytes as one number, the first the highest
 --   holds_bytes           eight bytes are a window
+--   chunk_joined, holds_chunk   so is a part of eight bytes, read at once
 use Prim.Native.Nat.{ℕ, zero, suc, ◌+◌, ◌-◌, ◌*◌, ◌/◌, ◌%◌, ◌^◌, ◌≤◌, ◌<◌}
 use native.Mathlib.Nat.{not-suc-le-zero, le_of_suc-le-suc, pow-suc, mul_assoc, zero-div}
 use native.Mathlib.Decide.{dec_lt}
 use native.Mathlib.Omega.{arith}
 use mathlib.Core.Path.{◌≡◌, refl, sym, ap, ◌∙◌, subst}
-use mathlib.Core.List.{List}
-use lib.ListN.{length, get_or, get_or-eq_default}
+use mathlib.Core.List.{List, [], ◌∷◌}
+use Rattle.std.specs.Int.{w64, from_be_bytes}
+use lib.ListN.{length, get_or, get_or-eq_default, take, drop}
+use lib.Seq.{get_or-drop, get_or-take}
 use Rattle.packing.specs.Unpack.{unpack, bits}
 use Rattle.packing.proofs.Digits.{digits_of_at}
 use Rattle.packing.proofs.Packed.{length_bits}
 use Rattle.packing.proofs.Place.{unpack_at}
-use Rattle.bit_window.specs.Window.{joined_bytes, shifted, Holds}
+use Rattle.bit_window.specs.Window.{shifted, Holds}
 
 module _ (bs : List ℕ) where
   pub holds_less : (word k n i : ℕ) → i ≤ n → Holds bs word k n → Holds bs word k i
@@ -103,6 +107,9 @@ bit_in_byte s q j h = elim (dec_lt q (length s)) [
       )
 ]
 
+abbrev pub joined_bytes : ℕ → ℕ → ℕ → ℕ → ℕ → ℕ → ℕ → ℕ → ℕ
+joined_bytes a b c d e f g h = from_be_bytes w64 (a ∷ b ∷ c ∷ d ∷ e ∷ f ∷ g ∷ h ∷ [])
+
 -- the byte at place q, below 256
 abbrev pub Byte : List ℕ → ℕ → ℕ → Type 0
 Byte s q b = (b ≡ get_or s q 0) × (b < 256)
@@ -142,6 +149,23 @@ module _ (s : List ℕ) (q : ℕ) where
         (holds_byte bs k₆ 8 g r₆ (r₅ * 256) (byte_at 6 g k₆ at_g (omega arith)) g₁ (omega arith) (omega arith)
         (holds_byte bs k₇ 0 h 0 (r₆ * 256) (byte_at 7 h k₇ at-h (omega arith)) h₁ (omega arith) (omega arith)
         tt)))))))
+
+module _ (s whole : List ℕ) (q : ℕ) (is : whole ≡ take (q + 8 - q) (drop q s)) (low : (k : ℕ) → get_or s k 0 < 256) where
+  chunk_at : (k : ℕ) → k < 8 → get_or whole k 0 ≡ get_or s (q + k) 0
+  chunk_at k h = ap (λ (xs : List ℕ). get_or xs k 0) is ∙ get_or-take (q + 8 - q) (drop q s) k 0 (omega arith) ∙ get_or-drop q s k 0
+
+  pub chunk_joined : from_be_bytes w64 whole
+      ≡ joined_bytes (get_or s q 0) (get_or s (q + 1) 0) (get_or s (q + 2) 0) (get_or s (q + 3) 0) (get_or s (q + 4) 0) (get_or s (q + 5) 0) (get_or s (q + 6) 0) (get_or s (q + 7) 0)
+  chunk_joined =
+      let z : get_or whole 0 0 ≡ get_or s q 0 = chunk_at 0 (omega arith) ∙ ap (λ (k : ℕ). get_or s k 0) (omega arith) in
+      let a = chunk_at 1 (omega arith) in let b = chunk_at 2 (omega arith) in let c = chunk_at 3 (omega arith) in let d = chunk_at 4 (omega arith) in
+      let e = chunk_at 5 (omega arith) in let f = chunk_at 6 (omega arith) in let g = chunk_at 7 (omega arith) in
+      omega arith
+
+  pub holds_chunk : (word : ℕ) → word ≡ from_be_bytes w64 whole → Holds (bits s) word (8 * q) 64
+  holds_chunk word e =
+      holds_bytes s q _ _ _ _ _ _ _ _ (refl, low q) (refl, low (q + 1)) (refl, low (q + 2)) (refl, low (q + 3))
+      (refl, low (q + 4)) (refl, low (q + 5)) (refl, low (q + 6)) (refl, low (q + 7)) word (e ∙ chunk_joined)
 
 -- the window from bit k on
 pub holds_from : (bs : List ℕ) (word k : ℕ) → word < 2 ^ 64 → Holds bs word (8 * (k / 8)) 64 → Holds bs (word * 2 ^ (k % 8) % 2 ^ 64) k 57

@@ -31,19 +31,13 @@ fn label_in(group: u8, j: usize) -> u8
     requires { j < 5 }
     ensures { result ≡ group / 3 ^ (4 - j) % 3 }
 {
-    if j == 0 {
-        return group / 81 % 3;
+    match j {
+        0 => group / 81 % 3,
+        1 => group / 27 % 3,
+        2 => group / 9 % 3,
+        3 => group / 3 % 3,
+        _ => group % 3,
     }
-    if j == 1 {
-        return group / 27 % 3;
-    }
-    if j == 2 {
-        return group / 9 % 3;
-    }
-    if j == 3 {
-        return group / 3 % 3;
-    }
-    group % 3
 }
 
 // Label i of the groups from byte `from` on.

@@ -1,99 +1,64 @@
--- The number that digits make, entry by entry.
+-- The number that digits make, from the last digit on.
 --
---   entry, entry_past      the digits from a to e, filled up with 0
---   digits_more            one digit more
---   next_byte, all_digits  with one digit more the number is below 256; all digits are read
---   full_entry             a full group's digits are entries of the work area
---   full_as, value_as      a full group and its number, of a base and a width by other names
---   eight_bits, five_digits   the number that they make
-use Prim.Native.Nat.{ℕ, zero, suc, ◌+◌, ◌*◌, ◌^◌, ◌≤◌, ◌<◌}
-use native.Mathlib.Nat.{add-zero, pow-le-pow_right}
-use native.Mathlib.Omega.{arith}
-use native.Mathlib.Numerals.{add-one}
-use mathlib.Core.Path.{◌≡◌, refl, sym, ◌∙◌}
-use mathlib.Core.Bool.{true}
-use mathlib.Core.List.{List, [], ◌∷◌}
-use lib.ListN.{length, get_or, take, get_or-eq_default}
-use lib.Seq.{get_or-drop, get_or-take, length-slice}
+--   digit_before           the number with one digit more in front
+--   no_digits, digit_more, all_digits   no digit is read, one more, and all
+use Rattle.std.proofs.Common.{◌≡◌, ℕ, zero, suc, ◌+◌, ◌-◌, ◌*◌, ◌^◌, ◌≤◌, ◌<◌, true, List, [], ◌∷◌, get_or, drop, sym, ◌∙◌, arith}
+use Rattle.std.proofs.Math.Nat.{mul_comm, pow-zero, pow-suc, pow-le-pow_right}
 use Rattle.model.specs.Numbers.{all_below}
 use Rattle.model.specs.Record.{digits_from, digits}
-use Rattle.model.proofs.Permutations.{below_all}
-use Rattle.packing.proofs.Digits.{digits_below}
-use Rattle.group_numbers.specs.Groups.{between, Full}
+use Rattle.model.proofs.Below.{below_drop}
+use Rattle.packing.proofs.Digits.{digits_nil, digits_cons, digits_below}
 
--- ---- the digits from a to e
+-- no digit is left: 0
+none : (base k : ℕ) → digits base (suc k) [] ≡ 0 * base ^ k + digits base k []
+none base k = let a = digits_nil base (suc k) in let b = digits_nil base k in omega arith
 
-module _ (a e : ℕ) (w : List ℕ) (i : ℕ) where
-  pub entry : a + i < e → get_or (between a e w) i 0 ≡ get_or w (a + i) 0
-  unfolding between
-  entry h = get_or-drop a (take e w) i 0 ∙ get_or-take e w (a + i) 0 h
+digit_before : (base k j : ℕ) (ds : List ℕ) → digits base (suc k) (drop j ds) ≡ get_or ds j 0 * base ^ k + digits base k (drop (suc j) ds)
+digit_before base k zero [] = none base k
+digit_before base k zero (d ∷ ds) = digits_cons base k d ds
+digit_before base k (suc j) [] = none base k
+digit_before base k (suc j) (d ∷ ds) = digit_before base k j ds
 
-  pub entry_past : e ≤ length w → e ≤ a + i → get_or (between a e w) i 0 ≡ 0
-  unfolding between
-  entry_past fits h = let l = length-slice a e w fits in get_or-eq_default (between a e w) 0 {n = i} (omega arith)
+-- the digit d before place i, counted by its place
+pub record More (base width : ℕ) (ds : List ℕ) (i x place d : ℕ) : Type 0 where
+  pub sum : x + place * d ≡ digits base (width - (i - 1)) (drop (i - 1) ds)
+  pub power : place * base ≡ base ^ (width - (i - 1))
+  pub fits : x + place * d < 256
+  pub low : place * base ≤ 256
 
--- ---- one number
-
-from_more : (base x i : ℕ) (ds : List ℕ) → digits_from base x (suc i) ds ≡ digits_from base x i ds * base + get_or ds i 0
+pub no_digits : (base width : ℕ) (ds : List ℕ) → (0 ≡ digits base (width - width) (drop width ds)) × (1 ≡ base ^ (width - width))
 unfolding digits_from
-from_more base x zero [] = sym (add-zero (x * base))
-from_more base x zero (d ∷ ds) = refl
-from_more base x (suc i) [] = from_more base (x * base) i []
-from_more base x (suc i) (d ∷ ds) = from_more base (x * base + d) i ds
-
-pub digits_more : (base : ℕ) (ds : List ℕ) (i x d : ℕ) → x ≡ digits base i ds → d ≡ get_or ds i 0 → x * base + d ≡ digits base (i + 1) ds
-digits_more base ds i x d e f = rw (e, f, add-one) (sym (from_more base 0 i ds))
+no_digits base width ds = let z : width - width ≡ 0 = omega arith in (rw z, rw (z, pow-zero base))
 
 module _ (base width : ℕ) (ds : List ℕ) (some : 1 ≤ base) (few : base ^ width ≤ 256) (small : all_below base ds ≡ true) where
-  in_byte : (i : ℕ) → i ≤ width → digits base i ds < 256
-  in_byte i h = let b = digits_below base some i ds small in let p = pow-le-pow_right some h in omega arith
+  power_low : (k : ℕ) → k ≤ width → base ^ k ≤ 256
+  power_low k h = let p = pow-le-pow_right some h in omega arith
 
-  pub next_byte : (i x : ℕ) → i < width → x ≡ digits base i ds → x * base + get_or ds i 0 < 256
-  next_byte i x h e = rw (digits_more base ds i x (get_or ds i 0) e refl) (in_byte (i + 1) (omega arith))
+  in_byte : (k j : ℕ) → k ≤ width → digits base k (drop j ds) < 256
+  in_byte k j h = let b = digits_below base some k (drop j ds) (below_drop base j ds small) in let p = power_low k h in omega arith
 
-  pub all_digits : (i x : ℕ) → i ≡ width → x ≡ digits base i ds → (x ≡ digits base width ds) × (x < 256)
-  all_digits i x h e = (rw h at e, rw e (in_byte i (omega arith)))
+  module _ (i x place d : ℕ) (h : 0 < i) (within : i ≤ width) (is : x ≡ digits base (width - i) (drop i ds)) (at : place ≡ base ^ (width - i))
+      (e : d ≡ get_or ds (i - 1) 0) where
+    longer : width - (i - 1) ≡ suc (width - i)
+    longer = omega arith
 
--- ---- a full group
+    sum : x + place * d ≡ digits base (width - (i - 1)) (drop (i - 1) ds)
+    sum =
+        let next : suc (i - 1) ≡ i = omega arith in
+        let b = rw next at (digit_before base (width - i) (i - 1) ds) in
+        let c = mul_comm d (base ^ (width - i)) in
+        rw (longer, b, ← e, is, at) (omega arith)
 
-module _ (w : List ℕ) (a base width : ℕ) (full : Full w a base width) where
-  pub full_entry : (j : ℕ) → j < width → (get_or w (a + j) 0 ≡ get_or (between a (a + width) w) j 0) × (get_or w (a + j) 0 < base)
-  unfolding between
-  full_entry j h =
-      let e = entry a (a + width) w j (omega arith) in
-      let l = length-slice a (a + width) w full.0 in
-      let b = below_all base (between a (a + width) w) full.4 j (omega arith) in
-      (sym e, omega arith)
+    power : place * base ≡ base ^ (width - (i - 1))
+    power = rw (longer, at) (sym (pow-suc base (width - i)))
 
-module _ (w : List ℕ) (a base width b k : ℕ) where
-  pub full_as : base ≡ b → width ≡ k → Full w a base width → Full w a b k
-  full_as p q h = rw (p, q) at h
+    pub digit_more : More base width ds i x place d
+    digit_more = record {
+      sum = sum;
+      power = power;
+      fits = rw sum (in_byte (width - (i - 1)) (i - 1) (omega arith));
+      low = rw power (power_low (width - (i - 1)) (omega arith));
+    }
 
-  pub value_as : (x : ℕ) → base ≡ b → width ≡ k → (x ≡ digits b k (between a (a + k) w)) × (x < 256)
-      → (x ≡ digits base width (between a (a + width) w)) × (x < 256)
-  value_as x p q h = rw (p, q) h
-
-pub eight_bits : (ds : List ℕ)
-    → 128 * get_or ds 0 0 + 64 * get_or ds 1 0 + 32 * get_or ds 2 0 + 16 * get_or ds 3 0 + 8 * get_or ds 4 0 + 4 * get_or ds 5 0 + 2 * get_or ds 6 0 + get_or ds 7 0
-    ≡ digits 2 8 ds
-unfolding digits_from
-eight_bits ds =
-    let a = from_more 2 0 0 ds in
-    let b = from_more 2 0 1 ds in
-    let c = from_more 2 0 2 ds in
-    let d = from_more 2 0 3 ds in
-    let e = from_more 2 0 4 ds in
-    let f = from_more 2 0 5 ds in
-    let g = from_more 2 0 6 ds in
-    let h = from_more 2 0 7 ds in
-    omega arith
-
-pub five_digits : (ds : List ℕ) → 81 * get_or ds 0 0 + 27 * get_or ds 1 0 + 9 * get_or ds 2 0 + 3 * get_or ds 3 0 + get_or ds 4 0 ≡ digits 3 5 ds
-unfolding digits_from
-five_digits ds =
-    let a = from_more 3 0 0 ds in
-    let b = from_more 3 0 1 ds in
-    let c = from_more 3 0 2 ds in
-    let d = from_more 3 0 3 ds in
-    let e = from_more 3 0 4 ds in
-    omega arith
+  pub all_digits : (i x : ℕ) → i ≡ 0 → x ≡ digits base (width - i) (drop i ds) → (x ≡ digits base width ds) × (x < 256)
+  all_digits i x h e = let all : width - i ≡ width = omega arith in (e ∙ rw (all, h), rw e (in_byte (width - i) i (omega arith)))

@@ -2,7 +2,6 @@
 --
 --   Entry n w i x        x is the code of the letter at position i: one more than its digit, which is small
 --   entry                the entries of the word are such
---   two_small, four_small   the codes of two letters, and of four, are at most 4
 --   four_is, two_is      the byte of four letters, and of the last two
 --   full_more            one byte more
 --   payload_even, payload_odd   the full bytes are the payload, or the last two letters follow
@@ -80,51 +79,28 @@ two_digits (a ∷ b ∷ []) h = omega arith
 two_digits (a ∷ b ∷ c ∷ xs) h = absurd (omega arith)
 
 module _ (n : ℕ) (w : List ℕ) (room : 16 * n ≤ length w) (coded : Coded n w) (i : ℕ) where
-  -- the entry j places on, from position i on
-  from : (j k : ℕ) → k ≡ LETTERS * n + (i + j) → i + j < n → (get_or w k 0 ≡ suc (get_or (digits_at i n w) j 0)) × (get_or w k 0 ≤ 4)
+  from : (j k : ℕ) → k ≡ i + j → get_or (digits_at i n w) j 0 ≡ get_or (digits_at 0 n w) k 0
   unfolding digits_at
-  from j k q h =
-      let e = entry n w room coded (i + j) h in
-      rw q (e.0 ∙ ap suc (sym (get_or-drop i (map letter_digit (letters_in n w)) j 0)), e.1)
+  from j k q = rw q (get_or-drop i (map letter_digit (letters_in n w)) j 0)
 
   left : length (digits_at i n w) ≡ n - i
   unfolding digits_at
   left = length-drop i (map letter_digit (letters_in n w)) ∙ ap (λ (k : ℕ). k - i) (length_ds n w room coded)
 
-  abbrev at : ℕ
-  at = LETTERS * n + i
+  abbrev at : ℕ → ℕ
+  at k = get_or (digits_at 0 n w) k 0
 
-  pub two_small : i + 2 ≤ n → (get_or w at 0 ≤ 4) × (get_or w (at + 1) 0 ≤ 4)
-  two_small h = ((from 0 at (omega arith) (omega arith)).1, (from 1 (at + 1) (omega arith) (omega arith)).1)
-
-  pub four_small : i + 4 ≤ n → (get_or w at 0 ≤ 4) × (get_or w (at + 1) 0 ≤ 4) × (get_or w (at + 2) 0 ≤ 4) × (get_or w (at + 3) 0 ≤ 4)
-  four_small h =
-      let (a, b) = two_small (omega arith) in
-      (a, b, (from 2 (at + 2) (omega arith) (omega arith)).1, (from 3 (at + 3) (omega arith) (omega arith)).1)
-
-  abbrev sum : ℕ
-  sum = 64 * get_or w at 0 + 16 * get_or w (at + 1) 0 + 4 * get_or w (at + 2) 0 + get_or w (at + 3) 0
-
-  pub four_is : i + 4 ≤ n → (85 ≤ sum) × (sum ≤ 340) × (sum - 85 ≡ digits 4 4 (digits_at i n w))
+  pub four_is : i + 4 ≤ n → 64 * at i + 16 * at (i + 1) + 4 * at (i + 2) + at (i + 3) ≡ digits 4 4 (digits_at i n w)
   four_is h =
-      let (a, p) = from 0 at (omega arith) (omega arith) in
-      let (b, q) = from 1 (at + 1) (omega arith) (omega arith) in
-      let (c, r) = from 2 (at + 2) (omega arith) (omega arith) in
-      let (d, s) = from 3 (at + 3) (omega arith) (omega arith) in
       let l = left in
       let e = four_digits (digits_at i n w) (omega arith) in
-      (omega arith, omega arith, omega arith)
+      let a = from 0 i (omega arith) in let b = from 1 (i + 1) refl in let c = from 2 (i + 2) refl in let d = from 3 (i + 3) refl in omega arith
 
-  abbrev sum_two : ℕ
-  sum_two = 64 * get_or w at 0 + 16 * get_or w (at + 1) 0
-
-  pub two_is : i + 2 ≡ n → (80 ≤ sum_two) × (sum_two ≤ 320) × (sum_two - 80 ≡ digits 4 4 (digits_at i n w))
+  pub two_is : i + 2 ≡ n → 64 * at i + 16 * at (i + 1) ≡ digits 4 4 (digits_at i n w)
   two_is h =
-      let (a, p) = from 0 at (omega arith) (omega arith) in
-      let (b, q) = from 1 (at + 1) (omega arith) (omega arith) in
       let l = left in
       let e = two_digits (digits_at i n w) (omega arith) in
-      (omega arith, omega arith, omega arith)
+      let a = from 0 i (omega arith) in let b = from 1 (i + 1) refl in omega arith
 
 -- ---- the payload
 

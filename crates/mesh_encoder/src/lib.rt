@@ -9,7 +9,7 @@ ghost use Rattle.mesh_encoder.specs.Encoded.{CodesOf};
 ghost use Rattle.mesh_encoder.specs.Passes.{Put};
 
 // How many bits and digits there are.
-#[derive(Drop)]
+#[derive(Clone, Copy)]
 pub struct Sizes {
     pub bits: usize,
     pub digits: usize,
@@ -20,22 +20,20 @@ fn put_code(w: &mut [u16], n: usize, t: u16, s: Sizes) -> Sizes
     requires { (n ≤ 8192) × (16 * n ≤ length w.old) × (s.bits + 2 ≤ n) × (s.digits + 1 ≤ n) × (1 ≤ t) }
     ensures { Put n t s w.old result w.new }
 {
-    let bits = s.bits;
-    let digits = s.digits;
-    let b = work::BITS * n + bits;
+    let b = work::BITS * n + s.bits;
     if t < 3 {
         w[b] = 0;
         w[b + 1] = t - 1;
         return Sizes {
-            bits: bits + 2,
-            digits,
+            bits: s.bits + 2,
+            ..s
         };
     }
     w[b] = 1;
-    w[work::LABELS * n + digits] = t - 3;
+    w[work::LABELS * n + s.digits] = t - 3;
     Sizes {
-        bits: bits + 1,
-        digits: digits + 1,
+        bits: s.bits + 1,
+        digits: s.digits + 1,
     }
 }
 
@@ -45,11 +43,9 @@ pub fn codes(w: &mut [u16], n: usize, count: usize) -> Sizes
     ensures { CodesOf n (region (TYPES * n) count w.old) w.old result w.new }
 {
     let mut s = Sizes { bits: 0, digits: 0 };
-    let mut i = 0;
-    while i < count {
+    for i in 0..count {
         let t = w[work::TYPES * n + i];
         s = put_code(w, n, t, s);
-        i += 1;
     }
     s
 }

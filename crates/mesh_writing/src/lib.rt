@@ -27,11 +27,9 @@ fn put_payload(bytes: &[u8], w: &[u16], n: usize, s: Sizes, out: &mut [u8], at: 
     requires { (length bytes.now ≡ 243) × Ready n s w.now × (at ≤ 2 ^ 16) × (at + payload_size s ≤ length out.old) }
     ensures { out.new ≡ placed at (tabled_payload bytes.now n s w.now) out.old }
 {
-    let bits = s.bits;
-    let digits = s.digits;
-    mesh_packer::put_payload(w, n, bits, digits, out, at);
-    let before = packer::groups(bits, 8);
-    let count = packer::groups(digits, 5);
+    mesh_packer::put_payload(w, n, s, out, at);
+    let before = packer::groups(s.bits, 8);
+    let count = packer::groups(s.digits, 5);
     group_bytes::apply(bytes, out, at + before, count);
 }
 

@@ -1,32 +1,23 @@
 -- What stands before a payload. Assumes nothing.
 --
---   two_bytes          two stores put a number in two bytes
 --   fields_placed      three numbers, one after the other
 --   head_stores, head_plain   the outside behind them, in a kind that stores it; nothing in another
 --   head-stores-length the head of such a kind has eight bytes
 --   head_payload       head and payload are a record, at the front of the output
-use Prim.Native.Nat.{ℕ, ◌+◌, ◌/◌, ◌%◌, ◌≤◌}
+use Prim.Native.Nat.{ℕ, ◌+◌, ◌≤◌}
 use native.Mathlib.Omega.{arith}
-use native.Mathlib.Numerals.{add-one}
 use mathlib.Core.Path.{◌≡◌, sym, ◌∙◌}
 use mathlib.Core.Bool.{true, false}
-use mathlib.Core.List.{List, [], ◌++◌}
-use lib.ListN.{length, set, length-set, length-append}
+use mathlib.Core.List.{List, ◌++◌}
+use lib.ListN.{length, length-append}
 use Rattle.model.specs.Map.{stores_outside}
 use Rattle.model.specs.Record.{le16, head_length, headed}
 use Rattle.model.specs.Calls.{front}
 use Rattle.packing.specs.Payload.{extra_bytes}
 use Rattle.packing.proofs.Headed.{extra_length}
 use Rattle.work.specs.Area.{placed}
-use Rattle.work.proofs.Regions.{placed_none, placed_cons, placed_next, front_placed}
+use Rattle.work.proofs.Regions.{placed_next, front_placed}
 use Rattle.packer.specs.Packed.{Headed}
-
-pub two_bytes : (at x : ℕ) (out : List ℕ) → at + 2 ≤ length out → set (set out at (x % 256)) (at + 1) (x / 256 % 256) ≡ placed at (le16 x) out
-unfolding le16
-two_bytes at x out h =
-    let l = length-set out at (x % 256) in
-    rw (placed_cons at (x % 256) _ out (omega arith), ← add-one at)
-    (sym (placed_cons (at + 1) (x / 256 % 256) [] (set out at (x % 256)) (omega arith) ∙ placed_none _ _))
 
 pub fields_placed : (l k m : ℕ) (out out₁ out₂ out₃ : List ℕ) → 6 ≤ length out
     → out₁ ≡ placed 0 (le16 l) out → out₂ ≡ placed 2 (le16 k) out₁ → out₃ ≡ placed 4 (le16 m) out₂ → out₃ ≡ placed 0 (le16 l ++ (le16 k ++ le16 m)) out

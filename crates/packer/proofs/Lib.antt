@@ -1,2 +1,2 @@
 pub mod Heads
-mod Parts
+pub mod Parts

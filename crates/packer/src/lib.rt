@@ -3,7 +3,7 @@
 // The head of a record, and its payload from the tree bits and labels in the work area. It knows where groups of digits go, not how they are packed.
 ghost use Rattle.std.specs.Prelude.{◌≡◌, true, ◌++◌, ◌+◌, ◌*◌, ◌^◌, ◌≤◌, length};
 ghost use Rattle.model.specs.Numbers.{all_below};
-ghost use Rattle.model.specs.Record.{le16, head_length, label_base, bytes_for};
+ghost use Rattle.model.specs.Record.{le16, pack, head_length, label_base, bytes_for};
 ghost use Rattle.packing.specs.Payload.{has_labels, value_payload};
 ghost use Rattle.work.specs.Area.{placed};
 ghost use Rattle.work.specs.Letters.{work_bits, work_labels};
@@ -14,8 +14,7 @@ fn put16(out: &mut [u8], at: usize, x: u16)
     requires { (at + 2 ≤ length out.old) × (at ≤ 2 ^ 20) }
     ensures { out.new ≡ placed at (le16 x) out.old }
 {
-    out[at] = (x % 256) as u8;
-    out[at + 1] = (x / 256 % 256) as u8;
+    out[at..at + 2].copy_from_slice(&x.to_le_bytes());
 }
 
 // How many groups of this width hold n digits.
@@ -60,7 +59,20 @@ fn put_plain(w: &[u16], m: usize, out: &mut [u8], at: usize)
     let bits = work::BITS * n;
     let labels = work::LABELS * n;
     let count = groups(3 * m, 8);
-    grouping::put_groups(w, bits, labels + m, 2, 8, out, at, count);
+    grouping::put_groups::<2, 8>(&w[bits..labels + m], &mut out[at..at + count]);
+}
+
+// Bits in whole bytes, then digits to the base 3 in groups of five; they fill the output.
+pub fn put_parts(bits: &[u16], digits: &[u16], out: &mut [u8])
+    requires { (length bits.now ≤ 2 ^ 14) × (length digits.now ≤ 2 ^ 14)
+        × (length out.old ≡ bytes_for (length bits.now) 8 + bytes_for (length digits.now) 5)
+        × (all_below 2 bits.now ≡ true) × (all_below 3 digits.now ≡ true) }
+    ensures { out.new ≡ pack 2 8 (bytes_for (length bits.now) 8) bits.now
+        ++ pack 3 5 (bytes_for (length digits.now) 5) digits.now }
+{
+    let (front, behind) = out.split_at_mut(groups(bits.len(), 8));
+    grouping::put_groups::<2, 8>(bits, front);
+    grouping::put_groups::<3, 5>(digits, behind);
 }
 
 // The payload of family 2, from place at on: tree bits, then labels in groups of five.
@@ -73,10 +85,12 @@ fn put_starred(w: &[u16], m: usize, out: &mut [u8], at: usize)
     let n = 2 * m;
     let bits = work::BITS * n;
     let labels = work::LABELS * n;
-    let bytes = groups(n, 8);
-    let count = groups(m, 5);
-    grouping::put_groups(w, bits, bits + n, 2, 8, out, at, bytes);
-    grouping::put_groups(w, labels, labels + m, 3, 5, out, at + bytes, count);
+    let size = groups(n, 8) + groups(m, 5);
+    put_parts(
+        &w[bits..bits + n],
+        &w[labels..labels + m],
+        &mut out[at..at + size],
+    );
 }
 
 // The payload of a record of this family, 1 or 2, from place at on.
