@@ -115,7 +115,7 @@ fn descend(
         return None;
     }
     let label = c.label(payload, family, m, w);
-    // each branch reads the bit by itself: read once here, it makes the loop of reading 8% slower
+    // each branch reads the bit by itself: read once here, it makes the loop of reading 6% slower or more
     if label.value == work::STAR {
         let state = leaf(w, m, s, e);
         let bit = label.cursor.bit(); // its saved label
