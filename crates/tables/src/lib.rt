@@ -35,16 +35,16 @@ fn no_table(refusal: &mut u16) -> Table
 pub fn load(bytes: &[u8], refusal: &mut u16) -> Table
     ensures { Loads bytes.now result refusal.new }
 {
-    let Ok(own) = <[u8; 243]>::try_from(bytes) else {
+    let Ok(own) = <&[u8; 243]>::try_from(bytes) else {
         return no_table(refusal);
     };
-    let inverse = inverted(&own);
-    if !table_test::leads_all_back(&own, &inverse) {
+    let inverse = inverted(own);
+    if !table_test::leads_all_back(own, &inverse) {
         return no_table(refusal);
     }
     *refusal = 0;
     Table {
-        bytes: own,
+        bytes: *own,
         inverse,
     }
 }
