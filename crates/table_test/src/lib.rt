@@ -2,8 +2,8 @@
 
 // The test that every call runs on the table it is handed: whether loading gives it. It knows bytes and values, and how many bytes stand for no group; it makes
 // no table, and knows no records.
-ghost use Rattle.std.specs.Prelude.{◌≡◌, not, ◌≤◌, cond, eqb, length};
-ghost use Rattle.model.specs.Numbers.{tick, count};
+ghost use Rattle.std.specs.Prelude.{◌≡◌, not, cond, length};
+ghost use Rattle.model.specs.Numbers.{count};
 ghost use Rattle.model.specs.Calls.{table_refused};
 ghost use Rattle.model.specs.Refusals.{number_of};
 ghost use Rattle.table_test.specs.Tested.{is_mark, LeadsBack, Decides};

@@ -36,13 +36,13 @@ pub fn no_table() -> Table
 pub fn load(bytes: &[u8]) -> Result<Table, Refusal>
     ensures { Loads bytes.now (result_unwrap_or result no_table) (number_of result) }
 {
-    let Ok(own) = <[u8; 243]>::try_from(bytes) else {
+    let Ok(own) = <&[u8; 243]>::try_from(bytes) else {
         return Err(Refusal::BadTable);
     };
-    let inverse = inverted(&own);
-    if table_test::leads_all_back(&own, &inverse) {
+    let inverse = inverted(own);
+    if table_test::leads_all_back(own, &inverse) {
         return Ok(Table {
-            bytes: own,
+            bytes: *own,
             inverse,
         });
     }

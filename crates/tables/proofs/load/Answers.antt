@@ -6,7 +6,7 @@ use Rattle.tables.proofs.load.Goals as goal
 use Rattle.tables.proofs.load.Goals.{After-leads_all_back}
 
 -- the table of the bytes and their inverse
-made : (c : After-leads_all_back) → let t : Table = record { bytes = c.in-Ok.own; inverse = c.inverted-inverse.result } in t ≡ loaded c.args.bytes.now
+made : (c : After-leads_all_back) → let t : Table = record { bytes = c.in-Ok.own.now; inverse = c.inverted-inverse.result } in t ≡ loaded c.args.bytes.now
 made c = made_loaded _ _ _ c.in-Ok.ensures.1.same c.inverted-inverse.ensures
 
 pub returns-in_default : goal.returns-in_default
