@@ -1,6 +1,5 @@
--- What one visit answers, for each way that it takes. The opposite of the dart that comes next is told as o.
+-- What one visit answers, for each way that it takes. The walk stands at position k, before the dart whose opposite is o.
 --
---   Met                  the walk stands at position k, before the dart whose opposite is o
 --   over_in, ranges, blank, up_range, end_range, has_waiting   what each step requires
 --   visited_down, visited_first, visited_up, visited_second    what it ensures
 --   unfit_first, unfit_up, unfit_second   the same where the walk ends
@@ -48,25 +47,8 @@ leaf_left family a b q f = eqb-false a b (sym (ap (λ (c : Bool). cond c (eqb a 
 
 -- ---- a visit
 
-pub record Met (family : ℕ) (rot : List ℕ) (k : ℕ) (w : List ℕ) (s : Trace) (o : ℕ) : Type 0 where
-  pub traced : Tracing family rot k w s
-  pub within : k < length rot
-  pub away : 0 < k → s.dart ≢ s.root
-  pub over : o ≡ opposite s.dart
-
-module _ {family : ℕ} {rot : List ℕ} {k : ℕ} {w : List ℕ} {s : Trace} {o : ℕ} (met : Met family rot k w s o) where
-  abbrev g : Tracing family rot k w s
-  g = met.traced
-
-  abbrev here : k < length rot
-  here = met.within
-
-  abbrev on : 0 < k → s.dart ≢ s.root
-  on = met.away
-
-  abbrev is : o ≡ opposite s.dart
-  is = met.over
-
+module _ {family : ℕ} {rot : List ℕ} {k : ℕ} {w : List ℕ} {s : Trace} {o : ℕ} (g : Tracing family rot k w s) (here : k < length rot)
+    (on : 0 < k → s.dart ≢ s.root) (is : o ≡ opposite s.dart) where
   abbrev n : ℕ
   n = length rot
 

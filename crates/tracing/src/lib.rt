@@ -28,6 +28,7 @@ fn leaf_refused(family: u16, order: &[u16], d: usize) -> bool
 }
 
 // The dart that comes next is met, at position i: where the walk stands then, or nothing where the plan does not fit.
+#[tactic(auto, using(crate::proofs::Visits::over_in, crate::proofs::Visits::ranges, crate::proofs::Visits::blank, crate::proofs::Visits::up_range))]
 fn visit(order: &[u16], family: u16, w: &mut [u16], i: usize, s: Trace) -> Option<Trace>
     requires { Tracing family order.now i w.old s × (i < length order.now) × (0 < i → s.dart ≢ s.root) }
     ensures { Stepped family order.now i w.old s result w.new }
@@ -49,7 +50,8 @@ fn visit(order: &[u16], family: u16, w: &mut [u16], i: usize, s: Trace) -> Optio
             Some(trace_steps::go_up(order, family, w, i, o, f as usize, s))
         }
         Mark::First(f) => {
-            if !trace_steps::is_last(w, order.len(), s.waiting, f) {
+            let crossed = !trace_steps::is_last(w, order.len(), s.waiting, f);
+            if crossed {
                 return None;
             }
             Some(trace_steps::go_second(order, family, w, i, f as usize, s))
