@@ -6,7 +6,7 @@ ghost use Rattle.std.specs.Prelude.{◌≡◌, ℕ, ◌*◌, ◌≤◌, ◌<◌,
 ghost use Rattle.model.specs.Map.{vertex_of};
 ghost use Rattle.work.specs.Map.{WAITING};
 ghost use Rattle.work.specs.Area.{stack};
-ghost use Rattle.trace_steps.specs.Steps.{Ground, Circled, Placed, WentDown, first_on, first_area, up_on, up_area, second_on, second_area, last_is};
+ghost use Rattle.trace_steps.specs.Steps.{Says, Ground, Circled, Placed, WentDown, first_on, first_area, up_on, up_area, second_on, second_area, last_is};
 
 // ---- marks
 
@@ -17,6 +17,28 @@ pub const DOWN: u16 = 16384;
 
 pub const FIRST: u16 = 8192;
 
+// What an entry says of its dart: its vertex is not seen; it is seen; or the dart began the edge of this number, to a new vertex or outside the tree.
+#[derive(Clone, Copy)]
+pub enum Mark {
+    Unseen,
+    Seen,
+    Down(u16),
+    First(u16),
+}
+
+impl Mark {
+    pub fn of(entry: u16) -> Mark
+        ensures { Says entry result }
+    {
+        match entry {
+            0 => Mark::Unseen,
+            SEEN.. => Mark::Seen,
+            DOWN.. => Mark::Down(entry - DOWN),
+            _ => Mark::First(entry % FIRST),
+        }
+    }
+}
+
 // Every dart of the vertex of o, none of which has a mark, gets this one.
 pub fn round(order: &[u16], w: &mut [u16], o: usize, mark: u16)
     requires { Ground order.now w.old × (o < length order.now) × (1 ≤ mark)
@@ -24,12 +46,10 @@ pub fn round(order: &[u16], w: &mut [u16], o: usize, mark: u16)
     ensures { Circled order.now o mark w.old w.new }
 {
     let mut x = order[o] as usize;
-    let mut steps: usize = 1;
     while x != o {
         let y = order[x] as usize;
         w[x] = mark;
         x = y;
-        steps += 1;
     }
     w[o] = mark;
 }
@@ -37,7 +57,7 @@ pub fn round(order: &[u16], w: &mut [u16], o: usize, mark: u16)
 // ---- one step
 
 // Where the walk stands: the root, the dart that comes next, how many edges have begun, and how many of those outside the tree wait for their end.
-#[derive(Drop)]
+#[derive(Clone, Copy)]
 pub struct Trace {
     pub root: usize,
     pub dart: usize,
@@ -46,51 +66,44 @@ pub struct Trace {
 }
 
 // Dart d, at position i, goes down to the vertex of its opposite o.
+#[tactic(auto, using(crate::proofs::Grounds::few), unfolding(model::specs::Map::next))]
 pub fn go_down(order: &[u16], family: u16, w: &mut [u16], i: usize, o: usize, s: Trace) -> Trace
     requires { Ground order.now w.old × Placed order.now i s × (o < length order.now)
         × ((z : ℕ) → z < length order.now → vertex_of order.now z ≡ vertex_of order.now o → get_or w.old z 0 ≡ 0) }
     ensures { WentDown order.now family i o s w.old result w.new }
 {
-    let n = order.len();
-    let root = s.root;
-    let d = s.dart;
-    let e = s.edges;
-    let waiting = s.waiting;
-    let next = order[o] as usize;
-    round(order, w, o, SEEN + 1 + e as u16);
-    w[d] = DOWN + e as u16;
-    trace_puts::put_down(w, n, family, i, i + waiting);
+    let dart = order[o] as usize;
+    round(order, w, o, SEEN + 1 + s.edges as u16);
+    w[s.dart] = DOWN + s.edges as u16;
+    trace_puts::put_down(w, order.len(), family, i, i + s.waiting);
     Trace {
-        root,
-        dart: next,
-        edges: e + 1,
-        waiting,
+        dart,
+        edges: s.edges + 1,
+        ..s
     }
 }
 
 // Dart d, at position i, begins an edge outside the tree.
+#[tactic(auto, using(crate::proofs::Grounds::few), unfolding(model::specs::Map::next, crate::specs::Steps::first_area))]
 pub fn go_first(order: &[u16], family: u16, w: &mut [u16], i: usize, s: Trace) -> Trace
     requires { Ground order.now w.old × Placed order.now i s }
     ensures { (result ≡ first_on order.now s) × (w.new ≡ first_area (length order.now) family i s w.old) }
 {
     let n = order.len();
-    let root = s.root;
-    let d = s.dart;
-    let e = s.edges;
-    let waiting = s.waiting;
-    let next = order[d] as usize;
-    w[d] = FIRST + e as u16;
-    w[work::WAITING * n + waiting] = e as u16;
-    trace_puts::put_first(w, n, family, i, i + waiting);
+    let dart = order[s.dart] as usize;
+    w[s.dart] = FIRST + s.edges as u16;
+    w[work::WAITING * n + s.waiting] = s.edges as u16;
+    trace_puts::put_first(w, n, family, i, i + s.waiting);
     Trace {
-        root,
-        dart: next,
-        edges: e + 1,
-        waiting: waiting + 1,
+        dart,
+        edges: s.edges + 1,
+        waiting: s.waiting + 1,
+        ..s
     }
 }
 
 // Dart d, at position i, ends tree edge f; its opposite is o.
+#[tactic(auto, using(crate::proofs::Grounds::few, crate::proofs::Grounds::after_bound, crate::proofs::Grounds::over_bound), unfolding(model::specs::Map::next, crate::specs::Steps::up_area))]
 pub fn go_up(
     order: &[u16],
     family: u16,
@@ -103,51 +116,34 @@ pub fn go_up(
     requires { Ground order.now w.old × Placed order.now i s × (o < length order.now) × (f < length order.now) }
     ensures { (result ≡ up_on order.now o s) × (w.new ≡ up_area order.now family i o f s w.old) }
 {
-    let n = order.len();
-    let root = s.root;
-    let d = s.dart;
-    let edges = s.edges;
-    let waiting = s.waiting;
-    let next = order[o] as usize;
-    let leaf = order[d] as usize == d;
-    let second = trace_puts::second_next(w, next);
-    trace_puts::put_up(w, n, family, i, i + waiting, f, leaf, second);
-    Trace {
-        root,
-        dart: next,
-        edges,
-        waiting,
-    }
+    let dart = order[o] as usize;
+    let leaf = order[s.dart] as usize == s.dart;
+    let second = trace_puts::second_next(w, dart);
+    trace_puts::put_up(w, order.len(), family, i, i + s.waiting, f, leaf, second);
+    Trace { dart, ..s }
 }
 
 // Dart d, at position i, ends edge f, which is the last one open outside the tree.
+#[tactic(auto, using(crate::proofs::Grounds::few, crate::proofs::Grounds::after_bound, crate::proofs::Grounds::over_bound), unfolding(model::specs::Map::next, crate::specs::Steps::second_area))]
 pub fn go_second(order: &[u16], family: u16, w: &mut [u16], i: usize, f: usize, s: Trace) -> Trace
     requires { Ground order.now w.old × Placed order.now i s × (f < length order.now) × (1 ≤ s.waiting) }
     ensures { (result ≡ second_on order.now s) × (w.new ≡ second_area order.now family i f s w.old) }
 {
-    let n = order.len();
-    let root = s.root;
-    let d = s.dart;
-    let edges = s.edges;
-    let waiting = s.waiting;
-    let next = order[d] as usize;
-    let second = trace_puts::second_next(w, next);
-    trace_puts::put_second(w, n, family, i, f, second);
+    let dart = order[s.dart] as usize;
+    let second = trace_puts::second_next(w, dart);
+    trace_puts::put_second(w, order.len(), family, i, f, second);
     Trace {
-        root,
-        dart: next,
-        edges,
-        waiting: waiting - 1,
+        dart,
+        waiting: s.waiting - 1,
+        ..s
     }
 }
 
 // Edge f is the last of those that wait.
+#[tactic(auto, using(crate::proofs::Grounds::last_none, crate::proofs::Grounds::last_top))]
 pub fn is_last(w: &[u16], n: usize, waiting: usize, f: u16) -> bool
     requires { (n ≤ 8192) × (16 * n ≤ length w.now) × (waiting ≤ n) }
     ensures { result ≡ last_is (stack (WAITING * n) waiting w.now) f }
 {
-    if waiting == 0 {
-        return false;
-    }
-    w[work::WAITING * n + (waiting - 1)] == f
+    waiting != 0 && w[work::WAITING * n + (waiting - 1)] == f
 }
