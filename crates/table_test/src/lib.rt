@@ -2,12 +2,13 @@
 
 // The test that every call runs on the table it is handed: whether loading gives it. It knows bytes and values, and how many bytes stand for no group; it makes
 // no table, and knows no records.
-ghost use Rattle.std.specs.Prelude.{◌≡◌, not, ◌≤◌, eqb, length};
+ghost use Rattle.std.specs.Prelude.{◌≡◌, not, ◌≤◌, cond, eqb, length};
 ghost use Rattle.model.specs.Numbers.{tick, count};
 ghost use Rattle.model.specs.Calls.{table_refused};
+ghost use Rattle.model.specs.Refusals.{number_of};
 ghost use Rattle.table_test.specs.Tested.{is_mark, LeadsBack, Decides};
 
-use model::Table;
+use model::{Refusal, Table};
 
 // One more if the entry is the mark of a byte that stands for no group.
 fn one_more(marks: u16, entry: u8) -> u16
@@ -76,4 +77,15 @@ pub fn is_loaded(table: Table) -> bool
         return true;
     }
     is_own_table(table)
+}
+
+// Refusal 19, "a call is handed a table that loading never gives".
+pub fn check(table: &Table) -> Result<(), Refusal>
+    ensures { number_of result ≡ cond (table_refused table.now) 19 0 }
+{
+    if is_loaded(*table) {
+        Ok(())
+    } else {
+        Err(Refusal::BadTable)
+    }
 }
