@@ -18,11 +18,16 @@ use lib.IntN.{ℤ, pos, ◌+ℤ◌, ◌-ℤ◌}
 use lib.ListN.{length}
 use lib.Dec.{eqb}
 use borrow.Author.Tests.{ne_eqb}
+use Rattle.std.specs.Prelude.{Result, Ok, Err}
+use Rattle.model.specs.declared.Refusal.{Refusal}
+use Rattle.model.specs.declared.Refusal.TheVariants.{NotConnected, NotPlanar}
 use Rattle.model.specs.Numbers.{is_least, cycles, first_refusal, is_permutation}
 use Rattle.model.specs.Map.{Plan, darts, edges, next, face_next, vertex_of, vertices, faces, face_lengths, connected, planar, characteristic, is}
 use Rattle.model.specs.Map.{loop_refused, face_refused, degree_refused, dart_count_fits}
+use Rattle.model.specs.Refusals.{number_of_refusal, numbered}
 use Rattle.model.specs.Calls.{late_refusals}
 use Rattle.model.proofs.Booleans.{not_intro}
+use Rattle.model.proofs.Numbered.{numbered_number, refusal_some}
 use Rattle.model.proofs.Fitness.{count_parts}
 use Rattle.orbits.proofs.Tally.{count_le}
 use Rattle.traversal.proofs.Complete.{connected_long, long_connected}
@@ -34,8 +39,6 @@ use Rattle.contour.specs.Steps.{VerticesNamed}
 use Rattle.contour.specs.Walked.{Walked}
 use Rattle.local_checks.specs.Local.{local_refusal}
 use Rattle.fitting.specs.declared.Survey.{Survey}
-use Rattle.fitting.specs.declared.Verdict.{Verdict}
-use Rattle.fitting.specs.declared.Verdict.TheVariants.{Fits, Refused, NotPlanar}
 use Rattle.fitting.specs.Judged.{Surveyed, late_refusal, verdict_of, Judged}
 
 -- ---- the names and the walk
@@ -81,8 +84,8 @@ pub record Looked (k : ℕ) (p : Plan) (w : List ℕ) (s : Survey) (w₁ : List 
   pub survey : Surveyed k p w s w₁
 
 module _ {k : ℕ} {p : Plan} {w : List ℕ} {s : Survey} {w₁ : List ℕ} (a : Looked k p w s w₁) where
-  pub parted : (s.met ≢ darts p) → Judged k p w (Refused 9) w₁
-  unfolding verdict_of late_refusal late_refusals first_refusal
+  pub parted : (s.met ≢ darts p) → Judged k p w (Err NotConnected) w₁
+  unfolding verdict_of late_refusal late_refusals first_refusal numbered
   parted ne =
       let apart : connected p.rotation ≡ false =
       not_intro (connected p.rotation) (λ e. ne (a.survey.all_met ∙ connected_long p a.fits a.low a.entries e)) in
@@ -130,8 +133,8 @@ module _ {k : ℕ} {p : Plan} {w : List ℕ} {s : Survey} {w₁ : List ℕ} {f :
     unfolding characteristic vertices faces edges
     euler = rw (sym a.survey.counted, sym b.named.counted) e
 
-    pub curved : is x 2 ≡ false → Judged k p w (NotPlanar x) w₂
-    unfolding verdict_of late_refusal late_refusals first_refusal planar
+    pub curved : is x 2 ≡ false → Judged k p w (Err (NotPlanar x)) w₂
+    unfolding verdict_of late_refusal late_refusals first_refusal planar numbered
     curved u = let u' = rw euler at u in
         record { answered = rw (joined, u', euler); lengths = λ z. measured; kept = length_kept }
 
@@ -141,13 +144,14 @@ module _ {k : ℕ} {p : Plan} {w : List ℕ} {s : Survey} {w₁ : List ℕ} {f :
       late_local = let u' = rw euler at u in rw (joined, u')
 
       -- what is found of 11, 18 and 12 makes the verdict
-      found : {v : Verdict} → v ≡ verdict_of k p → Judged k p w v w₂
+      found : {v : Result ℕ Refusal} → v ≡ verdict_of k p → Judged k p w v w₂
       found q = record { answered = q; lengths = λ z. measured; kept = length_kept }
 
-      pub flat_refused : {r : ℕ} → r ≡ local_refusal k p → r ≢ 0 → Judged k p w (Refused r) w₂
+      pub flat_refused : {e : Refusal} → number_of_refusal e ≡ local_refusal k p → Judged k p w (Err e) w₂
       unfolding verdict_of
-      flat_refused {r} q ne = found (rw (late_local, sym q, ne_eqb r 0 ne, ap (λ (y : ℕ). eqb y 10) q ∙ not_ten k p))
+      flat_refused {e} q = found (rw (late_local, sym q, ne_eqb (number_of_refusal e) 0 (refusal_some e))
+          (ap Err (sym (numbered_number (characteristic p.rotation) e (ap (λ (y : ℕ). eqb y 10) q ∙ not_ten k p)))))
 
-      pub flat_fits : {r : ℕ} → r ≡ local_refusal k p → r ≡ 0 → Judged k p w (Fits f) w₂
+      pub flat_fits : 0 ≡ local_refusal k p → Judged k p w (Ok f) w₂
       unfolding verdict_of faces
-      flat_fits {r} q z = found (rw (late_local, sym q, z) (ap Fits b.named.counted))
+      flat_fits q = found (rw (late_local, sym q) (ap Ok b.named.counted))

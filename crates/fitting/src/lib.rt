@@ -8,17 +8,10 @@ ghost use Rattle.model.specs.Map.{dart_count_fits};
 ghost use Rattle.fitting.specs.Judged.{Surveyed, Judged};
 
 use dart_steps::{Faces, Vertices};
-
-// What is found: the plan fits the kinds of the family, and has so many faces; a refusal other than 10; refusal 10 with the characteristic.
-#[derive(Drop)]
-pub enum Verdict {
-    Fits(usize),
-    Refused(u16),
-    NotPlanar(i32),
-}
+use model::Refusal;
 
 // How many vertices there are, whether some edge is a loop that the family does not take, and how many darts the walk meets.
-#[derive(Drop)]
+#[derive(Clone, Copy)]
 struct Survey {
     vertices: usize,
     looped: bool,
@@ -42,26 +35,22 @@ fn surveyed(order: &[u16], root: usize, family: u16, w: &mut [u16]) -> Survey
     }
 }
 
-// Refusals 9 to 12 and 18; the lengths of the faces of a plan that fits stand at LENGTHS.
-pub fn judge(order: &[u16], root: usize, family: u16, w: &mut [u16]) -> Verdict
+// How many faces a plan that fits has, with their lengths at LENGTHS; of another, the first of refusals 9 to 12 and 18.
+pub fn judge(order: &[u16], root: usize, family: u16, w: &mut [u16]) -> Result<usize, Refusal>
     requires { (dart_count_fits (length order.now) ≡ true) × (is_permutation order.now ≡ true) × (root < length order.now)
         × (16 * length order.now ≤ length w.old) }
     ensures { Judged family (record { rotation = order.now; root = root; outside = 0 }) w.old result w.new }
 {
     let n = order.len();
     let s = surveyed(order, root, family, w);
-    let met = s.met;
-    if met != n {
-        return Verdict::Refused(9);
+    if s.met != n {
+        return Err(Refusal::NotConnected);
     }
     let faces = cycles::name::<Faces>(order, w, work::FACES * n, work::LENGTHS * n);
     let x = characteristic::euler(s.vertices, n / 2, faces);
     if x != 2 {
-        return Verdict::NotPlanar(x);
+        return Err(Refusal::NotPlanar(x));
     }
-    let r = local_checks::local(order, root, family, s.looped);
-    if r != 0 {
-        return Verdict::Refused(r);
-    }
-    Verdict::Fits(faces)
+    local_checks::local(order, root, family, s.looped)?;
+    Ok(faces)
 }

@@ -5,26 +5,25 @@
 ghost use Rattle.std.specs.Prelude.{◌≡◌, true, ◌<◌, length};
 ghost use Rattle.model.specs.Numbers.{is_permutation};
 ghost use Rattle.model.specs.Map.{dart_count_fits, loop_refused};
+ghost use Rattle.model.specs.Refusals.{number_of};
 ghost use Rattle.local_checks.specs.Local.{local_refusal};
 
-// The first of 11, 18 and 12 that concerns the plan; 0 if none does.
-pub fn local(order: &[u16], root: usize, family: u16, looped: bool) -> u16
+use model::Refusal;
+
+// The first of 11, 18 and 12 that concerns the plan.
+#[tactic(auto, unfolding(crate::specs::Local::local_refusal, model::specs::Map::face_refused, model::specs::Map::degree_refused))]
+pub fn local(order: &[u16], root: usize, family: u16, looped: bool) -> Result<(), Refusal>
     requires { (dart_count_fits (length order.now) ≡ true) × (is_permutation order.now ≡ true) × (root < length order.now) × (looped ≡ loop_refused family order.now) }
-    ensures { result ≡ local_refusal family (record { rotation = order.now; root = root; outside = 0 }) }
+    ensures { number_of result ≡ local_refusal family (record { rotation = order.now; root = root; outside = 0 }) }
 {
     if looped {
-        return 11;
+        return Err(Refusal::HasLoop);
     }
-    if family == 3 {
-        if triangles::has_other_face(order) {
-            return 18;
-        }
-        return 0;
+    if family == 3 && triangles::has_other_face(order) {
+        return Err(Refusal::NotTriangles);
     }
-    if family == 1 {
-        if dead_ends::has_dead_end(order, root) {
-            return 12;
-        }
+    if family == 1 && dead_ends::has_dead_end(order, root) {
+        return Err(Refusal::HasDegreeOne);
     }
-    0
+    Ok(())
 }

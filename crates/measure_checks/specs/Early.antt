@@ -3,9 +3,9 @@
 --   early_refusal         the first of 3, 6, 7 that concerns the call; 0 if none does
 --   Lengths              a work area of n darts that has room for so many faces' lengths
 --   Copied               8 if the list is too short; else it begins with these lengths
-use Rattle.std.specs.Prelude.{ℕ, ◌*◌, ◌≤◌, ◌≡◌, not, cond, List, [], ◌∷◌, ltb, length}
-use Rattle.model.specs.declared.Measured.{Measured}
-use Rattle.model.specs.declared.Measured.TheVariants.{Count, Refused}
+use Rattle.std.specs.Prelude.{ℕ, ◌*◌, ◌≤◌, ◌≡◌, not, cond, List, [], ◌∷◌, ltb, length, Result, Ok, Err}
+use Rattle.model.specs.declared.Refusal.{Refusal}
+use Rattle.model.specs.declared.Refusal.TheVariants.{ShortOutput}
 use Rattle.model.specs.Numbers.{first_refusal, refuse, is_permutation}
 use Rattle.model.specs.Map.{edges, dart_count_fits}
 use Rattle.model.specs.Calls.{front}
@@ -24,6 +24,6 @@ pub record Lengths (n count : ℕ) (w : List ℕ) : Type 0 where
   pub small : n ≤ 8192
   pub room : 16 * n ≤ length w
 
-pub record Copied (n count : ℕ) (w list : List ℕ) (answer : Measured) (list' : List ℕ) : Type 0 where
-  pub answered : answer ≡ cond (ltb (length list) count) (Refused 8) (Count count)
+pub record Copied (n count : ℕ) (w list : List ℕ) (answer : Result ℕ Refusal) (list' : List ℕ) : Type 0 where
+  pub answered : answer ≡ cond (ltb (length list) count) (Err ShortOutput) (Ok count)
   pub filled : list' ≡ cond (ltb (length list) count) list (front (region (LENGTHS * n) count w) list)

@@ -9,7 +9,7 @@ use mathlib.Core.Bool.{not, cond}
 use mathlib.Core.List.{List, [], ◌∷◌, ◌++◌}
 use lib.Dec.{eqb, ltb}
 use lib.ListN.{length}
-use Rattle.model.specs.Numbers.{Refusal, refuse, first_refusal}
+use Rattle.model.specs.Numbers.{Check, refuse, first_refusal}
 use Rattle.model.specs.Map.{Plan, face_lengths, connected, planar, loop_refused, face_refused, degree_refused}
 use Rattle.model.specs.Calls.{late_refusals, measure_refusal}
 use Rattle.model.proofs.Refusals.{first_append}
@@ -22,7 +22,7 @@ abbrev pub rooted : List ℕ → Plan
 rooted rot = record { rotation = rot; root = 0; outside = 0 }
 
 module _ (rot : List ℕ) where
-  abbrev plan_refusals : List Refusal
+  abbrev plan_refusals : List Check
   plan_refusals = refuse 9 (not (connected rot)) ∷ refuse 10 (not (planar rot)) ∷ []
 
   -- 11 and 12 never concern kind 4
@@ -37,7 +37,7 @@ module _ (rot : List ℕ) where
       ≡ cond (eqb (early_refusal rot wl) 0) (cond (eqb (late_refusal 4 (rooted rot)) 0) (eight_if ll) (late_refusal 4 (rooted rot))) (early_refusal rot wl)
   unfolding measure_refusal early_refusal
   refusal_split wl ll =
-      let last : List Refusal = refuse 8 (ltb ll (length (face_lengths rot))) ∷ [] in
+      let last : List Check = refuse 8 (ltb ll (length (face_lengths rot))) ∷ [] in
       first_append (early_refusals rot wl) (plan_refusals ++ last) refl
       ∙ ap (λ (r : ℕ). cond (eqb (first_refusal (early_refusals rot wl)) 0) r (first_refusal (early_refusals rot wl)))
       (first_append plan_refusals last refl ∙ ap (λ (r : ℕ). cond (eqb r 0) (eight_if ll) r) (sym four))

@@ -4,27 +4,19 @@
 ghost use Rattle.model.specs.Calls.{Measures};
 ghost use Rattle.measuring.specs.Made.{Made};
 
-use fitting::Verdict;
-use model::Measured;
+use model::Refusal;
 
 // The answer and the list, before the work area is cleared. Kind 4 takes any connected planar plan, from any root.
-fn made(order: &[u16], w: &mut [u16], list: &mut [u16]) -> Measured
+fn made(order: &[u16], w: &mut [u16], list: &mut [u16]) -> Result<u16, Refusal>
     ensures { Made order.now w.old list.old result w.new list.new }
 {
-    let r = measure_checks::early(order, w.len());
-    if r != 0 {
-        return Measured::Refused(r);
-    }
-    let v = fitting::judge(order, 0, 4, w);
-    match v {
-        Verdict::Refused(x) => Measured::Refused(x),
-        Verdict::NotPlanar(x) => Measured::NotPlanar(x),
-        Verdict::Fits(faces) => measure_checks::copied(w, order.len(), faces, list),
-    }
+    measure_checks::early(order, w.len())?;
+    let faces = fitting::judge(order, 0, 4, w)?;
+    measure_checks::copied(w, order.len(), faces, list)
 }
 
 // How many darts each face of a plan has. Any content and any length of what is lent.
-pub fn measure(order: &[u16], work: &mut [u16], list: &mut [u16]) -> Measured
+pub fn measure(order: &[u16], work: &mut [u16], list: &mut [u16]) -> Result<u16, Refusal>
     ensures { Measures order.now work.old list.old result work.new list.new }
 {
     let r = made(order, work, list);

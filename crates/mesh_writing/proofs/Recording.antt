@@ -12,7 +12,9 @@ use mathlib.Core.List.{List}
 use lib.Dec.{ltb}
 use lib.ListN.{length}
 use borrow.Author.Tests.{lt-ltb, le-ltb}
+use Rattle.std.specs.Prelude.{Ok, Err}
 use Rattle.model.specs.declared.Table.{Table}
+use Rattle.model.specs.declared.Refusal.TheVariants.{ShortOutput}
 use Rattle.model.specs.Numbers.{elem}
 use Rattle.model.specs.Map.{Plan, darts, edges, stores_outside, family}
 use Rattle.model.specs.Mesh.{types}
@@ -57,19 +59,19 @@ module _ (p : Plan) (w : List ℕ) (s : Sizes) (w₁ : List ℕ) (t : Typed p w)
         ∙ ap (λ (j : ℕ). 6 + j) (payload_long (darts p) s w₁ ready bs)
 
     module _ (out : List ℕ) (total : ℕ) (e : total ≡ 6 + payload_size s) where
-      pub no_room : length out < total → MeshRecorded bs p w out 0 w₁ out
+      pub no_room : length out < total → MeshRecorded bs p w out (Err ShortOutput) w₁ out
       no_room h =
           let short : (t : Table) → t.bytes ≡ bs → ltb (length out) (length (record_of t 3 p)) ≡ true =
           λ t same. let l = record_long t same in lt-ltb (length out) (length (record_of t 3 p)) (omega arith) in
           record { answered = λ t same. rw (short t same); filled = λ t same. rw (short t same); kept = c.kept }
 
       pub recorded : total ≤ length out → (out₁ : List ℕ) → out₁ ≡ front (headed 3 (darts p / 2) (tabled_payload bs (darts p) s w₁)) out
-          → MeshRecorded bs p w out total w₁ out₁
+          → MeshRecorded bs p w out (Ok total) w₁ out₁
       recorded h out₁ q =
           let long : (t : Table) → t.bytes ≡ bs → ltb (length out) (length (record_of t 3 p)) ≡ false =
           λ t same. let l = record_long t same in le-ltb (length out) (length (record_of t 3 p)) (omega arith) in
           record {
-            answered = λ t same. rw (long t same) (e ∙ sym (record_long t same));
+            answered = λ t same. rw (long t same) (ap Ok (e ∙ sym (record_long t same)));
             filled = λ t same. rw (long t same) (q ∙ ap (λ (xs : List ℕ). front xs out) (sym (record_is t same)));
             kept = c.kept;
           }

@@ -11,6 +11,7 @@ ghost use Rattle.mesh_writing.specs.Laid.{Ready, payload_size, tabled_payload};
 ghost use Rattle.mesh_writing.specs.Recorded.{Typed, MeshRecorded};
 
 use mesh_encoder::Sizes;
+use model::Refusal;
 
 // The bits and digits of the types, in the work area.
 fn coded(order: &[u16], root: u16, w: &mut [u16]) -> Sizes
@@ -43,9 +44,15 @@ fn laid_out(bytes: &[u8], w: &[u16], n: usize, s: Sizes, total: u16, out: &mut [
     put_payload(bytes, w, n, s, out, at);
 }
 
-// The record of a mesh whose types stand in their place, under the table with these bytes: its length; 0 where the output has no room for it, and is left as it
-// was.
-pub fn write(bytes: &[u8], order: &[u16], root: u16, w: &mut [u16], out: &mut [u8]) -> u16
+// The record of a mesh whose types stand in their place, under the table with these bytes: its length; refused where the output has no room for it, and is left as
+// it was.
+pub fn write(
+    bytes: &[u8],
+    order: &[u16],
+    root: u16,
+    w: &mut [u16],
+    out: &mut [u8],
+) -> Result<u16, Refusal>
     requires { (length bytes.now ≡ 243) × Typed (record { rotation = order.now; root = root; outside = 0 }) w.old }
     ensures { MeshRecorded bytes.now (record { rotation = order.now; root = root; outside = 0 })
         w.old out.old result w.new out.new }
@@ -56,8 +63,8 @@ pub fn write(bytes: &[u8], order: &[u16], root: u16, w: &mut [u16], out: &mut [u
     let count = packer::groups(s.digits, 5);
     let total = 6 + before + count;
     if out.len() < total {
-        return 0;
+        return Err(Refusal::ShortOutput);
     }
     laid_out(bytes, w, n, s, total as u16, out);
-    total as u16
+    Ok(total as u16)
 }

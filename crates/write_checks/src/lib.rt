@@ -4,16 +4,16 @@
 ghost use Rattle.std.specs.Prelude.{◌≡◌, ◌≤◌, length, not, ◌&&◌, ltb};
 ghost use Rattle.model.specs.Numbers.{is_permutation};
 ghost use Rattle.model.specs.Map.{stores_outside};
+ghost use Rattle.model.specs.Refusals.{number_of};
 ghost use Rattle.write_checks.specs.Early.{Entries, early_refusal};
+
+use model::Refusal;
 
 // The kind stores the outside, and this is none of n darts.
 fn outside_refused(kind: u16, outside: u16, n: usize) -> bool
     ensures { result ≡ (stores_outside kind && not (ltb outside n)) }
 {
-    if kinds::stores_outside(kind) {
-        return outside as usize >= n;
-    }
-    false
+    kinds::stores_outside(kind) && outside as usize >= n
 }
 
 // The entries are a permutation; of more than 8,192 nothing is said. The test goes by marks in the work area, which are zeros where they are a permutation,
@@ -31,7 +31,8 @@ pub fn entries_good(order: &[u16], w: &mut [u16]) -> bool
     striking::is_permutation_in(order, w)
 }
 
-// The refusals before those of the plan itself: 2, 3, 4, 17, 6, 7, 8. Whether the entries are a permutation is known.
+// The first of the refusals before those of the plan itself: 2, 3, 4, 17, 6, 7, 8. Whether the entries are a permutation is known.
+#[tactic(auto, using(model::proofs::Fitness::count_parts), unfolding(crate::specs::Early::early_refusal, model::specs::Calls::early_refusals, model::specs::Numbers::first_refusal, model::specs::Map::outside_refused, model::specs::Map::edges))]
 pub fn early(
     order: &[u16],
     root: u16,
@@ -40,35 +41,33 @@ pub fn early(
     good: bool,
     room: usize,
     space: usize,
-) -> u16
+) -> Result<(), Refusal>
     requires { length order.now ≤ 8192 → good ≡ is_permutation order.now }
-    ensures { result ≡ early_refusal kind (record { rotation = order.now; root = root; outside = outside }) room space }
+    ensures { number_of result ≡ early_refusal kind (record { rotation = order.now; root = root; outside = outside }) room space }
 {
     if !kinds::is_kind(kind) {
-        return 2;
+        return Err(Refusal::BadKind);
     }
     let n = order.len();
     if !dart_count::dart_count_fits(n) {
-        return 3;
+        return Err(Refusal::BadCount);
     }
     if root as usize >= n {
-        return 4;
+        return Err(Refusal::BadStart);
     }
     if outside_refused(kind, outside, n) {
-        return 17;
+        return Err(Refusal::BadOutside);
     }
     if !good {
-        return 6;
+        return Err(Refusal::BadEntry);
     }
     let m = n / 2;
     if room < 32 * m {
-        return 7;
+        return Err(Refusal::ShortWork);
     }
-    if kind == 3 {
-        return 0; // 8 comes last
+    // in kind 3 it comes last
+    if kind != 3 && space < record_lengths::record_length(kind, m as u16) {
+        return Err(Refusal::ShortOutput);
     }
-    if space < record_lengths::record_length(kind, m as u16) {
-        return 8;
-    }
-    0
+    Ok(())
 }
