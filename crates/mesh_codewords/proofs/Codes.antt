@@ -1,9 +1,9 @@
 -- Codewords read one by one: those that are read and those that are left are those of the specification. Assumes nothing.
 --
---   head_none, head_one, head_last, head_two   the codeword from place c on, by bits; head-below, head-fits   it is below 4, and its bits are there
+--   head_none, head_one, head_last, head_two   the codeword from place c on, by bits; head_below, head_fits   it is below 4, and its bits are there
 --   digits_append, digits_count   the digits of codewords, part by part; one has one or none
 --   head_pair             the codeword from place c on, by two bits
---   reading_start, reading_on   none is read; one more is; reading-from, the area before counts for its length alone
+--   reading_start, reading_on   none is read; one more is
 --   reading_short, reading_end   what is handed back where the bits run out, and after the last codeword
 use Prim.Native.Nat.{ℕ, zero, suc, ◌+◌, ◌*◌, ◌-◌, ◌/◌, ◌≤◌, ◌<◌}
 use native.Mathlib.Nat.{zero-add, add-zero, sub-zero, add_assoc}
@@ -133,9 +133,6 @@ module _ (bs : List ℕ) (n a : ℕ) (w₀ : List ℕ) where
   }
 
   module _ (w : List ℕ) (c l i : ℕ) (x : Reading bs n a w₀ w c l i) where
-    pub reading_from : (w₁ : List ℕ) → length w ≡ length w₁ → Reading bs n a w₁ w c l i
-    reading_from w₁ e = record { some = x.some; fits = x.fits; digits = x.digits; few = x.few; left = x.left; kept = e }
-
     pub reading_on : all_below 2 bs ≡ true → a + n ≤ length w₀ → i < n → (t : ℕ) → code_head (drop c bs) ≡ Some t
         → Reading bs n a w₀ (set w (a + i) t) (c + (2 - t / 3)) (l + t / 3) (i + 1)
     reading_on b room h t q =

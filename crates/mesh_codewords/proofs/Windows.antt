@@ -2,7 +2,7 @@
 --
 --   code_short, code_long   the codeword of two bits; code_digits   it has a digit where the first bit is 1
 --   Among                 codewords are read up to i of those that end before `end`; the eight bytes begin with byte q
---   among_start, among_on   the first of them comes next; one more is read
+--   among_on              one more is read
 --   among_few             the place of the next bit within the bytes
 use Prim.Native.Nat.{ℕ, ◌+◌, ◌-◌, ◌*◌, ◌/◌, ◌%◌, ◌^◌, ◌≤◌, ◌<◌}
 use native.Mathlib.Omega.{arith}
@@ -36,9 +36,6 @@ pub record Among (ps : List ℕ) (n a : ℕ) (w₀ w : List ℕ) (q end c l i : 
   pub from : 8 * q ≤ c
   pub to : c + 2 * (end - i) ≤ 8 * q + 63
   pub within : i ≤ end
-
-pub among_start : (ps : List ℕ) (n a : ℕ) (w₀ w : List ℕ) (c l i : ℕ) → Reading (bits ps) n a w₀ w c l i → Among ps n a w₀ w (c / 8) (i + 28) c l i
-among_start ps n a w₀ w c l i r = record { reading = r; from = omega arith; to = omega arith; within = omega arith }
 
 module _ (ps : List ℕ) (n a : ℕ) (w₀ w : List ℕ) (q end c l i : ℕ) (s : Among ps n a w₀ w q end c l i) (h : i < end) where
   pub among_few : c - 8 * q < 63

@@ -37,8 +37,10 @@ places_below n from xs g same r h = go r h
   where
     j : ℕ
     j = length xs - from
+
     at : (i : ℕ) → i < j → get_or (drop from xs) i 0 ≡ g (get_or (range_with_len from j) i 0)
     at i l = rw (get_or-drop from xs i 0, get_or-range_with_len from j i 0 l) (same (from + i) (omega arith))
+
     go : (r : Bool) → MatchBool r (AllWithin (λ k. g k < n) (range_with_len from j) 0 (length (range_with_len from j)))
         ((i : ℕ) × (i < length (range_with_len from j)) × HoldsAt (λ k. n ≤ g k) (range_with_len from j) i) → r ≡ all_below n (drop from xs)
     go true h =

@@ -13,4 +13,4 @@ returns c =
     let e : length s - a.from ≡ length (values_of i s) - a.from = omega arith in
     places_below 243 a.from (values_of i s) (λ k. get_or i (get_or s k 0) 0) (λ k h. values_at i s k (omega arith)) c.all.result
     (cases_from_all _ _ _ (λ k. get_or i (get_or s k 0) 0 < 243) (λ k. 243 ≤ get_or i (get_or s k 0) 0) c.all.ensures.ran (YieldsList-from_range a.from (length s) _ refl e)
-      (λ x q k. search (rules, tests)) (λ x q k. search (rules, tests)))
+    (λ x q k. search (rules, tests)) (λ x q k. search (rules, tests)))

@@ -45,8 +45,8 @@ loop-i-preserved c =
     let b = get_or-take (length a.payload.now - from) (drop from a.payload.now) at.i 0 (omega arith) ∙ get_or-drop from a.payload.now at.i 0 in
     let v = values_at a.inverse.now a.payload.now (from + at.i) (omega arith) ∙ ap (λ (x : ℕ). get_or a.inverse.now x 0) (sym b) in
     ap (region (LABELS * (2 * a.m)) (5 * (at.i + 1)))
-        (c.put_group.ensures ∙ ap (λ g. grouped (LABELS * (2 * a.m) + 5 * at.i) g at.w) (sym v))
-        ∙ group_on (LABELS * (2 * a.m)) from vs at.w at.i (omega arith) (omega arith) at.invariant
+    (c.put_group.ensures ∙ ap (λ g. grouped (LABELS * (2 * a.m) + 5 * at.i) g at.w) (sym v))
+    ∙ group_on (LABELS * (2 * a.m)) from vs at.w at.i (omega arith) (omega arith) at.invariant
 
 pub returns : goal.returns
 returns c =

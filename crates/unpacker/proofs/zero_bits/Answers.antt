@@ -14,4 +14,4 @@ returns c =
     let e : a.to - a.from ≡ length (take a.to bs) - a.from = omega arith in
     places_below 1 a.from (take a.to bs) (λ k. get_or bs k 0) (λ k h. get_or-take a.to bs k 0 (omega arith)) c.all.result
     (cases_from_all _ _ _ (λ k. get_or bs k 0 < 1) (λ k. 1 ≤ get_or bs k 0) c.all.ensures.ran (YieldsList-from_range a.from a.to _ refl e)
-      (λ x q k. search (rules, tests)) (λ x q k. search (rules, tests)))
+    (λ x q k. search (rules, tests)) (λ x q k. search (rules, tests)))
