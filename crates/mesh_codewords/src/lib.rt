@@ -45,6 +45,7 @@ struct Progress {
 const MANY: usize = 28;
 
 // The codeword that begins with these two bits.
+#[tactic(auto, unfolding(crate::specs::Reading::code_of))]
 fn code_of(pair: u64) -> u16
     requires { pair < 4 }
     ensures { result ≡ code_of pair }
