@@ -29,10 +29,10 @@ impl Cursor {
         requires { self.bits < 2 ^ 32 }
         ensures { (result.bits ≡ self.bits) × (result.labels ≡ self.labels) × Sees (bits payload.now) result 57 }
     {
-        let bits = self.bits;
-        let labels = self.labels;
-        let word = bit_window::from(payload, bits);
-        Cursor { word, bits, labels }
+        Cursor {
+            word: bit_window::from(payload, self.bits),
+            ..self
+        }
     }
 
     // The next tree bit.
@@ -40,17 +40,13 @@ impl Cursor {
         requires { self.bits < 2 ^ 32 }
         ensures { result ≡ next_bit self }
     {
-        let word = self.word;
-        let bits = self.bits;
-        let labels = self.labels;
-        let cursor = Cursor {
-            word: word << 1,
-            bits: bits + 1,
-            labels,
-        };
         Next {
-            value: (word >> 63) as u16,
-            cursor,
+            value: (self.word >> 63) as u16,
+            cursor: Cursor {
+                word: self.word << 1,
+                bits: self.bits + 1,
+                ..self
+            },
         }
     }
 
@@ -59,15 +55,12 @@ impl Cursor {
         requires { (has_labels family ≡ true) × Sized family m payload.now × (32 * m ≤ length w.now) × (self.labels < m) }
         ensures { result ≡ next_label (labels_in family m payload.now w.now) self }
     {
-        let word = self.word;
-        let bits = self.bits;
-        let labels = self.labels;
-        let value = unpacker::label_at(payload, family, m, w, labels);
-        let cursor = Cursor {
-            word,
-            bits,
-            labels: labels + 1,
-        };
-        Next { value, cursor }
+        Next {
+            value: unpacker::label_at(payload, family, m, w, self.labels),
+            cursor: Cursor {
+                labels: self.labels + 1,
+                ..self
+            },
+        }
     }
 }

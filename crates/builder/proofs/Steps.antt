@@ -1,26 +1,25 @@
 -- One letter: what its function writes, and what it makes of the rotation that comes out. Assumes nothing.
 --
---   tree_top, below_top, open_top, begun_top   the edges opened last, and the vertices that are left by the one and where the other began, in the work area
---   tree_small, open_small   they are edges
+--   top_small             the last entry of a stack is as small as all are
 --   entering, rising, backing, closing   the four letters: what is written is the step
 --   stepped_stands        after a letter numbers and stacks are in range
 --   stepped_built         what comes out then is what came out with the letter before
-use Prim.Native.Nat.{ℕ, ◌+◌, ◌-◌, ◌*◌, ◌≤◌, ◌<◌}
+use Prim.Native.Nat.{ℕ, zero, suc, ◌+◌, ◌-◌, ◌*◌, ◌≤◌, ◌<◌}
 use native.Mathlib.Nat.{lt_of_not-le}
 use native.Mathlib.Decide.{dec_le}
 use native.Mathlib.Numerals.{add-one}
 use native.Mathlib.Omega.{arith}
-use mathlib.Core.Path.{◌≡◌, refl, sym, ap, subst, ◌∙◌}
+use mathlib.Core.Path.{◌≡◌, refl, sym, ap, ◌∙◌}
 use mathlib.Core.Bool.{true}
 use mathlib.Core.List.{List, [], ◌∷◌}
-use lib.ListN.{get_or, set, length-set}
+use lib.ListN.{set, length-set}
 use Rattle.model.specs.Numbers.{all_below}
 use Rattle.model.specs.Traversal.{Letter, down, up, first, second}
 use Rattle.model.proofs.Below.{below_cons, below_head, below_tail}
 use Rattle.model.proofs.Opposite.{opposite_even, opposite_odd}
 use Rattle.words.specs.Word.{head, tail, word_darts, place_of}
 use Rattle.work.specs.Map.{LABELS, BELOW, TREES, BEGUN, OPENS}
-use Rattle.work.specs.Area.{region}
+use Rattle.work.specs.Area.{region, stack}
 use Rattle.work.proofs.Regions.{region_set_other}
 use Rattle.builder.specs.declared.State.{State}
 use Rattle.builder.specs.Steps.{Parts, parts_of, parts_at, state_after, parts_after, edge_of, begun_after, outcome, outcome_at, Standing, Room, Stepped}
@@ -29,24 +28,10 @@ use Rattle.builder.proofs.Parts.{entered, pushed_tree, pushed_open, region_besid
 
 -- ---- the edges opened last
 
-module _ (m : ℕ) (w : List ℕ) (s : State) where
-  pub tree_top : 0 < s.depth → get_or w (TREES * (2 * m) + (s.depth - 1)) 0 ≡ head (parts_at m w s).trees
-  tree_top h = ap (λ (p : Parts). head p.trees) (sym (tree_popped m w s.depth s.opens h))
-
-  pub below_top : 0 < s.depth → get_or w (BELOW * (2 * m) + (s.depth - 1)) 0 ≡ head (parts_at m w s).below
-  below_top h = ap (λ (p : Parts). head p.below) (sym (tree_popped m w s.depth s.opens h))
-
-  pub open_top : 0 < s.opens → get_or w (OPENS * (2 * m) + (s.opens - 1)) 0 ≡ head (parts_at m w s).opens
-  open_top h = ap (λ (p : Parts). head p.opens) (sym (open_popped m w s.depth s.opens h))
-
-  pub begun_top : 0 < s.opens → get_or w (BEGUN * (2 * m) + (s.opens - 1)) 0 ≡ head (parts_at m w s).begun
-  begun_top h = ap (λ (p : Parts). head p.begun) (sym (open_popped m w s.depth s.opens h))
-
-  pub tree_small : 0 < s.depth → all_below m (parts_at m w s).trees ≡ true → get_or w (TREES * (2 * m) + (s.depth - 1)) 0 < m
-  tree_small h e = below_head m _ _ (subst (λ (p : Parts). all_below m p.trees ≡ true) (tree_popped m w s.depth s.opens h) e)
-
-  pub open_small : 0 < s.opens → all_below m (parts_at m w s).opens ≡ true → get_or w (OPENS * (2 * m) + (s.opens - 1)) 0 < m
-  open_small h e = below_head m _ _ (subst (λ (p : Parts). all_below m p.opens ≡ true) (open_popped m w s.depth s.opens h) e)
+pub top_small : (m a k : ℕ) (w : List ℕ) → 0 < k → all_below m (stack a k w) ≡ true → head (stack a k w) < m
+unfolding stack
+top_small m a zero w h e = absurd (omega arith)
+top_small m a (suc k) w h e = below_head m _ _ e
 
 -- ---- what is written
 

@@ -5,7 +5,7 @@
 --   letters_next          the letters from that pair on: the pair and the others
 --   clean_even, clean_odd   for even m no digit is unused; else the last two, four bits
 use Prim.Native.Nat.{ℕ, zero, suc, ◌+◌, ◌-◌, ◌*◌, ◌/◌, ◌%◌, ◌^◌, ◌<◌}
-use native.Mathlib.Nat.{not-suc-le-zero, div-one}
+use native.Mathlib.Nat.{div-one}
 use native.Mathlib.Omega.{arith}
 use mathlib.Core.Path.{◌≡◌, refl, sym, ap, ◌∙◌}
 use mathlib.Core.Logic.{◌≢◌}
@@ -46,10 +46,9 @@ low_zero x = bool_ext (eqb (x % 16) 0) (all_below 1 (x / 4 % 4 ∷ x % 4 ∷ [])
 
 -- ---- the letters of a byte
 
-pub letters_left : (n x : ℕ) → 0 < n → letters_of n x ≡ digit_letter (x / 64) ∷ letters_of (n - 1) (x * 4 % 256)
+pub letters_left : (n k x : ℕ) → n ≡ suc k → letters_of n x ≡ digit_letter (x / 64) ∷ letters_of k (x * 4 % 256)
 unfolding letters_of
-letters_left zero x h = absurd (not-suc-le-zero h)
-letters_left (suc n) x h = let e : suc n - 1 ≡ n = omega arith in rw e
+letters_left n k x e = rw e
 
 pub letters_none : (n x : ℕ) → n ≡ 0 → letters_of n x ≡ []
 unfolding letters_of

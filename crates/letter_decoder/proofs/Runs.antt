@@ -19,31 +19,29 @@ use Rattle.builder.specs.Decoded.{Answered}
 use Rattle.builder.specs.Steps.{parts_of, first_state}
 use Rattle.builder.specs.Moves.{goes_on, Left, Moved}
 use Rattle.builder.proofs.Moves.{now_first, moved_on, moved_end, left_start, whole_moved}
-use Rattle.letter_steps.specs.declared.Outcome.{Outcome}
-use Rattle.letter_steps.specs.declared.Outcome.TheVariants.{Goes, Stuck}
+use Rattle.std.specs.Prelude.{Some, None}
 use Rattle.letter_steps.specs.Reading.{Read}
 
 -- ---- letters one after the other
 
 module _ (ls : List Letter) (m : ℕ) (w : List ℕ) (s : State) (e : ℕ) where
   -- `all` is left, and `now` is read next
-  module _ (all : List Letter) (t : State) (k : ℕ) (w' : List ℕ) (x : Moved ls all m w s e t k w') (now : List Letter) (o : Outcome) (w'' : List ℕ)
-      (y : Read now m w' t k o w'') (rest : List Letter) (q : all ≡ now ++ rest) where
-    pub goes_on_lem : (u : State) (j : ℕ) → o ≡ Goes u j → Moved ls rest m w s e u j w''
+  module _ (all : List Letter) (t : State) (k : ℕ) (w' : List ℕ) (x : Moved ls all m w s e t k w') (now : List Letter) (w'' : List ℕ)
+      (rest : List Letter) (q : all ≡ now ++ rest) where
+    pub goes_on_lem : (u : State) (j : ℕ) → Read now m w' t k (Some (u, j)) w'' → Moved ls rest m w s e u j w''
     unfolding Read
-    goes_on_lem u j g = moved_on ls m w s e all t k w' x now rest q u j w'' (subst (λ (r : Outcome). Read now m w' t k r w'') g y)
+    goes_on_lem u j y = moved_on ls m w s e all t k w' x now rest q u j w'' y
 
-    pub stuck_on : o ≡ Stuck → Read ls m w s e Stuck w''
+    pub stuck_on : Read now m w' t k None w'' → Read ls m w s e None w''
     unfolding Read
-    stuck_on g v n =
-        let z = subst (λ (r : Outcome). Read now m w' t k r w'') g y in
+    stuck_on y v n =
         let q' = now_first ls m w s e all t k w' x now rest q v in
-        sym (x.nests v) ∙ ap (goes_on m w' t) q' ∙ z (rest ++ v) (subst (Left m t k) q' (x.left v n))
+        sym (x.nests v) ∙ ap (goes_on m w' t) q' ∙ y (rest ++ v) (subst (Left m t k) q' (x.left v n))
 
 -- ---- the whole word
 
 module _ (m : ℕ) (v : List Letter) (w : List ℕ) (size : length v ≡ 2 * m) where
-  pub answer_stuck : (w' : List ℕ) → Read v m w first_state 0 Stuck w' → Answered (nested_word v) (2 * m) false w'
+  pub answer_stuck : (w' : List ℕ) → Read v m w first_state 0 None w' → Answered (nested_word v) (2 * m) false w'
   unfolding nested_word parts_of stack Read
   answer_stuck w' f =
       let e : nested true 1 0 [] [] v ≡ false = ap (nested true 1 0 [] []) (sym (append-nil v)) ∙ f [] (left_start m v size) in

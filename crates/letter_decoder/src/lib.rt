@@ -14,7 +14,6 @@ ghost use Rattle.letter_steps.specs.Reading.{Read};
 ghost use Rattle.letter_decoder.specs.Pairs.{letters_of, pair_at};
 
 use builder::State;
-use letter_steps::Outcome;
 
 // ---- where letters stand
 
@@ -42,28 +41,18 @@ fn half(payload: &[u8], i: usize) -> u8
 // ---- all letters
 
 // The two letters in the high bits of x. The loop is unrolled; a second call of `step` would not be inlined.
-fn pair(w: &mut [u16], m: usize, s: State, e: usize, x: u8) -> Outcome
+fn pair(w: &mut [u16], m: usize, s: State, e: usize, x: u8) -> Option<(State, usize)>
     requires { Fits m w.old s e }
     ensures { Read (letters_of 2 x) m w.old s e result w.new }
 {
     let mut t = s;
     let mut k = e;
     let mut rest = x;
-    let mut n: usize = 2;
-    while n > 0 {
-        match letter_steps::step(w, m, t, k, rest / 64) {
-            Outcome::Goes(u, j) => {
-                t = u;
-                k = j;
-            }
-            Outcome::Stuck => {
-                return Outcome::Stuck;
-            }
-        }
-        rest = rest << 2;
-        n -= 1;
+    for _ in 0..2usize {
+        (t, k) = letter_steps::step(w, m, t, k, rest / 64)?;
+        rest <<= 2;
     }
-    Outcome::Goes(t, k)
+    Some((t, k))
 }
 
 // All letters, two by two. With no more than m edges begun, 2m letters leave none open; the last dart's successor is dart 0.
@@ -80,22 +69,14 @@ fn run(payload: &[u8], m: usize, w: &mut [u16]) -> bool
         place: 0,
     };
     let mut e = 0;
-    let mut i = 0;
-    while i < m {
-        let x = half(payload, i);
-        match pair(w, m, s, e, x) {
-            Outcome::Goes(t, k) => {
-                s = t;
-                e = k;
-            }
-            Outcome::Stuck => {
-                return false;
-            }
-        }
-        i += 1;
+    for i in 0..m {
+        let Some((t, k)) = pair(w, m, s, e, half(payload, i)) else {
+            return false;
+        };
+        s = t;
+        e = k;
     }
-    let place = s.place;
-    w[place] = 0;
+    w[s.place] = 0;
     true
 }
 
@@ -105,8 +86,7 @@ pub fn decode(payload: &[u8], m: usize, w: &mut [u16]) -> bool
     requires m_in_bounds { 32 * m ≤ length w.old }
     ensures { Answered (decode_letters m payload.now) (2 * m) result w.new }
 {
-    let clean = clean(payload, m);
-    if !clean {
+    if !clean(payload, m) {
         return false;
     }
     work::fill(w, 0, 2 * m, 0);

@@ -1,13 +1,13 @@
 -- Codewords read from eight bytes: as many as these hold whatever they are.
 --
---   code_short, code_long   the codeword of two bits; code-some, code-digits   it is one, and has a digit where the first bit is 1
+--   code_short, code_long   the codeword of two bits; code_digits   it has a digit where the first bit is 1
 --   Among                 codewords are read up to i of those that end before `end`; the eight bytes begin with byte q
---   among_start, among_on   the first of them comes next; one more is read
+--   among_on              one more is read
 --   among_few             the place of the next bit within the bytes
 use Prim.Native.Nat.{ℕ, ◌+◌, ◌-◌, ◌*◌, ◌/◌, ◌%◌, ◌^◌, ◌≤◌, ◌<◌}
 use native.Mathlib.Omega.{arith}
 use mathlib.Core.Path.{◌≡◌, sym, ap, ◌∙◌, subst}
-use mathlib.Core.Logic.{◌≢◌}
+use Rattle.std.specs.Prelude.{Some}
 use mathlib.Core.List.{List}
 use lib.ListN.{length, get_or, set, drop}
 use borrow.Author.Tests.{lt-ltb, le-ltb}
@@ -28,9 +28,6 @@ module _ (x : ℕ) where
   unfolding code_of
   code_long h = rw (le-ltb x 2 h)
 
-  code_some : code_of x ≢ 0
-  code_some z = lt_or_le x 2 (λ h. let e = code_short h in omega arith) (λ h. let e = code_long h in omega arith)
-
   code_digits : x < 4 → code_of x / 3 ≡ x / 2
   code_digits low = lt_or_le x 2 (λ h. let e = code_short h in omega arith) (λ h. let e = code_long h in omega arith)
 
@@ -39,9 +36,6 @@ pub record Among (ps : List ℕ) (n a : ℕ) (w₀ w : List ℕ) (q end c l i : 
   pub from : 8 * q ≤ c
   pub to : c + 2 * (end - i) ≤ 8 * q + 63
   pub within : i ≤ end
-
-pub among_start : (ps : List ℕ) (n a : ℕ) (w₀ w : List ℕ) (c l i : ℕ) → Reading (bits ps) n a w₀ w c l i → Among ps n a w₀ w (c / 8) (i + 28) c l i
-among_start ps n a w₀ w c l i r = record { reading = r; from = omega arith; to = omega arith; within = omega arith }
 
 module _ (ps : List ℕ) (n a : ℕ) (w₀ w : List ℕ) (q end c l i : ℕ) (s : Among ps n a w₀ w q end c l i) (h : i < end) where
   pub among_few : c - 8 * q < 63
@@ -68,7 +62,7 @@ module _ (ps : List ℕ) (n a : ℕ) (w₀ w : List ℕ) (q end c l i : ℕ) (s 
         let head = head_pair bs c (omega (arith, all, s.to)) (bits_below ps) (omega (arith, all, s.to)) pair two in
         record {
           reading = subst (λ (d : ℕ). Reading bs n a w₀ (set w (a + i) t) (c + (2 - d)) (l + d) (i + 1)) same
-              (reading_on bs n a w₀ w c l i s.reading (bits_below ps) space (omega arith) t (e ∙ sym head) (λ z. code_some pair (sym e ∙ z)));
+              (reading_on bs n a w₀ w c l i s.reading (bits_below ps) space (omega arith) t (head ∙ ap Some (sym e)));
           from = omega (arith, s.from);
           to = omega (arith, s.to);
           within = omega arith;

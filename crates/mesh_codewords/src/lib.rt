@@ -7,35 +7,34 @@ ghost use Rattle.packing.specs.Unpack.{bits};
 ghost use Rattle.packing.specs.Types.{read_codes};
 ghost use Rattle.mesh_codewords.specs.Reading.{code_head, code_of, Reading, CodesRead};
 
-// What reading codewords comes to: how many bits they have and how many digits they want, or that the bits run out.
-#[derive(Drop)]
-pub enum Codewords {
-    Counted(usize, usize),
-    Short,
+// How many bits codewords have and how many digits they want.
+#[derive(Clone, Copy)]
+pub struct Counts {
+    pub bits: usize,
+    pub digits: usize,
 }
 
-// "Type 1: 00. Type 2: 01. Types 3-5: 1": the codeword from bit c on, 3 for any of types 3 to 5; 0 where the bits run out.
-fn codeword(payload: &[u8], c: usize) -> u8
+// "Type 1: 00. Type 2: 01. Types 3-5: 1": the codeword from bit c on, 3 for any of types 3 to 5; none where the bits run out.
+fn codeword(payload: &[u8], c: usize) -> Option<u8>
     requires { (length payload.now < 65536) × (c ≤ 8 * length payload.now) }
     ensures { result ≡ code_head (drop c (bits payload.now)) }
 {
     let end = 8 * payload.len();
     if c >= end {
-        return 0;
+        return None;
     }
-    let a = bits::bit_at(payload, c);
-    if a != 0 {
-        return 3;
+    if bits::bit_at(payload, c) != 0 {
+        return Some(3);
     }
     if c + 1 >= end {
-        return 0;
+        return None;
     }
     let b = bits::bit_at(payload, c + 1);
-    b + 1
+    Some(b + 1)
 }
 
 // How many codewords are read, how many bits they have and how many digits they want.
-#[derive(Drop)]
+#[derive(Clone, Copy)]
 struct Progress {
     read: usize,
     bits: usize,
@@ -46,14 +45,12 @@ struct Progress {
 const MANY: usize = 28;
 
 // The codeword that begins with these two bits.
+#[tactic(auto, unfolding(crate::specs::Reading::code_of))]
 fn code_of(pair: u64) -> u16
     requires { pair < 4 }
     ensures { result ≡ code_of pair }
 {
-    if pair < 2 {
-        return pair as u16 + 1;
-    }
-    3
+    if pair < 2 { pair as u16 + 1 } else { 3 }
 }
 
 // The next codewords, as many as eight bytes hold.
@@ -67,18 +64,15 @@ fn read_many(payload: &[u8], n: usize, at: usize, w: &mut [u16], s: Progress) ->
     let end = s.read + MANY;
     let mut c = s.bits;
     let mut l = s.digits;
-    let mut i = s.read;
-    while i < end {
+    for i in s.read..end {
         let pair = bit_window::pair(x, c - 8 * q);
-        let t = code_of(pair);
-        w[at + i] = t;
+        w[at + i] = code_of(pair);
         let digits = (pair / 2) as usize;
         c += 2 - digits;
         l += digits;
-        i += 1;
     }
     Progress {
-        read: i,
+        read: end,
         bits: c,
         digits: l,
     }
@@ -94,34 +88,26 @@ fn read_windows(payload: &[u8], n: usize, at: usize, w: &mut [u16]) -> Progress
         bits: 0,
         digits: 0,
     };
-    while s.read + MANY <= n {
-        if s.bits / 8 + 8 > payload.len() {
-            return s;
-        }
+    while s.read + MANY <= n && s.bits / 8 + 8 <= payload.len() {
         s = read_many(payload, n, at, w, s);
     }
     s
 }
 
-// The first n codewords, put from place `at` on.
-pub fn read_codewords(payload: &[u8], n: usize, at: usize, w: &mut [u16]) -> Codewords
+// The first n codewords, put from place `at` on; none where the bits run out.
+pub fn read_codewords(payload: &[u8], n: usize, at: usize, w: &mut [u16]) -> Option<Counts>
     requires { (length payload.now < 65536) × (n ≤ 65536) × (at + n ≤ length w.old) }
     ensures { CodesRead (read_codes n (bits payload.now)) at n result w.new }
 {
     let s = read_windows(payload, n, at, w);
     let mut c = s.bits;
     let mut l = s.digits;
-    let mut i = s.read;
-    while i < n {
-        let t = codeword(payload, c);
-        if t == 0 {
-            return Codewords::Short;
-        }
+    for i in s.read..n {
+        let t = codeword(payload, c)?;
         w[at + i] = t as u16;
         let digits = (t / 3) as usize;
         c += 2 - digits;
         l += digits;
-        i += 1;
     }
-    Codewords::Counted(c, l)
+    Some(Counts { bits: c, digits: l })
 }

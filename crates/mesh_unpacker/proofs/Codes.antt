@@ -1,23 +1,23 @@
 -- What reading codewords has handed back, by cases. Assumes nothing.
 --
 --   digits_few            codewords have no more digits than there are of them
---   Found, counted, ran_out   n codewords stand from place a on, have c bits and want l digits; or the bits run out
+--   Found, counted        n codewords stand from place a on, have c bits and want l digits
 use Prim.Native.Nat.{ℕ, zero, suc, ◌+◌, ◌*◌, ◌≤◌}
 use native.Mathlib.Omega.{arith}
-use mathlib.Core.Path.{◌≡◌, subst}
+use mathlib.Core.Path.{◌≡◌}
 use mathlib.Core.Bool.{true}
 use mathlib.Core.List.{List, [], ◌∷◌}
 use lib.ListN.{length}
 use Rattle.model.specs.Numbers.{all_below}
 use Rattle.model.specs.Mesh.{digit_of, type_digits}
-use Rattle.packing.specs.Types.{coded, short, read_codes}
+use Rattle.packing.specs.Types.{coded, read_codes}
 use Rattle.packing.specs.Unpack.{bits}
 use Rattle.packing.proofs.Packed.{length_bits, bits_below}
 use Rattle.packing.proofs.Codewords.{codes_fit, codes_below}
 use Rattle.work.specs.Area.{region}
 use Rattle.work.proofs.Regions.{length_region}
-use Rattle.mesh_codewords.specs.declared.Codewords.{Codewords}
-use Rattle.mesh_codewords.specs.declared.Codewords.TheVariants.{Counted, Short}
+use Rattle.std.specs.Prelude.{Some}
+use Rattle.mesh_codewords.specs.declared.Counts.{Counts}
 use Rattle.mesh_codewords.specs.Reading.{CodesRead}
 
 pub digits_few : (ss : List ℕ) → length (type_digits ss) ≤ length ss
@@ -35,24 +35,18 @@ pub record Found (ps : List ℕ) (n a : ℕ) (w : List ℕ) (c l : ℕ) : Type 0
   pub few : l ≤ n
   pub below : all_below 4 (region a n w) ≡ true
 
-module _ (ps : List ℕ) (n a : ℕ) (w : List ℕ) (r : Codewords) (y : CodesRead (read_codes n (bits ps)) a n r w) where
-  pub counted : (c l : ℕ) → r ≡ Counted c l → a + n ≤ length w → Found ps n a w c l
-  unfolding CodesRead
-  counted c l e h =
-      let (codes, digits) : (read_codes n (bits ps) ≡ coded (region a n w) c) × (l ≡ length (type_digits (region a n w)))
-      = subst (λ (z : Codewords). CodesRead (read_codes n (bits ps)) a n z w) e y in
-      let bits-many = length_bits ps in
-      let f = codes_fit n (bits ps) (region a n w) c codes in
-      let few = digits_few (region a n w) in
-      let long = length_region a n w h in
-      record {
-        codes = codes;
-        digits = digits;
-        fits = omega arith;
-        few = omega arith;
-        below = codes_below n (bits ps) (region a n w) c (bits_below ps) codes;
-      }
-
-  pub ran_out : r ≡ Short → read_codes n (bits ps) ≡ short
-  unfolding CodesRead
-  ran_out e = subst (λ (z : Codewords). CodesRead (read_codes n (bits ps)) a n z w) e y
+pub counted : (ps : List ℕ) (n a : ℕ) (w : List ℕ) (r : Counts) → CodesRead (read_codes n (bits ps)) a n (Some r) w → a + n ≤ length w
+    → Found ps n a w r.bits r.digits
+unfolding CodesRead
+counted ps n a w r (codes, digits) h =
+    let bits-many = length_bits ps in
+    let f = codes_fit n (bits ps) (region a n w) r.bits codes in
+    let few = digits_few (region a n w) in
+    let long = length_region a n w h in
+    record {
+      codes = codes;
+      digits = digits;
+      fits = omega arith;
+      few = omega arith;
+      below = codes_below n (bits ps) (region a n w) r.bits (bits_below ps) codes;
+    }

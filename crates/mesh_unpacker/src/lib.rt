@@ -12,8 +12,6 @@ ghost use Rattle.packing.specs.Groups.{undone, values_of};
 ghost use Rattle.work.specs.Area.{region};
 ghost use Rattle.mesh_unpacker.specs.Reading.{digit_on, values_from, Typed};
 
-use mesh_codewords::Codewords;
-
 // ---- what stands beside the codewords
 
 // The payload is as long as c bits and l digits want it; unused bits and fill digits are 0, and every group's byte is the table's.
@@ -22,18 +20,10 @@ fn clean(payload: &[u8], inverse: &[u8], c: usize, l: usize) -> bool
     ensures { result ≡ clean (values_from (bytes_for c 8) inverse.now payload.now) c l }
 {
     let from = (c + 7) / 8;
-    if payload.len() != from + (l + 4) / 5 {
-        return false;
-    }
-    let padded = unpacker::zero_bits(payload, c, 8 * from);
-    if !padded {
-        return false;
-    }
-    let fit = unpacker::groups_fit(payload, inverse, from);
-    if !fit {
-        return false;
-    }
-    unpacker::zero_labels(payload, inverse, from, l)
+    payload.len() == from + (l + 4) / 5
+        && unpacker::zero_bits(payload, c, 8 * from)
+        && unpacker::groups_fit(payload, inverse, from)
+        && unpacker::zero_labels(payload, inverse, from, l)
 }
 
 // ---- digits
@@ -59,12 +49,10 @@ fn add_digits(payload: &[u8], inverse: &[u8], from: usize, n: usize, at: usize, 
         ≡ with_digits (region at n w.old) (groups (drop from (values_of inverse.now payload.now))) }
 {
     let mut j = 0;
-    let mut i = 0;
-    while i < n {
+    for i in 0..n {
         let t = w[at + i];
         w[at + i] = with_digit(payload, inverse, from, j, t);
         j += (t / 3) as usize;
-        i += 1;
     }
 }
 
@@ -80,17 +68,12 @@ pub fn types(payload: &[u8], inverse: &[u8], m: usize, w: &mut [u16]) -> bool
     }
     let n = 2 * (m / 3) - 1;
     let at = work::TYPES * (2 * m);
-    match mesh_codewords::read_codewords(payload, n, at, w) {
-        Codewords::Counted(c, l) => {
-            let clean = clean(payload, inverse, c, l);
-            if !clean {
-                return false;
-            }
-            add_digits(payload, inverse, (c + 7) / 8, n, at, w);
-            return true;
-        }
-        Codewords::Short => {
-            return false;
-        }
+    let Some(counts) = mesh_codewords::read_codewords(payload, n, at, w) else {
+        return false;
+    };
+    if !clean(payload, inverse, counts.bits, counts.digits) {
+        return false;
     }
+    add_digits(payload, inverse, (counts.bits + 7) / 8, n, at, w);
+    true
 }

@@ -1,18 +1,21 @@
 -- Whether a payload is as it is laid out: padding bits and fill labels are 0, every group's byte stands for a value. Assumes nothing.
 --
 --   length_labels         how many labels the bytes from a place on hold
---   bits_next, bits_stop, bits_end   the bits from a place up to another are all 0, bit by bit
+--   places_below          the entries from a place on are all below a bound, place by place
 --   clean_parts, clean_one, clean_two   what makes a payload of kind 1, and of kind 2, clean
 use Prim.Native.Nat.{ℕ, ◌+◌, ◌-◌, ◌*◌, ◌/◌, ◌≤◌, ◌<◌}
 use native.Mathlib.Omega.{arith}
-use mathlib.Core.Path.{◌≡◌, ap}
+use mathlib.Core.Path.{◌≡◌, refl, sym, ap}
 use mathlib.Core.Logic.{◌≢◌}
 use mathlib.Core.Bool.{Bool, true, false, ◌&&◌}
 use mathlib.Core.List.{List}
 use lib.ListN.{length, get_or, take, drop, length-drop}
-use lib.Seq.{take_all, length-take-le, get_or-take}
+use lib.Seq.{take_all, get_or-drop}
+use Rattle.std.specs.Bool.{MatchBool}
+use Rattle.std.specs.List.{range_with_len, AllWithin, HoldsAt}
+use Rattle.std.proofs.lemmas.List.FromFn.{length-range_with_len, get_or-range_with_len}
 use Rattle.model.specs.Numbers.{all_below}
-use Rattle.model.proofs.Below.{below_next, below_stop, below_end}
+use Rattle.model.proofs.Permutations.{below_all, all_below_lem}
 use Rattle.packing.specs.Unpack.{bits, groups}
 use Rattle.packing.specs.Payload.{has_labels, Sized, payload_clean}
 use Rattle.packing.specs.Groups.{groups_from, undone, values_of}
@@ -27,18 +30,29 @@ pub length_labels : (s : List ℕ) (from : ℕ) → length (groups (drop from s)
 unfolding groups
 length_labels s from = let e = length_unpack 3 5 (length (drop from s)) (drop from s) in let d = length-drop from s in omega arith
 
-module _ (s : List ℕ) (to k : ℕ) (t : to ≤ 8 * length s) where
-  window : length (take to (bits s)) ≡ to
-  window = length-take-le to (bits s) (let e = length_bits s in omega arith)
+-- the places from `from` on, as many as are left of xs, are tried one by one, where entry k of xs is g k: r says whether all are below n
+pub places_below : (n from : ℕ) (xs : List ℕ) (g : ℕ → ℕ) → ((k : ℕ) → k < length xs → get_or xs k 0 ≡ g k) → (r : Bool) → let ks = range_with_len from (length xs - from) in
+    MatchBool r (AllWithin (λ k. g k < n) ks 0 (length ks)) ((i : ℕ) × (i < length ks) × HoldsAt (λ k. n ≤ g k) ks i) → r ≡ all_below n (drop from xs)
+places_below n from xs g same r h = go r h
+  where
+    j : ℕ
+    j = length xs - from
 
-  pub bits_next : k < to → get_or (bits s) k 0 ≡ 0 → all_below 1 (drop k (take to (bits s))) ≡ all_below 1 (drop (k + 1) (take to (bits s)))
-  bits_next h z = let e = window in let g = get_or-take to (bits s) k 0 h in below_next 1 (take to (bits s)) k (omega arith) (omega arith)
+    at : (i : ℕ) → i < j → get_or (drop from xs) i 0 ≡ g (get_or (range_with_len from j) i 0)
+    at i l = rw (get_or-drop from xs i 0, get_or-range_with_len from j i 0 l) (same (from + i) (omega arith))
 
-  pub bits_stop : k < to → get_or (bits s) k 0 ≢ 0 → all_below 1 (drop k (take to (bits s))) ≡ false
-  bits_stop h z = let e = window in let g = get_or-take to (bits s) k 0 h in below_stop 1 (take to (bits s)) k (omega arith) (omega arith)
-
-  pub bits_end : to ≤ k → all_below 1 (drop k (take to (bits s))) ≡ true
-  bits_end h = let e = window in below_end 1 (take to (bits s)) k (omega arith)
+    go : (r : Bool) → MatchBool r (AllWithin (λ k. g k < n) (range_with_len from j) 0 (length (range_with_len from j)))
+        ((i : ℕ) × (i < length (range_with_len from j)) × HoldsAt (λ k. n ≤ g k) (range_with_len from j) i) → r ≡ all_below n (drop from xs)
+    go true h =
+        let l = length-range_with_len from j in let d = length-drop from xs in
+        sym (all_below_lem n (drop from xs) (λ i b. rw (at i (omega arith)) (h i 0 (omega arith) (omega arith))))
+    go false (i, b, h) =
+        let l = length-range_with_len from j in let d = length-drop from xs in
+        not_small (all_below n (drop from xs)) (λ e. let s = below_all n (drop from xs) e i (omega arith) in let q = h 0 in let a = at i (omega arith) in omega arith)
+      where
+        not_small : (b : Bool) → (b ≡ true → ⊥) → false ≡ b
+        not_small true f = absurd (f refl)
+        not_small false f = refl
 
 -- ---- clean payloads
 

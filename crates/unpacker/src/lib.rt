@@ -16,15 +16,7 @@ pub fn zero_bits(bytes: &[u8], from: usize, to: usize) -> bool
     requires { to ≤ 8 * length bytes.now }
     ensures { result ≡ all_below 1 (drop from (take to (bits bytes.now))) }
 {
-    let mut k = from;
-    while k < to {
-        let b = bits::bit_at(bytes, k);
-        if b != 0 {
-            return false;
-        }
-        k += 1;
-    }
-    true
+    (from..to).all(|k| bits::bit_at(bytes, k) == 0)
 }
 
 // The last labels of a group, so many, are 0.
@@ -32,16 +24,12 @@ fn ends_in_zeros(group: u8, count: usize) -> bool
     requires { (0 < count) × (count < 5) }
     ensures { result ≡ all_below 1 (drop (5 - count) (digits_of 3 5 group)) }
 {
-    if count == 1 {
-        return group % 3 == 0;
+    match count {
+        1 => group % 3 == 0,
+        2 => group % 9 == 0,
+        3 => group % 27 == 0,
+        _ => group % 81 == 0,
     }
-    if count == 2 {
-        return group % 9 == 0;
-    }
-    if count == 3 {
-        return group % 27 == 0;
-    }
-    group % 81 == 0
 }
 
 // Every label of the groups from byte `from` on is 0, from number m on, which is one of the last group's, or past it.
@@ -62,15 +50,7 @@ pub fn groups_fit(bytes: &[u8], inverse: &[u8], from: usize) -> bool
     requires { length inverse.now ≡ 256 }
     ensures { result ≡ all_below 243 (drop from (values_of inverse.now bytes.now)) }
 {
-    let mut k = from;
-    while k < bytes.len() {
-        let b = bytes[k] as usize;
-        if inverse[b] > 242 {
-            return false;
-        }
-        k += 1;
-    }
-    true
+    (from..bytes.len()).all(|k| inverse[bytes[k] as usize] < 243)
 }
 
 // A payload of kind 2 is clean: "unused low bits are 0", "the last group filled with 0", and every group's byte is the table's.
@@ -79,15 +59,9 @@ fn groups_clean(payload: &[u8], inverse: &[u8], m: usize) -> bool
     ensures { result ≡ payload_clean 2 m (undone inverse.now 2 m payload.now) }
 {
     let from = (2 * m + 7) / 8;
-    let padded = zero_bits(payload, 2 * m, 8 * from);
-    if !padded {
-        return false;
-    }
-    let fit = groups_fit(payload, inverse, from);
-    if !fit {
-        return false;
-    }
-    zero_labels(payload, inverse, from, m)
+    zero_bits(payload, 2 * m, 8 * from)
+        && groups_fit(payload, inverse, from)
+        && zero_labels(payload, inverse, from, m)
 }
 
 // ---- labels by number
@@ -116,12 +90,8 @@ fn spread_groups(payload: &[u8], inverse: &[u8], m: usize, w: &mut [u16])
     ensures { labels_at m w.new ≡ payload_labels 2 m (undone inverse.now 2 m payload.now) }
 {
     let from = (2 * m + 7) / 8;
-    let count = payload.len() - from;
-    let mut i = 0;
-    while i < count {
-        let b = payload[from + i] as usize;
-        put_group(w, work::LABELS * (2 * m) + 5 * i, inverse[b]);
-        i += 1;
+    for (i, &b) in payload[from..].iter().enumerate() {
+        put_group(w, work::LABELS * (2 * m) + 5 * i, inverse[b as usize]);
     }
 }
 

@@ -47,13 +47,10 @@ pub fn build(w: &mut [u16], m: usize)
         place: 0,
     };
     let mut e = 0;
-    let mut i = 0;
-    while i < n {
+    for i in 0..n {
         let x = w[work::LETTERS * n + i];
         s = step(w, m, s, e, x);
         e += (x % 2) as usize;
-        i += 1;
     }
-    let place = s.place;
-    w[place] = 0;
+    w[s.place] = 0;
 }
