@@ -1,5 +1,6 @@
 -- The payload of a record whose head passes, as the slice past its head, and what decoding it says of the record.
 --
+--   all_bytes            a record's entries are bytes
 --   letters_asked, letters_answered   family 4: what reading its letters asks, and that it gives the answer
 --   labels_asked, labels_answered   another: the same of reading its tree bits and labels
 --   mesh_asked, mesh_decoded   kind 3: what reading the payload asks, and that its word is the record's
@@ -12,14 +13,16 @@ use mathlib.Core.Path.{◌≡◌, refl, ap, ◌∙◌}
 use mathlib.Core.Logic.{◌≢◌}
 use mathlib.Core.Bool.{Bool, true, false}
 use mathlib.Core.List.{List}
-use lib.ListN.{length, take, drop, length-drop}
+use lib.ListN.{length, get_or, take, drop, length-drop}
 use lib.Seq.{take_all}
 use borrow.Author.Tests.{ne_eqb}
+use mir.Syntax.{w8}
+use mir.Val.{Fits}
 use Rattle.model.specs.Numbers.{all_below}
 use Rattle.model.specs.Map.{stores_outside, family}
 use Rattle.model.specs.Record.{bytes_for, head_length}
 use Rattle.model.specs.Shelf.{word16, kind_of, edges_of, passes}
-use Rattle.model.proofs.Permutations.{below_all}
+use Rattle.model.proofs.Permutations.{below_all, all_below_lem}
 use Rattle.model.proofs.Heads.{family_four, family_not_three, passes_facts}
 use Rattle.record_lengths.proofs.Head.{head_plain}
 use Rattle.named_outside.proofs.Faces.{outer_head}
@@ -30,6 +33,9 @@ use Rattle.packing.proofs.Labelled.{labelled_other}
 use Rattle.packing.proofs.Headed.{passes_sized}
 use Rattle.coding.specs.Payloads.{decode_labelled, decode_letters, decode_payload, decode_record, decode_mesh, decode_mesh_record}
 use Rattle.builder.specs.Decoded.{Answered}
+
+pub all_bytes : (r : List ℕ) → ((i : ℕ) → Fits w8 (get_or r i 0)) → all_below 256 r ≡ true
+all_bytes r h = all_below_lem 256 r (λ i l. omega (arith, h i))
 
 module _ (f m : ℕ) (ps : List ℕ) (s : Sized f m ps) (other : f ≢ 3) where
   pub letters_asked : f ≡ 4 → (1 ≤ m) × (m ≤ 4096) × (length ps ≡ bytes_for m 2)
@@ -56,10 +62,10 @@ module _ (r : List ℕ) (passed : passes r ≡ true) (m : ℕ) (m-is : m ≡ edg
   mesh_part : take (length r - 6) (drop 6 r) ≡ drop 6 r
   mesh_part = take_all (length r - 6) (drop 6 r) (let e = length-drop 6 r in omega arith)
 
-  pub mesh_asked : (inv w : List ℕ) → length inv ≡ 256 → all_below 256 r ≡ true → 32 * edges_of r ≤ length w
-      → (length inv ≡ 256) × (1 ≤ m) × (m ≤ 4096) × (length (take (length r - 6) (drop 6 r)) < 65536) × (32 * m ≤ length w)
+  pub mesh_asked : (n : ℕ) → all_below 256 r ≡ true → 32 * edges_of r ≤ n
+      → (1 ≤ m) × (m ≤ 4096) × (length (take (length r - 6) (drop 6 r)) < 65536) × (32 * m ≤ n)
   unfolding word16
-  mesh_asked inv w wide bytes room =
+  mesh_asked n bytes room =
       let f = passes_facts r passed in
       let some = f.some_edge in
       let few = f.few_edges in
@@ -68,7 +74,7 @@ module _ (r : List ℕ) (passed : passes r ≡ true) (m : ℕ) (m-is : m ≡ edg
       let a = below_all 256 r bytes 0 (omega arith) in
       let b = below_all 256 r bytes 1 (omega arith) in
       let l = ap length mesh_part ∙ length-drop 6 r in
-      (wide, omega arith, omega arith, omega arith, omega arith)
+      (omega arith, omega arith, omega arith, omega arith)
 
   pub mesh_decoded : (inv : List ℕ) → decode_mesh m (undone inv 3 m (take (length r - 6) (drop 6 r))) ≡ decode_mesh_record inv r
   unfolding decode_mesh_record

@@ -1,0 +1,20 @@
+use mathlib.Core.Path.{sym}
+use Rattle.model.proofs.Numbered.{passed_on}
+use Rattle.decoding.specs.Planned.{decided}
+use Rattle.decoding.proofs.Outcomes.{checked_so, planned_judged, verdict_early}
+use Rattle.decoding.proofs.verdict.Goals as goal
+
+pub returns-in_err-head : goal.returns-in_err-head
+returns-in_err-head c = verdict_early _ _ _ _ _ c.in_err-head.ensures.number (passed_on _ _ c.from_residual.ensures)
+
+pub judge_mesh-requires-clause-checked : goal.judge_mesh-requires-clause-checked
+judge_mesh-requires-clause-checked c = checked_so _ _ _ _ c.in_ok-head.ensures.number c.in_ok-head.ensures.fields
+
+pub returns-then-head-eq3 : goal.returns-then-head-eq3
+returns-then-head-eq3 c = decided (sym c.in_ok-head.ensures.number) c.judge_mesh.ensures
+
+pub read_core-requires-clause-checked : goal.read_core-requires-clause-checked
+read_core-requires-clause-checked c = checked_so _ _ _ _ c.in_ok-head.ensures.number c.in_ok-head.ensures.fields
+
+pub returns : goal.returns
+returns c = decided (sym c.in_ok-head.ensures.number) (planned_judged _ _ _ _ c.read_core.ensures)
