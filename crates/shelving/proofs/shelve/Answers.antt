@@ -12,7 +12,7 @@ unfolding zeros
 returns-in_err-verdict c =
     record {
       outcome = rw (passed_on _ _ c.from_residual.ensures) (stored_refused _ _ _ _ c.in_err-verdict.ensures _ _ _ refl);
-      cleared = let kept = sym c.verdict.auto.work in rw kept (search rules);
+      cleared = let kept = sym c.verdict-verdict.auto.work in rw kept (search rules);
     }
 
 pub returns : goal.returns
@@ -20,5 +20,5 @@ unfolding zeros
 returns c =
     record {
       outcome = stored_read _ _ _ _ c.in_ok-verdict.ensures _ refl _ _ _ _ c.place.ensures.0 c.place.ensures.1;
-      cleared = let kept = sym c.verdict.auto.work in rw kept (search rules);
+      cleared = let kept = sym c.verdict-verdict.auto.work in rw kept (search rules);
     }
