@@ -6,31 +6,33 @@
 --   fit_late             none concerns a plan that fits
 --   Begun                the early refusals are passed, and the plan is walked
 --   walk_fits, made_laid     what laying out asks of a plan that the walk has found fit, and what is then answered
---   walk-unfit, made-refused what judging asks of another, and what is then answered
+--   walk_unfit, made_refused what judging asks of another, and what is then answered
 --   other_laid           what is laid out of a plan of another kind than 3
---   mesh_laid, mesh_refused, mesh_kind   what is laid out of a mesh, and where it has no room
---   told_refused, told_curved, told_fits   what is answered by the plan's verdict
+--   mesh_laid            what is laid out of a mesh
+--   told_err, told_refused   a plan that does not fit is refused by judging it
 use Prim.Native.Nat.{ℕ, ◌+◌, ◌*◌, ◌%◌, ◌≤◌, ◌<◌}
 use native.Mathlib.Omega.{arith}
 use mathlib.Core.Path.{◌≡◌, refl, sym, ap, subst, ◌∙◌}
 use mathlib.Core.Logic.{◌≢◌}
 use mathlib.Core.Bool.{Bool, true, false, not, ◌&&◌, cond, false≢true}
-use mathlib.Core.List.{List, ◌++◌, map}
+use mathlib.Core.List.{List, map}
 use lib.Dec.{eqb, ltb}
-use lib.IntN.{ℤ}
 use lib.ListN.{length, get_or}
 use borrow.Author.Tests.{eq-eqb, ne_eqb, not-false}
 use Rattle.model.specs.declared.Table.{Table}
-use Rattle.model.specs.declared.Written.{Written}
-use Rattle.model.specs.declared.Written.TheVariants as written
+use Rattle.std.specs.Prelude.{Result, Ok, Err, IsErr}
+use Rattle.model.specs.declared.Refusal.{Refusal}
+use Rattle.model.specs.declared.Refusal.TheVariants.{ShortOutput}
 use Rattle.model.specs.Numbers.{elem, first_refusal}
-use Rattle.model.specs.Map.{Plan, darts, edges, stores_outside, family, has_loop, has_dead_end, loop_refused, face_refused, degree_refused, fit}
+use Rattle.model.specs.Map.{Plan, darts, edges, characteristic, stores_outside, family, has_loop, has_dead_end, loop_refused, face_refused, degree_refused, fit}
 use Rattle.model.specs.Traversal.{Letter, down, up, first, second, code, opens, visits, word}
 use Rattle.model.specs.Record.{headed, mesh_payload, payload_of, outside_bytes, record_of}
+use Rattle.model.specs.Refusals.{number_of_refusal, numbered}
 use Rattle.model.specs.Calls.{front, table_refused, late_refusals, last_refusals, write_refusal, answer_of}
 use Rattle.model.proofs.Outside.{with_outside, same_word, same_dead_ends, fit_outside, fit_widest}
 use Rattle.model.proofs.Fitness.{fit_parts, count_parts}
 use Rattle.model.proofs.Heads.{family_not_three}
+use Rattle.model.proofs.Numbered.{refused_so, refusal_some}
 use Rattle.model.proofs.Refusals.{none_holds, passed_fit}
 use Rattle.orbits.proofs.Order.{eq_split}
 use Rattle.words.specs.Word.{word_bits, word_labels}
@@ -39,11 +41,7 @@ use Rattle.words.specs.Toured.{darts_met, dart_at, letter_of}
 use Rattle.fit_plans.proofs.FitPlans.{fit_toured}
 use Rattle.forward.proofs.Labels.{opened_bound}
 use Rattle.marks.specs.Marks.{mark_of}
-use Rattle.fitting.specs.declared.Verdict.{Verdict}
-use Rattle.fitting.specs.declared.Verdict.TheVariants as verdict
 use Rattle.fitting.specs.Judged.{late_refusal, verdict_of, Judged}
-use Rattle.fitting.proofs.Verdicts.{verdict_refused, verdict_curved, verdict_fits}
-use Rattle.packing.proofs.Headed.{headed_length}
 use Rattle.meshes.proofs.Meshes.{types_outside}
 use Rattle.tracing.specs.Tracing.{Sound, Fitting}
 use Rattle.outer_face.specs.Marks.{Marked}
@@ -52,24 +50,29 @@ use Rattle.laying.specs.Laid.{ToLay, Recorded}
 use Rattle.mesh_writing.specs.Recorded.{MeshRecorded}
 use Rattle.write_checks.specs.Early.{early_refusal}
 use Rattle.write_checks.proofs.Refusing.{Passed, early_parts}
-use Rattle.writing.specs.Made.{Answered, Made, last_refusal, Walked, Unfit, Refused, Fits}
+use Rattle.table_test.proofs.Checked as checked
+use Rattle.writing.specs.Made.{Made, Laid, last_refusal, Walked, Unfit, Refused, Fits}
 use Rattle.writing.proofs.Refusing.{refusal_table, refusal_split, early_not_ten}
 
-pub no_table : {table : Table} {k : ℕ} {p : Plan} {w out : List ℕ} → table_refused table ≡ true → Made table k p w out (written.Refused 19) w out
+pub no_table : {table : Table} {k : ℕ} {p : Plan} {w out : List ℕ} {e : Refusal} → number_of_refusal e ≡ cond (table_refused table) 19 0
+    → Made table k p w out (Err e) w out
 unfolding answer_of
-no_table {table} {k} {p} {w} {out} e =
-    let first = refusal_table table k p (length w) (length out) e in
-    record { answered = rw first; filled = rw first; kept = refl }
+no_table {table} {k} {p} {w} {out} {e} q =
+    let (bad, number) = checked.turned_away table (number_of_refusal e) q (refusal_some e) in
+    let first = refusal_table table k p (length w) (length out) bad in
+    record { answered = rw first (refused_so (characteristic p.rotation) (Err e) e 19 refl number refl); filled = rw first; kept = refl }
 
-pub turned_away : {table : Table} {k : ℕ} {p : Plan} {w out w₁ : List ℕ} {r : ℕ} → table_refused table ≡ false → length w₁ ≡ length w
-    → r ≡ early_refusal k p (length w₁) (length out) → (r ≢ 0) → Made table k p w out (written.Refused r) w₁ out
+pub turned_away : {table : Table} {k : ℕ} {p : Plan} {w out w₁ : List ℕ} {e : Refusal} → table_refused table ≡ false → length w₁ ≡ length w
+    → number_of_refusal e ≡ early_refusal k p (length w₁) (length out) → Made table k p w out (Err e) w₁ out
 unfolding answer_of
-turned_away {table} {k} {p} {w} {out} {w₁} {r} stands kept e₁ ne =
-    let e : r ≡ early_refusal k p (length w) (length out) = e₁ ∙ ap (λ (l : ℕ). early_refusal k p l (length out)) kept in
-    let late : write_refusal table k p (length w) (length out) ≡ r = refusal_split table k p (length w) (length out) stands ∙ rw (sym e, ne_eqb r 0 ne) in
+turned_away {table} {k} {p} {w} {out} {w₁} {e} stands kept q₁ =
+    let r = early_refusal k p (length w) (length out) in
+    let q : number_of_refusal e ≡ r = q₁ ∙ ap (λ (l : ℕ). early_refusal k p l (length out)) kept in
+    let some : eqb r 0 ≡ false = ne_eqb r 0 (λ z. refusal_some e (q ∙ z)) in
+    let first : write_refusal table k p (length w) (length out) ≡ r = refusal_split table k p (length w) (length out) stands ∙ rw some in
     record {
-      answered = rw (late, ne_eqb r 0 ne, ap (λ (x : ℕ). eqb x 10) e ∙ early_not_ten k p (length w) (length out));
-      filled = rw (late, ne_eqb r 0 ne);
+      answered = rw (first, some) (refused_so (characteristic p.rotation) (Err e) e r refl q (early_not_ten k p (length w) (length out)));
+      filled = rw (first, some);
       kept = kept;
     }
 
@@ -193,8 +196,8 @@ module _ {k : ℕ} {p : Plan} {w out w₁ w₂ : List ℕ} {b : Bool} (begun : B
     pub walk_fits : Fits k p w₂ out
     walk_fits = record { other = to_lay; mesh = begun.walk.mesh yes }
 
-    pub made_laid : (table : Table) → table_refused table ≡ false → (a : Written) (w₃ out' : List ℕ)
-        → Answered (last_refusal table k p (length out)) table k p w₂ out a w₃ out' → Made table k p w out a w₃ out'
+    pub made_laid : (table : Table) → table_refused table ≡ false → (a : Result ℕ Refusal) (w₃ out' : List ℕ)
+        → Laid table k p w₂ out a w₃ out' → Made table k p w out a w₃ out'
     made_laid table stands a w₃ out' r =
         let last : write_refusal table k p (length w) (length out) ≡ last_refusal table k p (length out) = left table stands ∙ rw none_late in
         record { answered = r.answered ∙ rw last; filled = r.filled ∙ rw last; kept = r.kept ∙ kept }
@@ -214,14 +217,14 @@ module _ {k : ℕ} {p : Plan} {w out w₁ w₂ : List ℕ} {b : Bool} (begun : B
       late = λ e. some_late (sym (same_late (family k) p) ∙ e);
     }
 
-    pub made_refused : (table : Table) → table_refused table ≡ false → (a : Written) (w₃ : List ℕ) → Refused k (with_outside p 0) w₂ a w₃
-        → Made table k p w out a w₃ out
+    pub made_refused : (table : Table) → table_refused table ≡ false → (e : Refusal) (w₃ : List ℕ) → Refused k (with_outside p 0) w₂ e w₃
+        → Made table k p w out (Err e) w₃ out
     unfolding answer_of
-    made_refused table stands a w₃ r =
+    made_refused table stands e w₃ r =
         let some = ne_eqb late 0 some_late in
         let first : write_refusal table k p (length w) (length out) ≡ late = left table stands ∙ rw some in
         record {
-          answered = r.answered table ∙ rw (first, same_late (family k) p, some);
+          answered = rw (first, some) (ap Err (r.answered ∙ ap (λ (n : ℕ). numbered n (characteristic p.rotation)) (same_late (family k) p)));
           filled = rw (first, some);
           kept = r.kept ∙ kept;
         }
@@ -229,7 +232,7 @@ module _ {k : ℕ} {p : Plan} {w out w₁ w₂ : List ℕ} {b : Bool} (begun : B
 -- ---- a plan of another kind than 3
 
 pub other_laid : (t : Table) (k : ℕ) (p : Plan) (w out : List ℕ) (n : ℕ) (out' : List ℕ) → k ≢ 3 → Recorded t k p out n out'
-    → Answered (last_refusal t k p (length out)) t k p w out (written.Length n) w out'
+    → Laid t k p w out (Ok n) w out'
 unfolding last_refusal last_refusals first_refusal answer_of
 other_laid t k p w out n out' other r = record { answered = rw (ne_eqb k 3 other, r.answered); filled = r.filled ∙ rw (ne_eqb k 3 other); kept = refl }
 
@@ -240,61 +243,37 @@ mesh_record : (t : Table) (p : Plan) → record_of t 3 (with_outside p 0) ≡ re
 unfolding record_of payload_of outside_bytes family stores_outside elem
 mesh_record t p = ap (λ (ts : List ℕ). headed 3 (edges p.rotation) (mesh_payload t ts)) (types_outside p 0)
 
-module _ (t : Table) {bs : List ℕ} (p : Plan) {w out : List ℕ} {n : ℕ} {w' out' : List ℕ} (same : t.bytes ≡ bs)
-    (m : MeshRecorded bs (with_outside p 0) w out n w' out') where
+module _ (t : Table) (p : Plan) {w out : List ℕ} {a : Result ℕ Refusal} {w' out' : List ℕ} (m : MeshRecorded t.bytes (with_outside p 0) w out a w' out') where
   abbrev full : ℕ
   full = length (record_of t 3 p)
 
-  answered : n ≡ cond (ltb (length out) full) 0 full
-  answered = rw (← mesh_record t p) (m.answered t same)
+  answered : a ≡ cond (ltb (length out) full) (Err ShortOutput) (Ok full)
+  answered = rw (← mesh_record t p) (m.answered t refl)
 
   filled : out' ≡ cond (ltb (length out) full) out (front (record_of t 3 p) out)
-  filled = rw (← mesh_record t p) (m.filled t same)
+  filled = rw (← mesh_record t p) (m.filled t refl)
 
-  -- no record has no bytes
-  some_bytes : 6 ≤ full
-  unfolding record_of
-  some_bytes = let l = headed_length 3 (edges p.rotation) (outside_bytes 3 p ++ payload_of t (family 3) p) in omega arith
-
-  pub mesh_refused : n ≡ 0 → Answered (last_refusal t 3 p (length out)) t 3 p w out (written.Refused 8) w' out'
-  unfolding last_refusal last_refusals first_refusal answer_of
-  mesh_refused none = go (ltb (length out) full) refl
+  as_three : Laid t 3 p w out a w' out'
+  unfolding last_refusal last_refusals first_refusal answer_of numbered
+  as_three = go (ltb (length out) full) refl
     where
-      go : (b : Bool) → ltb (length out) full ≡ b → Answered (last_refusal t 3 p (length out)) t 3 p w out (written.Refused 8) w' out'
-      go true e = record { answered = rw e; filled = filled ∙ rw e; kept = m.kept }
-      go false e = let z = rw e at answered in let l = some_bytes in absurd (omega arith)
+      go : (b : Bool) → ltb (length out) full ≡ b → Laid t 3 p w out a w' out'
+      go true e = record { answered = answered ∙ rw e; filled = filled ∙ rw e; kept = m.kept }
+      go false e = record { answered = answered ∙ rw e; filled = filled ∙ rw e; kept = m.kept }
 
-  pub mesh_laid : n ≢ 0 → Answered (last_refusal t 3 p (length out)) t 3 p w out (written.Length n) w' out'
-  unfolding last_refusal last_refusals first_refusal answer_of
-  mesh_laid some = go (ltb (length out) full) refl
-    where
-      go : (b : Bool) → ltb (length out) full ≡ b → Answered (last_refusal t 3 p (length out)) t 3 p w out (written.Length n) w' out'
-      go true e = absurd (some (rw e at answered))
-      go false e = record { answered = rw e (ap written.Length (rw e at answered)); filled = filled ∙ rw e; kept = m.kept }
+  pub mesh_laid : (k : ℕ) → k ≡ 3 → Laid t k p w out a w' out'
+  mesh_laid k q = subst (λ (j : ℕ). Laid t j p w out a w' out') (sym q) as_three
 
--- in the kind that it is of
-pub mesh_kind : (t : Table) (k : ℕ) (p : Plan) (w out : List ℕ) (a : Written) (w' out' : List ℕ) → k ≡ 3
-    → Answered (last_refusal t 3 p (length out)) t 3 p w out a w' out' → Answered (last_refusal t k p (length out)) t k p w out a w' out'
-mesh_kind t k p w out a w' out' q = subst (λ (j : ℕ). Answered (last_refusal t j p (length out)) t j p w out a w' out') (sym q)
+-- ---- the refusal of a plan that does not fit
 
--- ---- the verdict
+module _ (k f : ℕ) {p : Plan} {w : List ℕ} {v : Result ℕ Refusal} {w₁ : List ℕ} (of : f ≡ family k) (judged : Judged f p w v w₁)
+    (some : late_refusal (family k) p ≢ 0) where
+  found : v ≡ Err (numbered (late_refusal (family k) p) (characteristic p.rotation))
+  unfolding verdict_of
+  found = judged.answered ∙ ap (λ (g : ℕ). verdict_of g p) of ∙ rw (ne_eqb (late_refusal (family k) p) 0 some)
 
-module _ (k f : ℕ) {p : Plan} {w : List ℕ} {v : Verdict} {w₁ : List ℕ} (of : f ≡ family k) (judged : Judged f p w v w₁) where
-  -- the verdict of this form is the plan's
-  found : {u : Verdict} → v ≡ u → u ≡ verdict_of (family k) p
-  found z = sym z ∙ judged.answered ∙ ap (λ (g : ℕ). verdict_of g p) of
+  pub told_err : IsErr v
+  told_err = rw found
 
-  pub told_refused : {r : ℕ} → v ≡ verdict.Refused r → Refused k p w (written.Refused r) w₁
-  unfolding answer_of
-  told_refused z =
-      let (late, some, other) = verdict_refused (family k) p (found z) in
-      record { answered = λ t. rw (some, other) (ap written.Refused (sym late)); kept = judged.kept }
-
-  pub told_curved : {x : ℤ} → v ≡ verdict.NotPlanar x → Refused k p w (written.NotPlanar x) w₁
-  unfolding answer_of
-  told_curved z =
-      let (late, e) = verdict_curved (family k) p (found z) in
-      record { answered = λ t. rw late (ap written.NotPlanar e); kept = judged.kept }
-
-  pub told_fits : {n : ℕ} → v ≡ verdict.Fits n → late_refusal (family k) p ≡ 0
-  told_fits z = (verdict_fits (family k) p (found z)).0
+  pub told_refused : {e : Refusal} → v ≡ Err e → Refused k p w e w₁
+  told_refused {e} z = record { answered = (let q = sym z ∙ found in cc); kept = judged.kept }

@@ -2,7 +2,7 @@ use mir.Facts.{to_z-of_z}
 use mir.Syntax.{w32}
 use mir.Val.{SFits}
 use native.Mathlib.Omega.{arith}
-use Rattle.std.proofs.lemmas.Result.{err_from_is_err_and}
+use Rattle.model.proofs.Numbered.{passed_on}
 use Rattle.characteristic.proofs.Signed.{bits_is, bits_not}
 use Rattle.fitting.proofs.Cases.{Looked, parted, Counted, few_counts, curved, flat_refused, flat_fits}
 use Rattle.fitting.proofs.judge.Goals as goal
@@ -37,8 +37,7 @@ returns-then-x-ne2 c =
 pub returns-in_err-local : goal.returns-in_err-local
 returns-in_err-local c =
     let at = goal.at.returns-in_err-local c in
-    let p = err_from_is_err_and c.from_residual.result c.from_residual.ensures.1 in
-    rw (p.1, p.2)
+    rw (passed_on _ _ c.from_residual.ensures)
     (flat_refused (counted at.After-name-faces) c.euler-x.ensures
     (bits_is c.euler-x.result 2 (omega arith) (small at.After-euler-x) c.if-x-ne2.false) c.in_err-local.ensures)
 

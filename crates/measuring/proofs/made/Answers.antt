@@ -1,14 +1,13 @@
 use mathlib.Core.Path.{sym}
-use Rattle.std.proofs.lemmas.Result.{err_from_is_err_and}
 use Rattle.model.proofs.Fitness.{count_parts}
+use Rattle.model.proofs.Numbered.{passed_on}
 use Rattle.measure_checks.proofs.Refusing.{early_parts}
 use Rattle.measuring.proofs.Making.{turned_away, judged_refused, to_copy, made}
 use Rattle.measuring.proofs.made.Goals as goal
 
 pub returns-in_err-early : goal.returns-in_err-early
 returns-in_err-early c =
-    let p = err_from_is_err_and c.from_residual.result c.from_residual.ensures.1 in
-    rw (p.1, p.2) (turned_away c.in_err-early.ensures)
+    rw (passed_on _ _ c.from_residual.ensures) (turned_away c.in_err-early.ensures)
 
 pub judge-requires : goal.judge-requires
 judge-requires c =
@@ -17,8 +16,7 @@ judge-requires c =
 
 pub returns-in_err-faces : goal.returns-in_err-faces
 returns-in_err-faces c =
-    let p = err_from_is_err_and c.from_residual-in_err-faces.result c.from_residual-in_err-faces.ensures.1 in
-    rw (p.1, p.2) (judged_refused (record { passed = sym c.in_ok-early.ensures; judged = c.in_err-faces.ensures }))
+    rw (passed_on _ _ c.from_residual-in_err-faces.ensures) (judged_refused (record { passed = sym c.in_ok-early.ensures; judged = c.in_err-faces.ensures }))
 
 pub copied-requires : goal.copied-requires
 copied-requires c = to_copy (record { passed = sym c.in_ok-early.ensures; judged = c.in_ok-faces.ensures })
