@@ -1,4 +1,4 @@
-use Rattle.std.proofs.Common.{arith, rules}
+use Rattle.std.proofs.Common.{add-one, arith, rules}
 use Rattle.numbering.proofs.Whole.{clear_ground, clear_marks, walking_start, finished}
 use Rattle.numbering.proofs.walk.Goals as goal
 
@@ -10,6 +10,9 @@ round-requires c =
 
 pub loop-i-init : goal.loop-i-init
 loop-i-init c = let p = c.requires in walking_start _ _ p.0 p.1 p.4 _ c.fill.ensures _ p.2 p.3 _ c.round.ensures
+
+pub loop-i-preserved : goal.loop-i-preserved
+loop-i-preserved c = rw add-one c.visit-s.ensures
 
 pub returns : goal.returns
 returns c = record {
