@@ -1,6 +1,7 @@
 -- Each way out of decoding a record whose head passes, at plain values.
 --
---   checked_so           where no refusal of a record but 8 and 13 holds
+--   checked_so, checked_none   where no refusal of a record but 8 and 13 holds, from that fact and to it
+--   read_so m x          what reading answers where there is a plan
 --   face_asked           where a word is found, what testing the outside asks
 --   core_read, core_unsound, core_unreadable   the ways out of a record of a kind other than 3
 --   planned_judged       where the plan stands in the work area, there is one
@@ -24,12 +25,12 @@ use Rattle.model.specs.declared.ReadBack.{ReadBack}
 use Rattle.model.specs.Numbers.{all_below, is_permutation}
 use Rattle.model.specs.Map.{face_of, dart_count_fits}
 use Rattle.model.specs.Traversal.{Letter}
-use Rattle.model.specs.Shelf.{kind_of, edges_of, passes, head_refusals}
+use Rattle.model.specs.Shelf.{kind_of, edges_of, head_refusals}
 use Rattle.model.specs.Refusals.{number_of_refusal}
-use Rattle.model.specs.Calls.{table_refused, record_refusals, record_refusal}
+use Rattle.model.specs.Calls.{record_refusals, record_refusal}
 use Rattle.model.proofs.Booleans.{and_left, and_right, both}
 use Rattle.model.proofs.Numbered.{refused_so, refusal_some}
-use Rattle.model.proofs.Reading.{record_clear}
+use Rattle.model.proofs.Reading.{record_clear, clear_record}
 use Rattle.model.proofs.Refusals.{first_lacks}
 use Rattle.words.specs.Word.{found, rotation_of, rooted}
 use Rattle.lists.specs.Coder.{outside_of}
@@ -47,15 +48,19 @@ checked_so t h r n none says =
     let c = record_clear t r n (sym none) in
     record { stands = c.stands; passed = c.passed; room = c.room; kind = says.0; edges = says.1 }
 
-abbrev read_so : ℕ → ℕ → Result ReadBack Refusal
+pub checked_none : (t : Table) (h : Head) (r : List ℕ) (n : ℕ) → Checked t h r n → record_refusal t r n ≡ 0
+checked_none t h r n k = clear_record t r n (record { stands = k.stands; passed = k.passed; room = k.room })
+
+abbrev pub read_so : ℕ → ℕ → Result ReadBack Refusal
 read_so m x = Ok (record { edges = m; outside = x })
 
 -- w is the work area that decoding leaves
-module _ (t : Table) (stands : table_refused t ≡ false) (r : List ℕ) (other : kind_of r ≢ 3) (b : Bool) (w : List ℕ) (decoded : Answered (decode_record t.inverse r) (2 * edges_of r) b w) where
+module _ (t : Table) (h : Head) (r : List ℕ) (n : ℕ) (k : Checked t h r n) (bytes : all_below 256 r ≡ true) (other : kind_of r ≢ 3) (b : Bool) (w : List ℕ)
+    (decoded : Answered (decode_record t.inverse r) (2 * edges_of r) b w) where
   pub core_unreadable : b ≡ false → Planned t r (Err NoFitPlan) w
-  core_unreadable e = no_plan (none_has t stands r other (decoded.none_found e)) refl
+  core_unreadable e = no_plan (none_has t k.stands r other (decoded.none_found e)) refl
 
-  module _ (passed : passes r ≡ true) (bytes : all_below 256 r ≡ true) (e : b ≡ true) where
+  module _ (e : b ≡ true) where
     abbrev v : List Letter
     v = (decoded.word_found e).0
 
@@ -66,31 +71,31 @@ module _ (t : Table) (stands : table_refused t ≡ false) (r : List ℕ) (other 
     in_work = (decoded.word_found e).2
 
     long : length v ≡ 2 * edges_of r
-    long = (decodes_map t stands r other v passed bytes is_word).2
+    long = (decodes_map t k.stands r other v k.passed bytes is_word).2
 
     -- what the search for a lower dart asks
-    pub face_asked : (m : ℕ) → m ≡ edges_of r → (dart_count_fits (2 * m) ≡ true) × (is_permutation (region 0 (2 * m) w) ≡ true)
-    face_asked m m-is =
-        let (entries, count, same) = decodes_map t stands r other v passed bytes is_word in
-        (rw (m-is, ← same) count, rw (m-is, in_work) entries)
+    pub face_asked : (dart_count_fits (2 * h.edges) ≡ true) × (is_permutation (region 0 (2 * h.edges) w) ≡ true)
+    face_asked =
+        let (entries, count, same) = decodes_map t k.stands r other v k.passed bytes is_word in
+        (rw (k.edges, ← same) count, rw (k.edges, in_work) entries)
 
-    module _ (m x : ℕ) (m-is : m ≡ edges_of r) (x_is : x ≡ outside_of r) (c : Bool) (told : c ≡ (ltb x (2 * m) && eqb (face_of (region 0 (2 * m) w) x) x)) where
+    module _ (x : ℕ) (x_is : x ≡ outside_of r) (c : Bool) (told : c ≡ (ltb x (2 * h.edges) && eqb (face_of (region 0 (2 * h.edges) w) x) x)) where
       -- the test, and what it says of the record
       test : c ≡ (ltb (outside_of r) (2 * edges_of r) && eqb (face_of (rotation_of v) (outside_of r)) (outside_of r))
-      test = rw (m-is, x_is, in_work) at told
+      test = rw (k.edges, x_is, in_work) at told
 
-      pub core_read : c ≡ true → Planned t r (Ok (record { edges = m; outside = x })) w
+      pub core_read : c ≡ true → Planned t r (read_so h.edges x) w
       core_read so =
           let told-so = sym test ∙ so in
           let low = ltb-true (outside_of r) (2 * edges_of r) (and_left (ltb (outside_of r) (2 * edges_of r)) _ told-so) in
           let sound : Sound r v = (omega (arith, long), eqb-true _ (outside_of r) (and_right (ltb (outside_of r) (2 * edges_of r)) _ told-so)) in
-          planned (given t stands r other v passed bytes is_word sound) (decodes_has t stands r other v passed bytes is_word sound)
-          (ap₂ read_so m-is (x_is ∙ sym (decodes_outside t stands r other v passed bytes is_word sound)))
-          (in_work ∙ sym (decodes_standard t stands r other v passed bytes is_word sound))
+          planned (given t k.stands r other v k.passed bytes is_word sound) (decodes_has t k.stands r other v k.passed bytes is_word sound)
+          (ap₂ read_so k.edges (x_is ∙ sym (decodes_outside t k.stands r other v k.passed bytes is_word sound)))
+          (in_work ∙ sym (decodes_standard t k.stands r other v k.passed bytes is_word sound))
 
       pub core_unsound : c ≡ false → Planned t r (Err NoFitPlan) w
-      core_unsound off = no_plan (λ p h.
-          let sound = has_sound t stands r other v is_word p h in
+      core_unsound off = no_plan (λ p has.
+          let sound = has_sound t k.stands r other v is_word p has in
           true≢false (sym (both (lt-ltb (outside_of r) (2 * edges_of r) (omega (arith, sound.0, long))) (eq-eqb _ (outside_of r) sound.1)) ∙ sym test ∙ off)) refl
 
 pub planned_judged : (t : Table) (r : List ℕ) (a : Result ReadBack Refusal) (w : List ℕ) → Planned t r a w → Judged t r a
@@ -104,13 +109,13 @@ verdict_early t r n e a q is =
 
 -- ---- a mesh
 
-module _ (t : Table) (stands : table_refused t ≡ false) (r : List ℕ) (three : kind_of r ≡ 3) (m : ℕ) (b : Bool) (w w' : List ℕ)
-    (spelt : Spelt (decode_mesh_record t.inverse r) m b w w') where
+module _ (t : Table) (h : Head) (r : List ℕ) (n : ℕ) (k : Checked t h r n) (three : kind_of r ≡ 3) (b : Bool) (w w' : List ℕ)
+    (spelt : Spelt (decode_mesh_record t.inverse r) h.edges b w w') where
   pub mesh_not_had : b ≡ false → Judged t r (Err NoFitPlan)
-  mesh_not_had e = not_had (mesh_none_has t stands r three (spelt.none_found e)) refl
+  mesh_not_had e = not_had (mesh_none_has t k.stands r three (spelt.none_found e)) refl
 
-  pub mesh_had : passes r ≡ true → all_below 256 r ≡ true → b ≡ true → m ≡ edges_of r → Judged t r (Ok (record { edges = m; outside = 0 }))
-  mesh_had passed bytes e m-is =
+  pub mesh_had : all_below 256 r ≡ true → b ≡ true → Judged t r (read_so h.edges 0)
+  mesh_had bytes e =
       let (v, is_word, word, long, there) = spelt.word_found e in
-      had (rooted (mesh_rotation v)) (mesh_decodes_has t stands r three v passed bytes is_word)
-      (ap₂ read_so m-is (sym (mesh_decodes_outside t stands r three v passed bytes is_word)))
+      had (rooted (mesh_rotation v)) (mesh_decodes_has t k.stands r three v k.passed bytes is_word)
+      (ap₂ read_so k.edges (sym (mesh_decodes_outside t k.stands r three v k.passed bytes is_word)))

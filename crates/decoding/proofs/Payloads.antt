@@ -4,12 +4,12 @@
 --   letters_asked, letters_answered   family 4: what reading its letters asks, and that it gives the answer
 --   labels_asked, labels_answered   another: the same of reading its tree bits and labels
 --   mesh_asked, mesh_decoded   kind 3: what reading the payload asks, and that its word is the record's
---   head_in, family_other   the head is within the record; of a kind other than 3 the family is not 3 either
---   payload_sized        it is as long as the payload of its family and size
+--   head_in              the head is within the record
+--   payload_asked        another kind: what decoding the payload asks
 --   record_decoded       the answer for the payload is the answer for the record
 use Prim.Native.Nat.{ℕ, ◌-◌, ◌*◌, ◌≤◌, ◌<◌}
 use native.Mathlib.Omega.{arith}
-use mathlib.Core.Path.{◌≡◌, refl, ap, ◌∙◌}
+use mathlib.Core.Path.{◌≡◌, refl, sym, ap, ◌∙◌}
 use mathlib.Core.Logic.{◌≢◌}
 use mathlib.Core.Bool.{Bool, true, false}
 use mathlib.Core.List.{List}
@@ -18,12 +18,14 @@ use lib.Seq.{take_all}
 use borrow.Author.Tests.{ne_eqb}
 use mir.Syntax.{w8}
 use mir.Val.{Fits}
+use Rattle.model.specs.declared.Table.{Table}
 use Rattle.model.specs.Numbers.{all_below}
 use Rattle.model.specs.Map.{stores_outside, family}
 use Rattle.model.specs.Record.{bytes_for, head_length}
-use Rattle.model.specs.Shelf.{word16, kind_of, edges_of, passes}
+use Rattle.model.specs.Shelf.{word16, kind_of, edges_of}
 use Rattle.model.proofs.Permutations.{below_all, all_below_lem}
 use Rattle.model.proofs.Heads.{family_four, family_not_three, passes_facts}
+use Rattle.heads.specs.declared.Head.{Head}
 use Rattle.record_lengths.proofs.Head.{head_plain}
 use Rattle.named_outside.proofs.Faces.{outer_head}
 use Rattle.packing.specs.Payload.{has_labels, Sized}
@@ -33,6 +35,7 @@ use Rattle.packing.proofs.Labelled.{labelled_other}
 use Rattle.packing.proofs.Headed.{passes_sized}
 use Rattle.coding.specs.Payloads.{decode_labelled, decode_letters, decode_payload, decode_record, decode_mesh, decode_mesh_record}
 use Rattle.builder.specs.Decoded.{Answered}
+use Rattle.decoding.specs.Planned.{Checked}
 
 pub all_bytes : (r : List ℕ) → ((i : ℕ) → Fits w8 (get_or r i 0)) → all_below 256 r ≡ true
 all_bytes r h = all_below_lem 256 r (λ i l. omega (arith, h i))
@@ -58,15 +61,14 @@ module _ (inv : List ℕ) (f m : ℕ) (ps : List ℕ) (b : Bool) (w : List ℕ) 
 
 -- ---- a mesh
 
-module _ (r : List ℕ) (passed : passes r ≡ true) (m : ℕ) (m-is : m ≡ edges_of r) where
+module _ (t : Table) (h : Head) (r : List ℕ) (n : ℕ) (k : Checked t h r n) where
   mesh_part : take (length r - 6) (drop 6 r) ≡ drop 6 r
   mesh_part = take_all (length r - 6) (drop 6 r) (let e = length-drop 6 r in omega arith)
 
-  pub mesh_asked : (n : ℕ) → all_below 256 r ≡ true → 32 * edges_of r ≤ n
-      → (1 ≤ m) × (m ≤ 4096) × (length (take (length r - 6) (drop 6 r)) < 65536) × (32 * m ≤ n)
+  pub mesh_asked : all_below 256 r ≡ true → (1 ≤ h.edges) × (h.edges ≤ 4096) × (length (take (length r - 6) (drop 6 r)) < 65536) × (32 * h.edges ≤ n)
   unfolding word16
-  mesh_asked n bytes room =
-      let f = passes_facts r passed in
+  mesh_asked bytes =
+      let f = passes_facts r k.passed in
       let some = f.some_edge in
       let few = f.few_edges in
       let field = f.length_field in
@@ -76,34 +78,38 @@ module _ (r : List ℕ) (passed : passes r ≡ true) (m : ℕ) (m-is : m ≡ edg
       let l = ap length mesh_part ∙ length-drop 6 r in
       (omega arith, omega arith, omega arith, omega arith)
 
-  pub mesh_decoded : (inv : List ℕ) → decode_mesh m (undone inv 3 m (take (length r - 6) (drop 6 r))) ≡ decode_mesh_record inv r
+  pub mesh_decoded : (inv : List ℕ) → decode_mesh h.edges (undone inv 3 h.edges (take (length r - 6) (drop 6 r))) ≡ decode_mesh_record inv r
   unfolding decode_mesh_record
-  mesh_decoded inv = rw (mesh_part, m-is)
+  mesh_decoded inv = rw (mesh_part, k.edges)
 
 -- ---- another kind
 
-module _ (r : List ℕ) (passed : passes r ≡ true) where
-  pub head_in : head_length (kind_of r) ≤ length r
+module _ (t : Table) (h : Head) (r : List ℕ) (n : ℕ) (k : Checked t h r n) (at : ℕ) (at-is : at ≡ head_length h.kind) where
+  at-of : at ≡ head_length (kind_of r)
+  at-of = at-is ∙ ap head_length k.kind
+
+  pub head_in : at ≤ length r
   head_in = go (stores_outside (kind_of r)) refl
     where
-      go : (b : Bool) → stores_outside (kind_of r) ≡ b → head_length (kind_of r) ≤ length r
-      go true s = let h = outer_head r passed s in omega arith
-      go false s = let h = head_plain (kind_of r) s in let l = (passes_facts r passed).whole_head in omega arith
+      go : (b : Bool) → stores_outside (kind_of r) ≡ b → at ≤ length r
+      go true s = let o = outer_head r k.passed s in let e = at-of in omega arith
+      go false s = let p = head_plain (kind_of r) s in let l = (passes_facts r k.passed).whole_head in let e = at-of in omega arith
 
-  pub family_other : kind_of r ≢ 3 → family (kind_of r) ≢ 3
-  family_other = family_not_three (kind_of r) (passes_facts r passed).kind
-
-  module _ (f m at : ℕ) (f-is : f ≡ family (kind_of r)) (m-is : m ≡ edges_of r) (at-is : at ≡ head_length (kind_of r)) where
+  module _ (f : ℕ) (f-is : f ≡ family h.kind) where
     abbrev part : List ℕ
     part = take (length r - at) (drop at r)
 
     part_is : part ≡ drop (head_length (kind_of r)) r
-    part_is = rw at-is (take_all (length r - head_length (kind_of r)) (drop (head_length (kind_of r)) r) (let e = length-drop (head_length (kind_of r)) r in omega arith))
+    part_is = take_all (length r - at) (drop at r) (let e = length-drop at r in omega arith) ∙ ap (λ (i : ℕ). drop i r) at-of
 
-    pub payload_sized : Sized f m part
-    payload_sized = rw (part_is, f-is, m-is) (passes_sized r passed)
+    f-of : f ≡ family (kind_of r)
+    f-of = f-is ∙ ap family k.kind
 
-    pub record_decoded : (inv : List ℕ) (b : Bool) (w : List ℕ) → Answered (decode_payload f m (undone inv f m part)) (2 * m) b w
+    pub payload_asked : kind_of r ≢ 3 → Sized f h.edges part × (f ≢ 3)
+    payload_asked other =
+        (rw (part_is, f-of, k.edges) (passes_sized r k.passed), λ three. family_not_three (kind_of r) (passes_facts r k.passed).kind other (sym f-of ∙ three))
+
+    pub record_decoded : (inv : List ℕ) (b : Bool) (w : List ℕ) → Answered (decode_payload f h.edges (undone inv f h.edges part)) (2 * h.edges) b w
         → Answered (decode_record inv r) (2 * edges_of r) b w
     unfolding decode_record
-    record_decoded inv b w a = rw (part_is, f-is, m-is) at a
+    record_decoded inv b w a = rw (part_is, f-of, k.edges) at a

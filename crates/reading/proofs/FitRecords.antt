@@ -13,9 +13,10 @@ use mathlib.Core.Path.{◌≡◌, sym, ap, subst, ◌∙◌}
 use mathlib.Core.Bool.{true, false}
 use mathlib.Core.List.{List}
 use lib.ListN.{length}
+use Rattle.std.specs.Prelude.{Result}
 use Rattle.model.specs.declared.Table.{Table}
+use Rattle.model.specs.declared.Refusal.{Refusal}
 use Rattle.model.specs.declared.ReadBack.{ReadBack}
-use Rattle.model.specs.declared.ReadBack.TheVariants as readback
 use Rattle.model.specs.Numbers.{all_below}
 use Rattle.model.specs.Map.{Plan, edges, fit}
 use Rattle.model.specs.Traversal.{standard_rotation, standard_plan}
@@ -28,6 +29,7 @@ use Rattle.words.specs.Word.{rooted}
 use Rattle.lists.specs.Coder.{outside_of}
 use Rattle.lists.proofs.Records as coded
 use Rattle.coding.proofs.Records.{coder_of}
+use Rattle.decoding.proofs.Outcomes.{read_so}
 
 module _ (t : Table) (r : List ℕ) (p : Plan) (has : HasRecord t r p) where
   pub has_edges : edges_of r ≡ edges p.rotation
@@ -75,14 +77,14 @@ module _ (t : Table) (k : ℕ) (p : Plan) (fits : fit k p ≡ true) where
 pub clear_stands : (t : Table) (r : List ℕ) (w o : ℕ) → read_refusal t r w o ≡ 0 → table_refused t ≡ false
 clear_stands t r w o e = (record_clear t r w (read_clear t r w o e).0).stands
 
-pub reads_one : (t : Table) (r : List ℕ) (w : ℕ) (out : List ℕ) (a b : ReadBack) (o o' : List ℕ) → Reads t r w out a o → Reads t r w out b o' → (a ≡ b) × (o ≡ o')
+pub reads_one : (t : Table) (r : List ℕ) (w : ℕ) (out : List ℕ) (a b : Result ReadBack Refusal) (o o' : List ℕ) → Reads t r w out a o → Reads t r w out b o' → (a ≡ b) × (o ≡ o')
 unfolding standard_plan
 reads_one t r w out a b o o' (refused d e f) (refused d' e' f') = (e ∙ sym e', f ∙ sym f')
 reads_one t r w out a b o o' (refused d e f) (read z q g e' f') = absurd (d z)
 reads_one t r w out a b o o' (refused d e f) (unreadable z never e' f') = absurd (d z)
 reads_one t r w out a b o o' (read z p h e f) (refused d e' f') = absurd (d z)
 reads_one t r w out a b o o' (read z p h e f) (read z' q g e' f') = (
-  e ∙ ap (readback.Edges (edges_of r)) (one_outside t (clear_stands t r w (length out) z) r q p g h) ∙ sym e',
+  e ∙ ap (read_so (edges_of r)) (one_outside t (clear_stands t r w (length out) z) r q p g h) ∙ sym e',
   f ∙ ap (λ (rot : List ℕ). front rot out) (one_standard t (clear_stands t r w (length out) z) r q p g h) ∙ sym f',
 )
 reads_one t r w out a b o o' (read z p h e f) (unreadable z' never e' f') = absurd (never p h)

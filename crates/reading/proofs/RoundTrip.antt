@@ -16,11 +16,10 @@ use lib.Dec.{ltb}
 use lib.ListN.{length, take, drop}
 use lib.Seq.{take_at}
 use borrow.Author.Tests.{lt-ltb, le-ltb, eq-eqb}
+use Rattle.std.specs.Prelude.{Result, Ok}
 use Rattle.model.specs.declared.Table.{Table}
-use Rattle.model.specs.declared.Written.{Written}
-use Rattle.model.specs.declared.Written.TheVariants as written
+use Rattle.model.specs.declared.Refusal.{Refusal}
 use Rattle.model.specs.declared.ReadBack.{ReadBack}
-use Rattle.model.specs.declared.ReadBack.TheVariants as readback
 use Rattle.model.specs.Numbers.{first_refusal}
 use Rattle.model.specs.Map.{Plan, edges, fit}
 use Rattle.model.specs.Traversal.{standard_rotation, standard_plan}
@@ -33,14 +32,14 @@ use Rattle.model.proofs.Outside.{with_outside}
 use Rattle.model.proofs.Reading.{clear_record, clear_read}
 use Rattle.words.specs.Word.{rooted}
 use Rattle.lists.proofs.Calls.{accepted_stands, accepted_fit, accepted_bytes}
-use Rattle.decoding.proofs.Answers.{not_both}
+use Rattle.decoding.proofs.Outcomes.{read_so}
 use Rattle.reading.proofs.FitRecords.{record_length_lem, record_kind, own_record, one_standard, one_outside, read_plan, clear_stands, has_edges, has_passes}
 
 -- ---- reading what writing wrote
 
-module _ (t : Table) (stands : table_refused t ≡ false) (r : List ℕ) (p : Plan) (has : HasRecord t r p) (work out : List ℕ) (answer : ReadBack) (work' out' : List ℕ) where
+module _ (t : Table) (stands : table_refused t ≡ false) (r : List ℕ) (p : Plan) (has : HasRecord t r p) (work out : List ℕ) (answer : Result ReadBack Refusal) (work' out' : List ℕ) where
   abbrev Given : Type 0
-  Given = (answer ≡ readback.Edges (edges p.rotation) (outside_read (kind_of r) p)) × (out' ≡ front (standard_plan p).rotation out)
+  Given = (answer ≡ Ok (record { edges = edges p.rotation; outside = outside_read (kind_of r) p })) × (out' ≡ front (standard_plan p).rotation out)
 
   -- a call with room reads the record of a fit plan
   pub read_record : ReadCall t r work out answer work' out' → 32 * edges p.rotation ≤ length work → 2 * edges p.rotation ≤ length out → Given
@@ -56,14 +55,14 @@ module _ (t : Table) (stands : table_refused t ≡ false) (r : List ℕ) (p : Pl
       go : Reads t r (length work) out answer out' → Given
       go (refused d a o) = absurd (d clear)
       go (read e q g a o) = (
-        a ∙ ap₂ readback.Edges (has_edges t r p has) (one_outside t stands r p q has g),
+        a ∙ ap₂ read_so (has_edges t r p has) (one_outside t stands r p q has g),
         o ∙ ap (λ (rot : List ℕ). front rot out) (one_standard t stands r p q has g),
       )
       go (unreadable e never a o) = absurd (never p has)
 
-module _ (t : Table) (k : ℕ) (p : Plan) (w o : List ℕ) (n : ℕ) (w' o' : List ℕ) (wrote : Wrote t k p w o (written.Length n) w' o') where
+module _ (t : Table) (k : ℕ) (p : Plan) (w o : List ℕ) (n : ℕ) (w' o' : List ℕ) (wrote : Wrote t k p w o (Ok n) w' o') where
   call : Writing
-  call = record { kind = k; plan = p; work = w; output = o; answer = written.Length n; work_after = w'; output_after = o' }
+  call = record { kind = k; plan = p; work = w; output = o; answer = Ok n; work_after = w'; output_after = o' }
 
   accepted : is_accepted call ≡ true
   unfolding is_accepted call
@@ -88,11 +87,11 @@ module _ (t : Table) (k : ℕ) (p : Plan) (w o : List ℕ) (n : ℕ) (w' o' : Li
   pub wrote_has : HasRecord t (take n o') p
   wrote_has = subst (λ (s : List ℕ). HasRecord t s p) (sym wrote_bytes) (own_record t k p wrote_fit)
 
-  pub read_written : (work out : List ℕ) (answer : ReadBack) (work' out' : List ℕ) → ReadCall t (take n o') work out answer work' out'
+  pub read_written : (work out : List ℕ) (answer : Result ReadBack Refusal) (work' out' : List ℕ) → ReadCall t (take n o') work out answer work' out'
       → 32 * edges p.rotation ≤ length work → 2 * edges p.rotation ≤ length out
-      → (answer ≡ readback.Edges (edges p.rotation) (outside_read k p)) × (out' ≡ front (standard_plan p).rotation out)
+      → (answer ≡ Ok (record { edges = edges p.rotation; outside = outside_read k p })) × (out' ≡ front (standard_plan p).rotation out)
   read_written work out answer work' out' c h l =
-      subst (λ (j : ℕ). (answer ≡ readback.Edges (edges p.rotation) (outside_read j p)) × (out' ≡ front (standard_plan p).rotation out))
+      subst (λ (j : ℕ). (answer ≡ Ok (record { edges = edges p.rotation; outside = outside_read j p })) × (out' ≡ front (standard_plan p).rotation out))
       (ap kind_of wrote_bytes ∙ record_kind t k p wrote_fit) (read_record t wrote_stands (take n o') p wrote_has work out answer work' out' c h l)
 
 -- ---- writing what reading gave
@@ -129,10 +128,10 @@ fit_accepted t k p w o stands fits h l =
     late true = refl
     late false = refl
 
-module _ (t : Table) (stands : table_refused t ≡ false) (k : ℕ) (p : Plan) (fits : fit k p ≡ true) (w o : List ℕ) (answer : Written) (w' o' : List ℕ) (wrote : Wrote t k p w o answer w' o') where
+module _ (t : Table) (stands : table_refused t ≡ false) (k : ℕ) (p : Plan) (fits : fit k p ≡ true) (w o : List ℕ) (answer : Result ℕ Refusal) (w' o' : List ℕ) (wrote : Wrote t k p w o answer w' o') where
   -- a call with room writes the record
   pub write_fit : 32 * edges p.rotation ≤ length w → length (record_of t k p) ≤ length o
-      → (answer ≡ written.Length (length (record_of t k p))) × (o' ≡ front (record_of t k p) o)
+      → (answer ≡ Ok (length (record_of t k p))) × (o' ≡ front (record_of t k p) o)
   unfolding write_answer answer_of written_output
   write_fit h l =
       let e = fit_accepted t k p (length w) (length o) stands fits h l in
@@ -142,22 +141,22 @@ module _ (t : Table) (stands : table_refused t ≡ false) (k : ℕ) (p : Plan) (
 abbrev pub plan_in : ℕ → ℕ → List ℕ → Plan
 plan_in m x out = with_outside (rooted (take (2 * m) out)) x
 
-module _ (t : Table) (r work out : List ℕ) (m x : ℕ) (work' out' : List ℕ) (call : ReadCall t r work out (readback.Edges m x) work' out') where
+module _ (t : Table) (r work out : List ℕ) (m x : ℕ) (work' out' : List ℕ) (call : ReadCall t r work out (Ok (record { edges = m; outside = x })) work' out') where
   stands : table_refused t ≡ false
   stands = go call.outcome
     where
-      go : Reads t r (length work) out (readback.Edges m x) out' → table_refused t ≡ false
-      go (refused d a o) = absurd (not_both m x _ a)
-      go (unreadable e never a o) = absurd (not_both m x _ a)
+      go : Reads t r (length work) out (Ok (record { edges = m; outside = x })) out' → table_refused t ≡ false
+      go (refused d a o) = cc
+      go (unreadable e never a o) = cc
       go (read e p has a o) = clear_stands t r (length work) (length out) e
 
   pub given_plan : (edges_of r ≡ m) × HasRecord t r (plan_in m x out')
   unfolding front standard_plan
   given_plan = go call.outcome
     where
-      go : Reads t r (length work) out (readback.Edges m x) out' → (edges_of r ≡ m) × HasRecord t r (plan_in m x out')
-      go (refused d a o) = absurd (not_both m x _ a)
-      go (unreadable e never a o) = absurd (not_both m x _ a)
+      go : Reads t r (length work) out (Ok (record { edges = m; outside = x })) out' → (edges_of r ≡ m) × HasRecord t r (plan_in m x out')
+      go (refused d a o) = cc
+      go (unreadable e never a o) = cc
       go (read e p has a o) = (same, subst (HasRecord t r) (sym given) back)
         where
           same : edges_of r ≡ m
@@ -178,8 +177,8 @@ module _ (t : Table) (r work out : List ℕ) (m x : ℕ) (work' out' : List ℕ)
           given = ap₂ (λ (rot : List ℕ) (o : ℕ). with_outside (rooted rot) o)
               (ap (take (2 * m)) o ∙ take_at (standard_rotation p) (drop (length (standard_rotation p)) out) (2 * m) size) (ap outside_of_read a)
 
-  pub written_read : (w o : List ℕ) (answer : Written) (w' o' : List ℕ) → Wrote t (kind_of r) (plan_in m x out') w o answer w' o'
-      → 32 * m ≤ length w → length r ≤ length o → (answer ≡ written.Length (length r)) × (o' ≡ front r o)
+  pub written_read : (w o : List ℕ) (answer : Result ℕ Refusal) (w' o' : List ℕ) → Wrote t (kind_of r) (plan_in m x out') w o answer w' o'
+      → 32 * m ≤ length w → length r ≤ length o → (answer ≡ Ok (length r)) × (o' ≡ front r o)
   written_read w o answer w' o' wrote h l =
       let q = plan_in m x out' in
       let has = given_plan.1 in
@@ -187,4 +186,4 @@ module _ (t : Table) (r work out : List ℕ) (m x : ℕ) (work' out' : List ℕ)
       let same = given_plan.0 in
       let size : length (record_of t (kind_of r) q) ≡ length r = ap length has.1 in
       let done = write_fit t stands (kind_of r) q has.0 w o answer w' o' wrote (omega arith) (omega arith) in
-      (done.0 ∙ ap written.Length size, done.1 ∙ ap (λ (b : List ℕ). front b o) has.1)
+      (done.0 ∙ ap Ok size, done.1 ∙ ap (λ (b : List ℕ). front b o) has.1)

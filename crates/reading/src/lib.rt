@@ -2,68 +2,70 @@
 
 // Reading, the call: any bytes come back as the plan in its standard numbering, or as one refusal. It tests the output's room between the refusals of the record
 // and 13, copies the plan out and clears the work area; how a record is decoded is not known here.
-ghost use Rattle.std.specs.Prelude.{◌≡◌, true, ◌*◌, ◌≤◌, length};
-ghost use Rattle.model.specs.Shelf.{kind_of, edges_of, passes};
-ghost use Rattle.model.specs.Calls.{ReadCall};
-ghost use Rattle.decoding.specs.Planned.{Handed, Inverse};
-ghost use Rattle.reading.specs.Planned.{MeshUnder, ReadsUnder};
+ghost use Rattle.std.specs.Prelude.{◌≡◌, ◌*◌, ◌≤◌, length};
+ghost use Rattle.model.specs.Shelf.{kind_of, edges_of};
+ghost use Rattle.model.specs.Calls.{Reads, ReadCall};
+ghost use Rattle.decoding.specs.Planned.{Checked};
+ghost use Rattle.reading.specs.Planned.{MeshPlanned};
 
-use model::{ReadBack, Table};
+use heads::Head;
+use model::{ReadBack, Refusal, Table};
 
 // The standard plan of a record of kind 3 whose head passes, in the output, or 13. The work area is not cleared.
-fn read_mesh(inverse: [u8; 256], record: &[u8], w: &mut [u16], out: &mut [u16]) -> ReadBack
-    requires { Inverse inverse × (passes «record».now ≡ true) × (kind_of «record».now ≡ 3) × (32 * edges_of «record».now ≤ length w.old)
-        × (2 * edges_of «record».now ≤ length out.old) }
-    ensures { MeshUnder inverse «record».now out.old result out.new }
+fn read_mesh(
+    table: &Table,
+    head: Head,
+    record: &[u8],
+    w: &mut [u16],
+    out: &mut [u16],
+) -> Result<ReadBack, Refusal>
+    requires checked { Checked table.now head «record».now (length w.old) }
+    requires mesh { kind_of «record».now ≡ 3 }
+    requires room { 2 * edges_of «record».now ≤ length out.old }
+    ensures { MeshPlanned table.now «record».now out.old result out.new }
 {
-    let m = heads::field(record, 4);
-    let found = mesh_reading::read(&record[6..], &inverse, m as usize, w, out);
+    let found = mesh_reading::read(&record[6..], &table.inverse, head.edges as usize, w, out);
     if !found {
-        return ReadBack::Refused(13);
+        return Err(Refusal::NoFitPlan);
     }
-    ReadBack::Edges(m, 0)
+    Ok(ReadBack {
+        edges: head.edges,
+        outside: 0,
+    })
 }
 
 // The refusals of the record, 8, then 13, then the plan to the output.
 fn read_out(
-    loaded: bool,
-    inverse: [u8; 256],
+    table: &Table,
     record: &[u8],
     work: &mut [u16],
     out: &mut [u16],
-) -> ReadBack
-    requires { Handed loaded inverse }
-    ensures { ReadsUnder loaded inverse «record».now (length work.old) out.old result out.new }
+) -> Result<ReadBack, Refusal>
+    ensures { Reads table.now «record».now (length work.old) out.old result out.new }
 {
-    let e = read_checks::refusal(loaded, record, work.len());
-    if e != 0 {
-        return ReadBack::Refused(e);
-    }
-    let m = heads::field(record, 4) as usize;
+    let head = read_checks::checked(table, record, work.len())?;
+    let m = head.edges as usize;
     if out.len() < 2 * m {
-        return ReadBack::Refused(8);
+        return Err(Refusal::ShortOutput);
     }
-    if heads::field(record, 2) == 3 {
-        return read_mesh(inverse, record, work, out);
+    if head.kind == 3 {
+        return read_mesh(table, head, record, work, out);
     }
-    match decoding::read_core(inverse, record, work) {
-        ReadBack::Edges(edges, x) => {
-            work::copy_front(work, 2 * m, out);
-            return ReadBack::Edges(edges, x);
-        }
-        ReadBack::Refused(r) => {
-            return ReadBack::Refused(r);
-        }
-    }
+    let back = decoding::read_core(table, head, record, work)?;
+    work::copy_front(work, 2 * m, out);
+    Ok(back)
 }
 
 // "Reading returns m, with the standard plan in the first 2m entries", and "the lowest dart of the outside area"; the work area is zeros on every return.
-pub fn read(table: Table, record: &[u8], work: &mut [u16], out: &mut [u16]) -> ReadBack
+pub fn read(
+    table: Table,
+    record: &[u8],
+    work: &mut [u16],
+    out: &mut [u16],
+) -> Result<ReadBack, Refusal>
     ensures { ReadCall table «record».now work.old out.old result work.new out.new }
 {
-    let loaded = table_test::is_loaded(table);
-    let inverse = table.inverse;
-    let r = read_out(loaded, inverse, record, work, out);
+    let r = read_out(&table, record, work, out);
     work::clear(work);
     r
 }

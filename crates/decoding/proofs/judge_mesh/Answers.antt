@@ -17,24 +17,21 @@ slice_bounds-spell-start c = let h = passes_long _ c.requires.checked.passed in 
 
 pub spell-found-requires : goal.spell-found-requires
 spell-found-requires c =
-    let k = c.requires.checked in
-    let (some, few, short, room) = mesh_asked _ k.passed _ k.edges _ (all_bytes _ c.type_inv.«record») k.room in
+    let (some, few, short, room) = mesh_asked _ _ _ _ c.requires.checked (all_bytes _ c.type_inv.«record») in
     (omega arith, some, few, short, room)
 
 -- what is spelt of the payload is spelt of the record
 spelt : (c : After-spell-found) → Spelt (decode_mesh_record c.args.table.now.inverse c.args.«record».now) c.args.head.edges c.spell-found.result c.args.w.now c.spell-found.new.w
 spelt c =
-    let k = c.requires.checked in
     subst (λ (v : Found). Spelt v c.args.head.edges c.spell-found.result c.args.w.now c.spell-found.new.w)
-    (mesh_decoded _ k.passed _ k.edges c.args.table.now.inverse) c.spell-found.ensures
+    (mesh_decoded _ _ _ _ c.requires.checked c.args.table.now.inverse) c.spell-found.ensures
 
 pub returns-then-not-found : goal.returns-then-not-found
 returns-then-not-found c =
     let d = spelt (goal.at.returns-then-not-found c).After-spell-found in
-    mesh_not_had _ c.requires.checked.stands _ c.requires.mesh _ _ _ _ d c.if-not-found.true
+    mesh_not_had _ _ _ _ c.requires.checked c.requires.mesh _ _ _ d c.if-not-found.true
 
 pub returns : goal.returns
 returns c =
     let d = spelt (goal.at.returns c).After-spell-found in
-    let k = c.requires.checked in
-    mesh_had _ k.stands _ c.requires.mesh _ _ _ _ d k.passed (all_bytes _ c.type_inv.«record») c.if-not-found.false k.edges
+    mesh_had _ _ _ _ c.requires.checked c.requires.mesh _ _ _ d (all_bytes _ c.type_inv.«record») c.if-not-found.false
