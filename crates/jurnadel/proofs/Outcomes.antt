@@ -60,7 +60,7 @@ measure_out rot work list a r n x work' list' m numbers =
     }
 
 pub shelve_out : (t : Table) (bytes work shelf : List ℕ) (used : ℕ) (a : Result Shelved Refusal) (r n used' : ℕ) (work' shelf' : List ℕ) → Stored t bytes work shelf used a work' shelf'
-    → (r ≡ number_of a) × (n ≡ record_number_of a) × (used' ≡ used_of_shelved used a)
+    → (r ≡ number_of a) × (n ≡ record_number_of_shelved a) × (used' ≡ used_of_shelved used a)
     → ShelveExport t bytes work shelf used r n used' work' shelf'
 shelve_out t bytes work shelf used a r n used' work' shelf' s numbers =
     record {
