@@ -2,23 +2,26 @@
 --
 --   Rounding rot o c w₀ w x  the area w while this goes on from w₀: x is the dart to be marked next
 --   rounding_start, rounding_step, rounding_end     before the first mark, one mark, and when x has one already
---   Around rot o c w₀ k w x  with o, k darts are marked, and the round was not back at o before; o gets its mark last
+--   Around rot o c w₀ w x    o gets its mark last, and the round comes back to it
 --   around_start, around_step, around_end           none but o, one more, and back at o
---   around_size, around_few  nothing is longer; where it is not back, not all darts are marked
+--   around_size              nothing is longer
+--   steps_to f o k x         how many steps lead from x to o, where there are no more than k
+--   around_falls             one less after each
 use mathlib.Core.Path.{◌≡◌, refl, sym, ap, ◌∙◌, subst}
 use mathlib.Core.Logic.{◌≢◌}
 use mathlib.Core.List.{List}
-use Prim.Native.Nat.{ℕ, ◌+◌, ◌≤◌, ◌<◌}
-use native.Mathlib.Nat.{zero-add}
+use mathlib.Core.Bool.{cond}
+use Prim.Native.Nat.{ℕ, zero, suc, ◌≤◌, ◌<◌}
+use native.Mathlib.Nat.{zero-add, le_of_lt}
 use native.Mathlib.Omega.{arith}
-use native.Mathlib.Numerals.{add-one}
+use lib.Dec.{eqb}
+use borrow.Author.Tests.{eq-eqb, ne_eqb}
 use lib.ListN.{length, get_or, set, drop, length-set}
 use lib.Seq.{get_or-set_same, set_comm, drop-set-lt}
 use Rattle.model.specs.Numbers.{iter}
 use Rattle.model.specs.Map.{next, vertex_of}
-use Rattle.orbits.proofs.Order.{le_split, lt_suc_split}
-use Rattle.orbits.proofs.Cycle.{iter_out}
-use Rattle.orbits.proofs.Sizes.{size_le, size_above}
+use Rattle.orbits.proofs.Order.{eq_split}
+use Rattle.orbits.proofs.Cycle.{first_back}
 use Rattle.orbits.proofs.Maps.{next_perm}
 use Rattle.work.specs.Area.{region}
 use Rattle.work.proofs.Regions.{length_region, getD-region, region_set}
@@ -30,11 +33,35 @@ pub record Rounding (rot : List ℕ) (o c : ℕ) (w₀ w : List ℕ) (x : ℕ) :
   pub rest : drop (length rot) w ≡ drop (length rot) w₀
   pub kept : length w ≡ length w₀
 
-pub record Around (rot : List ℕ) (o c : ℕ) (w₀ : List ℕ) (k : ℕ) (w : List ℕ) (x : ℕ) : Type 0 where
+pub record Around (rot : List ℕ) (o c : ℕ) (w₀ : List ℕ) (w : List ℕ) (x : ℕ) : Type 0 where
   pub rounding : Rounding rot o c w₀ (set w o c) x
-  pub some : 0 < k
-  pub at : x ≡ iter (next rot) k o
-  pub new : (j : ℕ) → 0 < j → j < k → iter (next rot) j o ≢ o
+  pub left : ℕ
+  pub back : iter (next rot) left x ≡ o
+  pub soon : left < length rot
+
+module _ (f : ℕ → ℕ) (o : ℕ) where
+  unfoldable pub steps_to : ℕ → ℕ → ℕ
+  steps_to zero x = zero
+  steps_to (suc k) x = cond (eqb x o) zero (suc (steps_to k (f x)))
+
+  steps_more : (k j x : ℕ) → iter f j x ≡ o → j ≤ k → steps_to (suc k) x ≡ steps_to k x
+  unfolding steps_to iter
+  steps_more zero zero x e l = rw (eq-eqb x o e) refl
+  steps_more zero (suc j) x e l = absurd (omega arith)
+  steps_more (suc k) zero x e l = rw (eq-eqb x o e) refl
+  steps_more (suc k) (suc j) x e l = eq_split x o
+      (λ q. rw (eq-eqb x o q) refl)
+      (λ ne. rw (ne_eqb x o ne) (ap suc (steps_more k j (f x) e (omega arith))))
+
+  steps_away : (k x : ℕ) → x ≢ o → steps_to (suc k) x ≡ suc (steps_to k (f x))
+  unfolding steps_to
+  steps_away k x ne = rw (ne_eqb x o ne) refl
+
+  steps_fall : (k j x : ℕ) → x ≢ o → iter f j x ≡ o → j ≤ k → steps_to k (f x) < steps_to k x
+  unfolding iter
+  steps_fall k zero x ne e l = absurd (ne e)
+  steps_fall zero (suc j) x ne e l = absurd (omega arith)
+  steps_fall (suc k) (suc j) x ne e l = omega (arith, steps_away k x ne, steps_more k j (f x) e (omega arith))
 
 module _ {rot : List ℕ} {o c : ℕ} {w₀ : List ℕ} (g : Ground rot w₀) (below : o < length rot) (some : 1 ≤ c)
     (blank : (z : ℕ) → z < length rot → vertex_of rot z ≡ vertex_of rot o → get_or w₀ z 0 ≡ 0) where
@@ -82,11 +109,13 @@ module _ {rot : List ℕ} {o c : ℕ} {w₀ : List ℕ} (g : Ground rot w₀) (b
 
   -- ---- by steps
 
-  pub around_start : Around rot o c w₀ 1 w₀ (next rot o)
+  pub around_start : Around rot o c w₀ w₀ (next rot o)
   unfolding iter
-  around_start = record { rounding = rounding_step rounding_start; some = omega arith; at = refl; new = λ j a b. absurd (omega arith) }
+  around_start =
+      let (q, few, back, first) = first_back n (next rot) (next_perm rot g.perm) o below in
+      record { rounding = rounding_step rounding_start; left = q; back = back; soon = few }
 
-  module _ {k : ℕ} {w : List ℕ} {x : ℕ} (s : Around rot o c w₀ k w x) where
+  module _ {w : List ℕ} {x : ℕ} (s : Around rot o c w₀ w x) where
     pub around_size : length w ≡ length w₀
     around_size = sym (length-set w o c) ∙ s.rounding.kept
 
@@ -96,18 +125,18 @@ module _ {rot : List ℕ} {o c : ℕ} {w₀ : List ℕ} (g : Ground rot w₀) (b
         omega arith)
 
     module _ (away : x ≢ o) where
-      pub around_few : k < n
-      around_few =
-          let all = size_le (next rot) n o in
-          let more = size_above n (next rot) (next_perm rot g.perm) o below k (λ j a b. le_split b
-          (λ e back. away (s.at ∙ ap (λ (i : ℕ). iter (next rot) i o) (sym e) ∙ back)) (s.new j a)) in
-          omega arith
+      pub around_falls : steps_to (next rot) o n (next rot x) < steps_to (next rot) o n x
+      around_falls = steps_fall (next rot) o n s.left x away s.back (le_of_lt s.soon)
 
-      pub around_step : Around rot o c w₀ (k + 1) (set w x c) (next rot x)
-      around_step = record {
-        rounding = subst (λ (u : List ℕ). Rounding rot o c w₀ u (next rot x)) (set_comm w o x c c (λ e. away (sym e))) (rounding_step s.rounding);
-        some = omega arith;
-        at = ap (next rot) s.at ∙ sym (iter_out (next rot) k o) ∙ ap (λ (j : ℕ). iter (next rot) j o) (sym (add-one k));
-        new = λ j a b. lt_suc_split {a = j} {b = k} (omega arith)
-            (λ e back. away (s.at ∙ ap (λ (i : ℕ). iter (next rot) i o) (sym e) ∙ back)) (s.new j a);
-      }
+      pub around_step : Around rot o c w₀ (set w x c) (next rot x)
+      unfolding iter
+      around_step = on s.left s.back s.soon
+        where
+          on : (j : ℕ) → iter (next rot) j x ≡ o → j < n → Around rot o c w₀ (set w x c) (next rot x)
+          on zero e l = absurd (away e)
+          on (suc j) e l = record {
+            rounding = subst (λ (u : List ℕ). Rounding rot o c w₀ u (next rot x)) (set_comm w o x c c (λ e. away (sym e))) (rounding_step s.rounding);
+            left = j;
+            back = e;
+            soon = omega arith;
+          }

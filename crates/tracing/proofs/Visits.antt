@@ -1,6 +1,5 @@
--- What one visit answers, for each way that it takes. The opposite of the dart that comes next is told as o.
+-- What one visit answers, for each way that it takes. The walk stands at position k, before the dart whose opposite is o.
 --
---   Met                  the walk stands at position k, before the dart whose opposite is o
 --   over_in, ranges, blank, up_range, end_range, has_waiting   what each step requires
 --   visited_down, visited_first, visited_up, visited_second    what it ensures
 --   unfit_first, unfit_up, unfit_second   the same where the walk ends
@@ -17,7 +16,7 @@ use Rattle.work.specs.Map.{WAITING}
 use Rattle.work.specs.Area.{stack}
 use Rattle.trace_steps.specs.declared.Trace.{Trace}
 use Rattle.trace_steps.specs.Steps.{Placed, down_on, WentDown, first_on, first_area, up_on, up_area, second_on, second_area, last_is}
-use Rattle.tracing.specs.declared.Step.TheVariants.{Goes, Unfit}
+use Rattle.std.specs.Prelude.{None, Some}
 use Rattle.tracing.specs.Tracing.{Tracing, Stepped}
 use Rattle.tracing.proofs.Declining.{loop_unsound, leaf_unsound, crossing_unsound}
 use Rattle.tracing.proofs.Stepping as stepping
@@ -46,25 +45,8 @@ leaf_left family a b q f = eqb-false a b (sym (ap (λ (c : Bool). cond c (eqb a 
 
 -- ---- a visit
 
-pub record Met (family : ℕ) (rot : List ℕ) (k : ℕ) (w : List ℕ) (s : Trace) (o : ℕ) : Type 0 where
-  pub traced : Tracing family rot k w s
-  pub within : k < length rot
-  pub away : 0 < k → s.dart ≢ s.root
-  pub over : o ≡ opposite s.dart
-
-module _ {family : ℕ} {rot : List ℕ} {k : ℕ} {w : List ℕ} {s : Trace} {o : ℕ} (met : Met family rot k w s o) where
-  abbrev g : Tracing family rot k w s
-  g = met.traced
-
-  abbrev here : k < length rot
-  here = met.within
-
-  abbrev on : 0 < k → s.dart ≢ s.root
-  on = met.away
-
-  abbrev is : o ≡ opposite s.dart
-  is = met.over
-
+module _ {family : ℕ} {rot : List ℕ} {k : ℕ} {w : List ℕ} {s : Trace} {o : ℕ} (g : Tracing family rot k w s) (here : k < length rot)
+    (on : 0 < k → s.dart ≢ s.root) (is : o ≡ opposite s.dart) where
   abbrev n : ℕ
   n = length rot
 
@@ -87,19 +69,19 @@ module _ {family : ℕ} {rot : List ℕ} {k : ℕ} {w : List ℕ} {s : Trace} {o
   blank e z h q = stepping.unmarked family rot k w s g here on (same ∙ e) z h (q ∙ ap (vertex_of rot) is)
 
   -- a step that goes on
-  going : (t t' : Trace) (w' : List ℕ) → t ≡ t' → t'.root ≡ s.root → Tracing family rot (suc k) w' t' → length w' ≡ length w → Stepped family rot k w s (Goes t) w'
+  going : (t t' : Trace) (w' : List ℕ) → t ≡ t' → t'.root ≡ s.root → Tracing family rot (suc k) w' t' → length w' ≡ length w → Stepped family rot k w s (Some t) w'
   unfolding Stepped
   going t t' w' e r tr l =
       (subst (Tracing family rot (suc k) w') (sym e) tr, ap (λ (u : Trace). u.root) e ∙ r, l)
 
-  pub visited_down : mark ≡ 0 → (t : Trace) (w' : List ℕ) → length w' ≡ length w → WentDown rot family k o s w t w' → Stepped family rot k w s (Goes t) w'
+  pub visited_down : mark ≡ 0 → (t : Trace) (w' : List ℕ) → length w' ≡ length w → WentDown rot family k o s w t w' → Stepped family rot k w s (Some t) w'
   visited_down e t w' l wd =
       let wd' = subst (λ (x : ℕ). WentDown rot family k x s w t w') is wd in
       going t (down_on rot (opposite s.dart) s) w' wd'.stands refl
       (stepping.traced_down family rot k w s g here on (same ∙ e) t w' wd') l
 
   pub visited_first : 32768 ≤ mark → (family ≢ 4 → mark ≢ get_or w s.dart 0) → (t : Trace) (w' : List ℕ) → length w' ≡ length w
-      → t ≡ first_on rot s → w' ≡ first_area n family k s w → Stepped family rot k w s (Goes t) w'
+      → t ≡ first_on rot s → w' ≡ first_area n family k s w → Stepped family rot k w s (Some t) w'
   visited_first big loop t w' l e area =
       going t (first_on rot s) w' e refl
       (stepping.traced_first family rot k w s g here on (told (λ m. 32768 ≤ m) big) (λ f. told (λ m. m ≢ get_or w s.dart 0) (loop f)) w' area) l
@@ -110,7 +92,7 @@ module _ {family : ℕ} {rot : List ℕ} {k : ℕ} {w : List ℕ} {s : Trace} {o
         (stepping.up_in family rot k w s g here on (told (λ m. 16384 ≤ m) lo) (told (λ m. m < 32768) hi))
 
     pub visited_up : (family ≡ 1 → next rot s.dart ≢ s.dart) → (t : Trace) (w' : List ℕ) → length w' ≡ length w
-        → t ≡ up_on rot o s → w' ≡ up_area rot family k o (mark - 16384) s w → Stepped family rot k w s (Goes t) w'
+        → t ≡ up_on rot o s → w' ≡ up_area rot family k o (mark - 16384) s w → Stepped family rot k w s (Some t) w'
     visited_up leaf t w' l e area =
         going t (up_on rot (opposite s.dart) s) w' (subst (λ (x : ℕ). t ≡ up_on rot x s) is e) refl
         (stepping.traced_up family rot k w s g here on (told (λ m. 16384 ≤ m) lo) (told (λ m. m < 32768) hi) leaf w'
@@ -129,13 +111,13 @@ module _ {family : ℕ} {rot : List ℕ} {k : ℕ} {w : List ℕ} {s : Trace} {o
       has_waiting = stepping.some_waits family rot k w s g here on last'
 
       pub visited_second : (t : Trace) (w' : List ℕ) → length w' ≡ length w → t ≡ second_on rot s → w' ≡ second_area rot family k (mark - 8192) s w
-          → Stepped family rot k w s (Goes t) w'
+          → Stepped family rot k w s (Some t) w'
       visited_second t w' l e area =
           going t (second_on rot s) w' e refl
           (stepping.traced_second family rot k w s g here on (told (λ m. 0 < m) lo) (told (λ m. m < 16384) hi) last' w'
           (subst (λ (x : ℕ). w' ≡ second_area rot family k (get_or w x 0 - 8192) s w) is area)) l
 
-    pub unfit_second : last_is (stack (WAITING * n) s.waiting w) (mark - 8192) ≡ false → Stepped family rot k w s Unfit w
+    pub unfit_second : last_is (stack (WAITING * n) s.waiting w) (mark - 8192) ≡ false → Stepped family rot k w s None w
     unfolding Stepped
     unfit_second last = (
       refl,
@@ -144,7 +126,7 @@ module _ {family : ℕ} {rot : List ℕ} {k : ℕ} {w : List ℕ} {s : Trace} {o
           (told (λ m. last_is (stack (WAITING * n) s.waiting w) (m - 8192) ≡ false) last),
     )
 
-  pub unfit_first : 32768 ≤ mark → cond (eqb family 4) false (eqb mark (get_or w s.dart 0)) ≡ true → Stepped family rot k w s Unfit w
+  pub unfit_first : 32768 ≤ mark → cond (eqb family 4) false (eqb mark (get_or w s.dart 0)) ≡ true → Stepped family rot k w s None w
   unfolding Stepped
   unfit_first big q = (
     refl,
@@ -153,7 +135,7 @@ module _ {family : ℕ} {rot : List ℕ} {k : ℕ} {w : List ℕ} {s : Trace} {o
         loop_unsound family rot k w s g sound here on f (told (λ m. 32768 ≤ m) big) (same ∙ e),
   )
 
-  pub unfit_up : 16384 ≤ mark → mark < 32768 → cond (eqb family 1) (eqb (next rot s.dart) s.dart) false ≡ true → Stepped family rot k w s Unfit w
+  pub unfit_up : 16384 ≤ mark → mark < 32768 → cond (eqb family 1) (eqb (next rot s.dart) s.dart) false ≡ true → Stepped family rot k w s None w
   unfolding Stepped
   unfit_up lo hi q = (
     refl,

@@ -48,8 +48,7 @@ use Rattle.marks.proofs.Alike.{distinct_start}
 use Rattle.marks.proofs.Trail.{trail_start}
 use Rattle.trace_steps.specs.declared.Trace.{Trace}
 use Rattle.trace_steps.specs.Steps.{Ground, Circled}
-use Rattle.tracing.specs.declared.Step.{Step}
-use Rattle.tracing.specs.declared.Step.TheVariants.{Goes, Unfit}
+use Rattle.std.specs.Prelude.{Option, None, Some}
 use Rattle.tracing.specs.Tracing.{from, Tracing, Stepped, Sound, Fitting, Traced}
 use Rattle.tracing.proofs.Places.{mark_at}
 use Rattle.tracing.proofs.Declining.{short_unsound, endless_unsound}
@@ -193,17 +192,17 @@ module _ (family : ℕ) (rot : List ℕ) (w : List ℕ) (s : Trace) (g : Tracing
 
 -- ---- one step
 
-module _ (family : ℕ) (rot : List ℕ) (i : ℕ) (w : List ℕ) (s : Trace) (r : Step) (w' : List ℕ) (step : Stepped family rot i w s r w') where
-  stepped_goes : (t : Trace) → r ≡ Goes t → Tracing family rot (suc i) w' t × (t.root ≡ s.root) × (length w' ≡ length w)
+module _ (family : ℕ) (rot : List ℕ) (i : ℕ) (w : List ℕ) (s : Trace) (r : Option Trace) (w' : List ℕ) (step : Stepped family rot i w s r w') where
+  stepped_goes : (t : Trace) → r ≡ Some t → Tracing family rot (suc i) w' t × (t.root ≡ s.root) × (length w' ≡ length w)
   unfolding Stepped
-  stepped_goes t e = subst (λ (x : Step). Stepped family rot i w s x w') e step
+  stepped_goes t e = subst (λ (x : Option Trace). Stepped family rot i w s x w') e step
 
-  stepped_unfit : r ≡ Unfit → (w' ≡ w) × (Sound family (from rot s.root) → ⊥)
+  stepped_unfit : r ≡ None → (w' ≡ w) × (Sound family (from rot s.root) → ⊥)
   unfolding Stepped
-  stepped_unfit e = subst (λ (x : Step). Stepped family rot i w s x w') e step
+  stepped_unfit e = subst (λ (x : Option Trace). Stepped family rot i w s x w') e step
 
   module _ (root : ℕ) (w₀ : List ℕ) (at : Walking family rot root w₀ w s i) where
-    module _ (here : i < length rot) (t : Trace) (goes : r ≡ Goes t) where
+    module _ (here : i < length rot) (t : Trace) (goes : r ≡ Some t) where
       step_on : Tracing family rot (i + 1) w' t
       step_on = subst (λ (k : ℕ). Tracing family rot k w' t) (omega arith) (stepped_goes t goes).0
 
@@ -233,7 +232,7 @@ module _ (family : ℕ) (rot : List ℕ) (i : ℕ) (w : List ℕ) (s : Trace) (r
                 (eqb-false (i + 1) (length rot) q);
           }
 
-    pub traced_unfit : r ≡ Unfit → (w₁ : List ℕ) → length w₀ ≡ length w₁ → Traced family (from rot root) w₁ false w'
+    pub traced_unfit : r ≡ None → (w₁ : List ℕ) → length w₀ ≡ length w₁ → Traced family (from rot root) w₁ false w'
     traced_unfit e w₁ l =
         let (same, not_sound) = stepped_unfit e in
         record {

@@ -8,7 +8,7 @@
 --   Stepped                  one more is met, or the plan is not sound
 --   Fitting family p w       the plan is sound, and in the work area are its marks and what its record is made of
 --   Traced family p w r w'   the whole walk: r says whether the plan is sound
-use Rattle.std.specs.Prelude.{ℕ, suc, ◌+◌, ◌*◌, ◌≤◌, ◌<◌, ◌≡◌, ◌≢◌, Bool, true, false, List, map, length, get_or}
+use Rattle.std.specs.Prelude.{ℕ, suc, ◌+◌, ◌*◌, ◌≤◌, ◌<◌, ◌≡◌, ◌≢◌, Bool, true, false, Option, None, Some, List, map, length, get_or}
 use Rattle.model.specs.Map.{Plan, darts, opposite, vertex_of, degree_one, connected, planar, has_loop, has_dead_end}
 use Rattle.model.specs.Traversal.{up, first, code, opens, word}
 use Rattle.words.specs.Word.{word_bits, word_labels}
@@ -23,8 +23,6 @@ use Rattle.work.specs.Letters.{work_bits, work_labels}
 use Rattle.marks.specs.Marks.{Distinct, mark_of, Trailed}
 use Rattle.trace_steps.specs.declared.Trace.{Trace}
 use Rattle.trace_steps.specs.Steps.{Ground}
-use Rattle.tracing.specs.declared.Step.{Step}
-use Rattle.tracing.specs.declared.Step.TheVariants.{Goes, Unfit}
 
 -- ---- what is put
 
@@ -58,9 +56,9 @@ pub record Sound (family : ℕ) (p : Plan) : Type 0 where
   pub no_loop : family ≢ 4 → has_loop p.rotation ≡ false
   pub no_leaf : family ≡ 1 → has_dead_end p ≡ false
 
-unfoldable pub Stepped : ℕ → List ℕ → ℕ → List ℕ → Trace → Step → List ℕ → Type 0
-Stepped family rot i w s (Goes t) w' = Tracing family rot (suc i) w' t × (t.root ≡ s.root) × (length w' ≡ length w)
-Stepped family rot i w s Unfit w' = (w' ≡ w) × (Sound family (from rot s.root) → ⊥)
+unfoldable pub Stepped : ℕ → List ℕ → ℕ → List ℕ → Trace → Option Trace → List ℕ → Type 0
+Stepped family rot i w s (Some t) w' = Tracing family rot (suc i) w' t × (t.root ≡ s.root) × (length w' ≡ length w)
+Stepped family rot i w s None w' = (w' ≡ w) × (Sound family (from rot s.root) → ⊥)
 
 pub record Fitting (family : ℕ) (p : Plan) (w : List ℕ) : Type 0 where
   pub sound : Sound family p

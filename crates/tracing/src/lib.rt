@@ -8,74 +8,56 @@ ghost use Rattle.model.specs.Map.{next, dart_count_fits};
 ghost use Rattle.work.specs.Area.{region};
 ghost use Rattle.tracing.specs.Tracing.{Tracing, Stepped, Traced};
 
-use trace_steps::Trace;
-
-// What a step comes to: where the walk stands then; or the plan does not fit.
-#[derive(Drop)]
-enum Step {
-    Goes(Trace),
-    Unfit,
-}
+use trace_steps::{DOWN, FIRST, SEEN, Trace};
 
 // The edge of d, met first with this mark at its opposite, is a loop that the family does not take.
 fn loop_refused(family: u16, w: &[u16], d: usize, mark: u16) -> bool
     requires { d < length w.now }
     ensures { result ≡ cond (eqb family 4) false (eqb mark (get_or w.now d 0)) }
 {
-    if family == 4 {
-        return false;
-    }
-    mark == w[d]
+    family != 4 && mark == w[d]
 }
 
 // Dart d, met as up, is alone at its vertex, and the family takes no dead ends.
+#[tactic(auto, unfolding(model::specs::Map::next))]
 fn leaf_refused(family: u16, order: &[u16], d: usize) -> bool
     requires { d < length order.now }
     ensures { result ≡ cond (eqb family 1) (eqb (next order.now d) d) false }
 {
-    if family != 1 {
-        return false;
-    }
-    order[d] as usize == d
+    family == 1 && order[d] as usize == d
 }
 
-// The dart that comes next is met, at position i.
-fn visit(order: &[u16], family: u16, w: &mut [u16], i: usize, s: Trace) -> Step
+// The dart that comes next is met, at position i: where the walk stands then, or nothing where the plan does not fit.
+#[tactic(auto, using(crate::proofs::Visits::over_in, crate::proofs::Visits::ranges, crate::proofs::Visits::blank, crate::proofs::Visits::up_range))]
+fn visit(order: &[u16], family: u16, w: &mut [u16], i: usize, s: Trace) -> Option<Trace>
     requires { Tracing family order.now i w.old s × (i < length order.now) × (0 < i → s.dart ≢ s.root) }
     ensures { Stepped family order.now i w.old s result w.new }
 {
-    let n = order.len();
-    let d = s.dart;
-    let o = dart_steps::other(d);
+    let o = dart_steps::other(s.dart);
     let mark = w[o];
+    // Tests here, and no `for` in `walk`: tried, and a `match` or a `for` took 8 % longer on large plans (it compiles to another order of the tests, or spills).
     if mark == 0 {
-        return Step::Goes(trace_steps::go_down(order, family, w, i, o, s));
+        return Some(trace_steps::go_down(order, family, w, i, o, s));
     }
-    if mark >= trace_steps::SEEN {
-        if loop_refused(family, w, d, mark) {
-            return Step::Unfit;
+    if mark >= SEEN {
+        if loop_refused(family, w, s.dart, mark) {
+            return None;
         }
-        return Step::Goes(trace_steps::go_first(order, family, w, i, s));
+        return Some(trace_steps::go_first(order, family, w, i, s));
     }
-    if mark >= trace_steps::DOWN {
-        if leaf_refused(family, order, d) {
-            return Step::Unfit;
+    if mark >= DOWN {
+        if leaf_refused(family, order, s.dart) {
+            return None;
         }
-        return Step::Goes(trace_steps::go_up(
-            order,
-            family,
-            w,
-            i,
-            o,
-            (mark - trace_steps::DOWN) as usize,
-            s,
-        ));
+        let e = (mark - DOWN) as usize;
+        return Some(trace_steps::go_up(order, family, w, i, o, e, s));
     }
-    let f = mark - trace_steps::FIRST;
-    if !trace_steps::is_last(w, n, s.waiting, f) {
-        return Step::Unfit;
+    let f = mark - FIRST;
+    let crossed = !trace_steps::is_last(w, order.len(), s.waiting, f);
+    if crossed {
+        return None;
     }
-    Step::Goes(trace_steps::go_second(order, family, w, i, f as usize, s))
+    Some(trace_steps::go_second(order, family, w, i, f as usize, s))
 }
 
 // ---- the walk
@@ -88,7 +70,7 @@ pub fn walk(order: &[u16], root: usize, family: u16, w: &mut [u16]) -> bool
     ensures { Traced family (record { rotation = order.now; root = root; outside = 0 }) w.old result w.new }
 {
     let n = order.len();
-    trace_steps::round(order, w, root, trace_steps::SEEN);
+    trace_steps::round(order, w, root, SEEN);
     let mut s = Trace {
         root,
         dart: root,
@@ -97,14 +79,10 @@ pub fn walk(order: &[u16], root: usize, family: u16, w: &mut [u16]) -> bool
     };
     let mut i = 0;
     while i < n {
-        match visit(order, family, w, i, s) {
-            Step::Goes(t) => {
-                s = t;
-            }
-            Step::Unfit => {
-                return false;
-            }
-        }
+        let Some(t) = visit(order, family, w, i, s) else {
+            return false;
+        };
+        s = t;
         i += 1;
         if s.dart == root {
             return i == n;
