@@ -1,4 +1,3 @@
-pub mod Areas
 pub mod Numbers
 pub mod Marking
 pub mod Entries
