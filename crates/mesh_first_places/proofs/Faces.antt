@@ -23,6 +23,7 @@ use Rattle.orbits.proofs.Maps.{face_perm}
 use Rattle.meshes.proofs.Triangles.{triangle_parts, parts_triangle}
 use Rattle.marks.specs.Marks.{Rounded}
 use Rattle.marks.proofs.Round.{Round, round_start, round_step, rounded}
+use Rattle.trace_steps.specs.Steps.{Ground}
 use Rattle.mesh_first_places.specs.Faces.{face_area, Faced}
 
 pub triangle_on : (order : List ℕ) (d : ℕ) → is_triangle order d ≡ true → is_triangle order (face_next order d) ≡ true
@@ -104,3 +105,11 @@ unfaced order o x y z ex ey ez wrong w = (
 -- the next dart of a face is a dart
 pub next_below : (order : List ℕ) → dart_count_fits (length order) ≡ true → is_permutation order ≡ true → (x : ℕ) → x < length order → face_next order x < length order
 next_below order count perm x h = (face_perm order perm (count_even (length order) count)).bound x h
+
+-- so the darts that follow o on its face are darts
+module _ {order w : List ℕ} {o x : ℕ} (g : Ground order w) (here : o < length order) (ex : x ≡ face_next order o) where
+  pub x_in : x < length order
+  x_in = subst (λ (i : ℕ). i < length order) (sym ex) (next_below order g.count g.perm o here)
+
+  pub y_in : {y : ℕ} → y ≡ face_next order x → y < length order
+  y_in ey = subst (λ (i : ℕ). i < length order) (sym ey) (next_below order g.count g.perm x x_in)

@@ -6,6 +6,7 @@ use Prim.Native.Nat.{ℕ, ◌+◌, ◌-◌, ◌≤◌, ◌<◌}
 use native.Mathlib.Nat.{le_refl}
 use native.Mathlib.Omega.{arith}
 use mathlib.Core.Path.{◌≡◌, refl, sym, ap, subst, ◌∙◌}
+use mathlib.Core.Logic.{◌≢◌}
 use mathlib.Core.Bool.{Bool, true, false}
 use mathlib.Core.List.{List}
 use lib.ListN.{length, get_or, set}
@@ -14,12 +15,13 @@ use Rattle.model.specs.Traversal.{first}
 use Rattle.model.specs.Mesh.{node_type}
 use Rattle.mesh_walks.specs.Told.{told_after}
 use Rattle.mesh_second_places.specs.declared.Stroll.{Stroll}
-use Rattle.mesh_second_places.specs.declared.Step.TheVariants.{Down, Unfit}
+use Rattle.std.specs.Prelude.{None, Some}
+use Rattle.mesh_second_places.specs.declared.Turn.TheVariants.{Down}
 use Rattle.mesh_second_places.specs.Areas.{edge_area}
 use Rattle.mesh_second_places.specs.Walks.{AtDown, Telling, Stepped}
 use Rattle.mesh_first_places.specs.Faces.{face_area, half_area, Faced, AtFirst}
 use Rattle.mesh_first_places.proofs.Firsts.{down_over, entered, held_down, held_second}
-use Rattle.mesh_second_places.proofs.Turns.{declined}
+use Rattle.mesh_second_places.proofs.Turns.{declined, ending}
 use Rattle.mesh_first_places.proofs.Declining.{face_declines, first_begins, leaf_begins}
 
 -- ---- at a first place
@@ -27,7 +29,7 @@ use Rattle.mesh_first_places.proofs.Declining.{face_declines, first_begins, leaf
 module _ (order w : List ℕ) (y : ℕ) (s : Stroll) (a : AtFirst order w y s) (o : ℕ) (is : o ≡ opposite s.dart) (w₁ : List ℕ) (l : length w₁ ≡ length w) where
   pub first_goes_down : get_or w o 0 ≡ 0 → w₁ ≡ half_area (length order) y (s.faces - 1) (s.edges - 1) s.halves w
       → Stepped order s.root s.edges s.halves w
-      (Down (record { root = s.root; dart = s.dart; edges = s.edges; faces = s.faces; waiting = s.waiting; halves = s.halves + 1 })) w₁
+      (Some (Down (record { root = s.root; dart = s.dart; edges = s.edges; faces = s.faces; waiting = s.waiting; halves = s.halves + 1 }))) w₁
   unfolding Stepped
   first_goes_down none e = (
     subst (λ (v : List ℕ). AtDown order v
@@ -36,13 +38,13 @@ module _ (order w : List ℕ) (y : ℕ) (s : Stroll) (a : AtFirst order w y s) (
     record { rooted = refl; grown = le_refl s.edges; kept = l },
   )
 
-  pub first_goes_on : 32768 ≤ get_or w o 0 → w₁ ≡ edge_area (length order) s.dart s.edges s.waiting w
+  pub first_goes_on : 32768 ≤ get_or w (opposite s.dart) 0 → w₁ ≡ edge_area (length order) s.dart s.edges s.waiting w
       → Telling order w₁ (s.faces - 1) 4 5 (record { root = s.root; dart = y; edges = s.edges + 1; faces = s.faces; waiting = s.waiting + 1; halves = s.halves })
   unfolding told_after node_type
   first_goes_on big e =
       let to : Stroll = record { root = s.root; dart = y; edges = s.edges + 1; faces = s.faces; waiting = s.waiting + 1; halves = s.halves } in
       let v = edge_area (length order) s.dart s.edges s.waiting w in
-      let (t, k) = held_second order w y s a (subst (λ (x : ℕ). 32768 ≤ get_or w x 0) is big) in
+      let (t, k) = held_second order w y s a big in
       subst (λ (v : List ℕ). Telling order v (s.faces - 1) 4 5 to) (sym e) (record {
         letter = first;
         edge = s.edges - 1;
@@ -54,10 +56,10 @@ module _ (order w : List ℕ) (y : ℕ) (s : Stroll) (a : AtFirst order w y s) (
         no_end = λ fits end. leaf_begins order v first (s.faces - 1) (s.edges - 1) to t fits end refl a.k k a.stands.is_down;
       })
 
-pub first_unfit : (order w : List ℕ) (y : ℕ) (s : Stroll) → AtFirst order w y s → 0 < get_or w (opposite s.dart) 0 → (o : ℕ) → o ≡ opposite s.dart
-    → get_or w o 0 < 32768 → Stepped order s.root s.edges s.halves w Unfit w
-first_unfit order w y s a some o is small = declined order s.root s.edges s.halves w w refl (λ fits.
-    first_begins order w y s a fits (some, subst (λ (x : ℕ). get_or w x 0 < 32768) is small))
+pub first_unfit : (order w : List ℕ) (y : ℕ) (s : Stroll) → AtFirst order w y s → (o : ℕ) → o ≡ opposite s.dart
+    → get_or w o 0 ≢ 0 → get_or w o 0 < 32768 → Stepped order s.root s.edges s.halves w None w
+first_unfit order w y s a o is some small = declined order s.root s.edges s.halves w w refl (λ fits.
+    first_begins order w y s a fits (ending w o s.dart is some small))
 
 -- ---- at a down
 
@@ -76,6 +78,6 @@ enters order w s a o x y is ex ey b w₁ f e =
     (entered order w s a (ap (is_triangle order) (sym is) ∙ good) y (ey ∙ ap (face_next order) ex')))
 
 pub enter_unfit : (order w : List ℕ) (s : Stroll) → AtDown order w s → (o e h : ℕ) → o ≡ opposite s.dart → (b : Bool) (w₁ : List ℕ) → Faced order o w b w₁ → b ≡ false
-    → length w₁ ≡ length w → Stepped order s.root e h w Unfit w₁
+    → length w₁ ≡ length w → Stepped order s.root e h w None w₁
 enter_unfit order w s a o e h is b w₁ f none l = declined order s.root e h w w₁ l
     (face_declines order s.root o w b w₁ f none (subst (λ (x : ℕ). x < length order) (sym is) (down_over order w s a)))

@@ -8,7 +8,8 @@ ghost use Rattle.trace_steps.specs.Steps.{Ground};
 ghost use Rattle.mesh_second_places.specs.Walks.{AtDown, Stepped};
 ghost use Rattle.mesh_first_places.specs.Faces.{Faced, half_area, AtFirst};
 
-use mesh_second_places::{Step, Stroll};
+use mesh_second_places::{Stroll, Turn};
+use trace_steps::SEEN;
 
 // ---- what is put
 
@@ -21,13 +22,14 @@ pub fn mark_face(order: &[u16], w: &mut [u16], o: usize, x: usize, y: usize) -> 
     if z != o || o / 2 == x / 2 || x / 2 == y / 2 || y / 2 == o / 2 {
         return false;
     }
-    w[o] = trace_steps::SEEN;
-    w[x] = trace_steps::SEEN;
-    w[y] = trace_steps::SEEN;
+    w[o] = SEEN;
+    w[x] = SEEN;
+    w[y] = SEEN;
     true
 }
 
 // The second place y of face f, entered by edge e, is still to come.
+#[tactic(auto, unfolding(crate::specs::Faces::half_area))]
 fn put_half(w: &mut [u16], n: usize, y: usize, f: usize, e: usize, halves: usize)
     requires { (n ≤ 8192) × (16 * n ≤ length w.old) × (y < n) × (f ≤ n) × (e < n) × (halves < n) }
     ensures { w.new ≡ half_area n y f e halves w.old }
@@ -40,87 +42,55 @@ fn put_half(w: &mut [u16], n: usize, y: usize, f: usize, e: usize, halves: usize
 // ---- the places of a face
 
 // The first place of the face entered last, whose second is y, begins an edge outside the tree.
-fn leaf(order: &[u16], w: &mut [u16], y: usize, s: Stroll) -> Step
-    requires { AtFirst order.now w.old y s × (0 < get_or w.old (opposite s.dart) 0) }
+fn leaf(order: &[u16], w: &mut [u16], y: usize, s: Stroll) -> Option<Turn>
+    requires { AtFirst order.now w.old y s × (32768 ≤ get_or w.old (opposite s.dart) 0) }
     ensures { Stepped order.now s.root s.edges s.halves w.old result w.new }
 {
-    let n = order.len();
-    let root = s.root;
-    let x = s.dart;
-    let edges = s.edges;
-    let faces = s.faces;
-    let waiting = s.waiting;
-    let halves = s.halves;
-    if w[dart_steps::other(x)] < trace_steps::SEEN {
-        return Step::Unfit;
-    }
-    mesh_second_places::put_edge(w, n, x, edges, waiting);
+    mesh_second_places::put_edge(w, order.len(), s.dart, s.edges, s.waiting);
     let t = Stroll {
-        root,
         dart: y,
-        edges: edges + 1,
-        faces,
-        waiting: waiting + 1,
-        halves,
+        edges: s.edges + 1,
+        waiting: s.waiting + 1,
+        ..s
     };
-    mesh_second_places::second_place(order, w, faces - 1, 4, 5, t)
+    mesh_second_places::second_place(order, w, s.faces - 1, 4, 5, t)
 }
 
 // At the first place of the face entered last, whose second is y.
-fn first_place(order: &[u16], w: &mut [u16], y: usize, s: Stroll) -> Step
+fn first_place(order: &[u16], w: &mut [u16], y: usize, s: Stroll) -> Option<Turn>
     requires { AtFirst order.now w.old y s }
     ensures { Stepped order.now s.root s.edges s.halves w.old result w.new }
 {
-    let n = order.len();
-    let root = s.root;
-    let x = s.dart;
-    let edges = s.edges;
-    let faces = s.faces;
-    let waiting = s.waiting;
-    let halves = s.halves;
-    if w[dart_steps::other(x)] != 0 {
-        return leaf(order, w, y, s);
+    match w[dart_steps::other(s.dart)] {
+        0 => {
+            put_half(w, order.len(), y, s.faces - 1, s.edges - 1, s.halves);
+            Some(Turn::Down(Stroll {
+                halves: s.halves + 1,
+                ..s
+            }))
+        }
+        SEEN.. => leaf(order, w, y, s),
+        _ => None,
     }
-    put_half(w, n, y, faces - 1, edges - 1, halves);
-    Step::Down(Stroll {
-        root,
-        dart: x,
-        edges,
-        faces,
-        waiting,
-        halves: halves + 1,
-    })
 }
 
 // The dart goes down to another face.
-pub fn enter(order: &[u16], w: &mut [u16], s: Stroll) -> Step
+pub fn enter(order: &[u16], w: &mut [u16], s: Stroll) -> Option<Turn>
     requires { AtDown order.now w.old s }
     ensures { Stepped order.now s.root (suc s.edges) s.halves w.old result w.new }
 {
-    let root = s.root;
-    let d = s.dart;
-    let edges = s.edges;
-    let faces = s.faces;
-    let waiting = s.waiting;
-    let halves = s.halves;
-    let o = dart_steps::other(d);
-    let x = order[d] as usize;
+    let o = dart_steps::other(s.dart);
+    let x = order[s.dart] as usize;
     let y = dart_steps::step(order, true, x);
     if !mark_face(order, w, o, x, y) {
-        return Step::Unfit;
+        return None;
     }
-    w[d] = trace_steps::DOWN + edges as u16;
-    first_place(
-        order,
-        w,
-        y,
-        Stroll {
-            root,
-            dart: x,
-            edges: edges + 1,
-            faces: faces + 1,
-            waiting,
-            halves,
-        },
-    )
+    w[s.dart] = trace_steps::DOWN + s.edges as u16;
+    let t = Stroll {
+        dart: x,
+        edges: s.edges + 1,
+        faces: s.faces + 1,
+        ..s
+    };
+    first_place(order, w, y, t)
 }

@@ -134,8 +134,7 @@ module _ (order w : List ℕ) (l : Letter) (f e : ℕ) (s : Stroll) (a : AtSecon
   wait_few = le_of_lt second_ranges.waiting
 
   pub told_down : get_or w (opposite s.dart) 0 ≡ 0 → (t : ℕ) → t ≡ told_after l down → 1 ≤ t
-      → AtDown order (set w (TYPES * length order + (f - 1)) t)
-      (record { root = s.root; dart = s.dart; edges = s.edges; faces = s.faces; waiting = s.waiting; halves = s.halves })
+      → AtDown order (set w (TYPES * length order + (f - 1)) t) s
   told_down none t e some = record {
     k = k;
     us = a.us;
@@ -236,3 +235,31 @@ module _ (order w : List ℕ) (l : Letter) (f e : ℕ) (s : Stroll) (a : AtSecon
             (three order h.count h.perm) k a.node l a.us a.b a.waits a.ts a.stands lo hi x y fs q m'
             (subst (λ (i : ℕ). i ≤ y) a.entry late) (set a.ts (f - 1) 2) (typed 2 second (sym t) (omega arith));
       }
+
+-- what the code asks for there
+pub record Here (order w : List ℕ) (f : ℕ) (s : Stroll) : Type 0 where
+  pub few_darts : length order ≤ 8192
+  pub room : 16 * length order ≤ length w
+  pub dart : s.dart < length order
+  pub over : opposite s.dart < length order
+  pub edges : s.edges < length order
+  pub waiting : s.waiting < length order
+  pub halves : s.halves < length order
+  pub face : 1 ≤ f
+  pub index : f - 1 < length order
+
+pub second_here : {order w : List ℕ} {l : Letter} {f e : ℕ} {s : Stroll} → AtSecond order w l f e s → Here order w f s
+second_here {order} {w} {l} {f} {e} {s} a =
+    let r = second_ranges order w l f e s a in
+    let i = second_index order w l f e s a in
+    record {
+      few_darts = r.few_darts;
+      room = a.held.view.room;
+      dart = second_in order w l f e s a;
+      over = second_over order w l f e s a;
+      edges = r.edges;
+      waiting = r.waiting;
+      halves = r.halves;
+      face = i.0;
+      index = i.1;
+    }

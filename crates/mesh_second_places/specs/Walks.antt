@@ -6,7 +6,7 @@
 --   Ending w d               the edge of d has begun at its opposite, by the mark there
 --   Telling order w f a b s  at a second place where, in a mesh, no edge ends: the types that may be told there
 --   Onward, Stepped          what a step comes to, after some letters
-use Rattle.std.specs.Prelude.{ℕ, ◌≤◌, ◌<◌, ◌≡◌, true, List, map, length, get_or}
+use Rattle.std.specs.Prelude.{ℕ, ◌≤◌, ◌<◌, ◌≡◌, true, Option, None, Some, List, map, length, get_or}
 use Rattle.model.specs.Numbers.{is_permutation}
 use Rattle.model.specs.Map.{opposite, dart_count_fits, is_triangle, fit}
 use Rattle.model.specs.Traversal.{Letter, down, first}
@@ -17,8 +17,8 @@ use Rattle.tracing.specs.Tracing.{from}
 use Rattle.mesh_walks.specs.Told.{told_after}
 use Rattle.mesh_trails.specs.Strolls.{place, Entering, Halfway, Climbing}
 use Rattle.mesh_second_places.specs.declared.Stroll.{Stroll}
-use Rattle.mesh_second_places.specs.declared.Step.{Step}
-use Rattle.mesh_second_places.specs.declared.Step.TheVariants.{Down, Up, Unfit}
+use Rattle.mesh_second_places.specs.declared.Turn.{Turn}
+use Rattle.mesh_second_places.specs.declared.Turn.TheVariants.{Down, Up}
 use Rattle.mesh_second_places.specs.Areas.{View}
 
 abbrev pub Good : List ℕ → ℕ → Type 0
@@ -88,7 +88,7 @@ pub record Onward (r e : ℕ) (w : List ℕ) (t : Stroll) (w' : List ℕ) : Type
   pub kept : length w' ≡ length w
 
 -- on the way up no more than h second places are still to come; no mesh is declined
-unfoldable pub Stepped : List ℕ → ℕ → ℕ → ℕ → List ℕ → Step → List ℕ → Type 0
-Stepped order r e h w (Down t) w' = AtDown order w' t × Onward r e w t w'
-Stepped order r e h w (Up t) w' = AtUp order w' t × Onward r e w t w' × (t.halves ≤ h)
-Stepped order r e h w Unfit w' = (length w' ≡ length w) × (fit 3 (from order r) ≡ true → ⊥)
+unfoldable pub Stepped : List ℕ → ℕ → ℕ → ℕ → List ℕ → Option Turn → List ℕ → Type 0
+Stepped order r e h w (Some (Down t)) w' = AtDown order w' t × Onward r e w t w'
+Stepped order r e h w (Some (Up t)) w' = AtUp order w' t × Onward r e w t w' × (t.halves ≤ h)
+Stepped order r e h w None w' = (length w' ≡ length w) × (fit 3 (from order r) ≡ true → ⊥)

@@ -7,6 +7,8 @@ ghost use Rattle.model.specs.Traversal.{up};
 ghost use Rattle.mesh_second_places.specs.Areas.{edge_area};
 ghost use Rattle.mesh_second_places.specs.Walks.{AtSecond, Ending, Telling, Stepped};
 
+use trace_steps::{FIRST, SEEN};
+
 // Stacks in the work area, in units of the number of darts: edges outside the tree that wait for their end, by number; and of each face whose second place is
 // still to come, that place, the face's number, and that of the edge it was entered by.
 pub const WAITING: usize = 1;
@@ -19,7 +21,7 @@ pub const ENTRIES: usize = 4;
 
 // Where the walk stands: the root, the dart that comes next, how many edges have begun and faces are seen, how many edges outside the tree wait for their
 // end, and how many second places are still to come.
-#[derive(Drop)]
+#[derive(Clone, Copy)]
 pub struct Stroll {
     pub root: usize,
     pub dart: usize,
@@ -29,90 +31,73 @@ pub struct Stroll {
     pub halves: usize,
 }
 
-// What comes next: the walk goes down at the dart; or up from the face; or the plan is no mesh.
-#[derive(Drop)]
-pub enum Step {
+// What comes next: the walk goes down at the dart; or up from the face. Where the plan is no mesh, nothing does.
+#[derive(Clone, Copy)]
+pub enum Turn {
     Down(Stroll),
     Up(Stroll),
-    Unfit,
 }
 
 // Dart d begins edge e outside the tree.
+#[tactic(auto, unfolding(crate::specs::Areas::edge_area))]
 pub fn put_edge(w: &mut [u16], n: usize, d: usize, e: usize, waiting: usize)
     requires { (n ≤ 8192) × (16 * n ≤ length w.old) × (d < n) × (e < n) × (waiting < n) }
     ensures { w.new ≡ edge_area n d e waiting w.old }
 {
-    w[d] = trace_steps::FIRST + e as u16;
+    w[d] = FIRST + e as u16;
     w[WAITING * n + waiting] = e as u16;
 }
 
 // The second place of face f, which comes next, goes down, or begins an edge outside the tree; the face has type a or b then.
-pub fn second_place(order: &[u16], w: &mut [u16], f: usize, a: u16, b: u16, s: Stroll) -> Step
+pub fn second_place(
+    order: &[u16],
+    w: &mut [u16],
+    f: usize,
+    a: u16,
+    b: u16,
+    s: Stroll,
+) -> Option<Turn>
     requires { Telling order.now w.old f a b s }
     ensures { Stepped order.now s.root s.edges s.halves w.old result w.new }
 {
     let n = order.len();
-    let root = s.root;
-    let y = s.dart;
-    let edges = s.edges;
-    let faces = s.faces;
-    let waiting = s.waiting;
-    let halves = s.halves;
-    let mark = w[dart_steps::other(y)];
-    if mark == 0 {
-        w[work::TYPES * n + (f - 1)] = a;
-        return Step::Down(Stroll {
-            root,
-            dart: y,
-            edges,
-            faces,
-            waiting,
-            halves,
-        });
+    match w[dart_steps::other(s.dart)] {
+        0 => {
+            w[work::TYPES * n + (f - 1)] = a;
+            Some(Turn::Down(s))
+        }
+        SEEN.. => {
+            put_edge(w, n, s.dart, s.edges, s.waiting);
+            w[work::TYPES * n + (f - 1)] = b;
+            Some(Turn::Up(Stroll {
+                edges: s.edges + 1,
+                waiting: s.waiting + 1,
+                ..s
+            }))
+        }
+        _ => None,
     }
-    if mark < trace_steps::SEEN {
-        return Step::Unfit;
-    }
-    put_edge(w, n, y, edges, waiting);
-    w[work::TYPES * n + (f - 1)] = b;
-    Step::Up(Stroll {
-        root,
-        dart: y,
-        edges: edges + 1,
-        faces,
-        waiting: waiting + 1,
-        halves,
-    })
 }
 
 // At the second place of face f, which edge e entered, the last edge that waits must end, and the one before it have begun after e.
-pub fn end_edge(order: &[u16], w: &mut [u16], f: usize, e: u16, s: Stroll) -> Step
+pub fn end_edge(order: &[u16], w: &mut [u16], f: usize, e: u16, s: Stroll) -> Option<Turn>
     requires { AtSecond order.now w.old up f e s × Ending w.old s.dart }
     ensures { Stepped order.now s.root s.edges s.halves w.old result w.new }
 {
-    let n = order.len();
-    let root = s.root;
-    let y = s.dart;
-    let edges = s.edges;
-    let faces = s.faces;
-    let waiting = s.waiting;
-    let halves = s.halves;
-    if waiting < 2 {
-        return Step::Unfit;
+    let few = s.waiting < 2;
+    if few {
+        return None;
     }
-    let mark = w[dart_steps::other(y)];
-    let last = w[WAITING * n + (waiting - 1)];
-    let before = w[WAITING * n + (waiting - 2)];
-    if mark != trace_steps::FIRST + last || before < e {
-        return Step::Unfit;
+    let n = order.len();
+    let mark = w[dart_steps::other(s.dart)];
+    let last = w[WAITING * n + (s.waiting - 1)];
+    let before = w[WAITING * n + (s.waiting - 2)];
+    if mark != FIRST + last || before < e {
+        return None;
     }
     w[work::TYPES * n + (f - 1)] = 2;
-    Step::Up(Stroll {
-        root,
-        dart: y,
-        edges,
-        faces,
-        waiting: waiting - 1,
-        halves,
-    })
+    Some(Turn::Up(Stroll {
+        waiting: s.waiting - 1,
+        ..s
+    }))
 }

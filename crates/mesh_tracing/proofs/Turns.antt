@@ -5,8 +5,9 @@
 --   ended_since          what leads down again or home, from an earlier time on
 --   turned_at, turned_up, turned_down, turned_unfit   down and up again
 --   Walking, faced_begun, walking_on, walking_home, meshed_since   the whole walk
---   not_meshed, root_unfit, turn_unfit, walk_ends   it declines
---   home_unfit, no_end, is_end, mark_unfit, is_meshed   it is back at the root's face
+--   not_meshed, root_unfit, turn_unfit   it declines
+--   Corners, corners     the root's face
+--   home_unfit, mark_unfit, is_meshed   it is back at the root's face
 use Prim.Native.Nat.{ℕ, suc, ◌+◌, ◌-◌, ◌*◌, ◌/◌, ◌≤◌, ◌<◌}
 use native.Mathlib.Nat.{le_refl}
 use native.Mathlib.Omega.{arith}
@@ -16,26 +17,31 @@ use mathlib.Core.Bool.{Bool, true, false, false≢true}
 use mathlib.Core.List.{List}
 use lib.Dec.{eqb}
 use lib.ListN.{length, get_or, replicate}
-use borrow.Author.Tests.{eqb-true, eqb-false, eq-eqb, ne_eqb}
+use borrow.Author.Tests.{eqb-true, eqb-false, eq-eqb}
 use Rattle.model.specs.Numbers.{is_permutation}
 use Rattle.model.specs.Map.{opposite, face_next, dart_count_fits, fit}
 use Rattle.model.specs.Traversal.{up}
 use Rattle.model.specs.Mesh.{types, node_type}
 use Rattle.model.proofs.Booleans.{not_intro, bool_ext}
+use Rattle.model.proofs.Fitness.{count_even, count_positive}
+use Rattle.model.proofs.Opposite.{opposite_bound}
 use Rattle.work.specs.Map.{TYPES}
 use Rattle.work.specs.Area.{region}
 use Rattle.tracing.specs.Tracing.{from}
 use Rattle.mesh_walks.specs.Told.{told_after}
 use Rattle.mesh_second_places.specs.declared.Stroll.{Stroll}
-use Rattle.mesh_second_places.specs.declared.Step.{Step}
-use Rattle.mesh_second_places.specs.declared.Step.TheVariants.{Down, Up, Unfit}
+use Rattle.std.specs.Prelude.{Option, None, Some}
+use Rattle.trace_steps.specs.Steps.{Ground}
+use Rattle.trace_steps.proofs.Grounds as grounds
+use Rattle.mesh_second_places.specs.declared.Turn.{Turn}
+use Rattle.mesh_second_places.specs.declared.Turn.TheVariants.{Down, Up}
 use Rattle.mesh_second_places.specs.Areas.{WAITING}
 use Rattle.mesh_second_places.specs.Walks.{AtDown, AtSecond, Telling, AtUp, Onward, Stepped}
 use Rattle.mesh_first_places.specs.Faces.{Faced}
 use Rattle.mesh_tracing.specs.Walks.{AtHome, Ended, Meshed}
 use Rattle.mesh_second_places.proofs.Declining.{Fits}
 use Rattle.mesh_second_places.proofs.Turns.{since, stepped_since}
-use Rattle.mesh_first_places.proofs.Firsts.{down_ranges}
+use Rattle.mesh_first_places.proofs.Faces.{x_in, y_in}
 use Rattle.mesh_first_places.proofs.Declining.{face_declines}
 use Rattle.mesh_tracing.proofs.Homes.{home_at, ended, begun}
 use Rattle.mesh_tracing.proofs.Declining.{home_over}
@@ -68,55 +74,55 @@ pub going_start : (order w : List ℕ) (s : Stroll) → AtUp order w s → Going
 going_start order w s a = record { at = a; on = record { rooted = refl; grown = le_refl s.edges; kept = refl } }
 
 module _ (order w₀ w : List ℕ) (s t : Stroll) (g : Going order w₀ w s t) where
-  pub gone_home : t.halves ≡ 0 → Ended order s.root s.edges w₀ (Up t) w
+  pub gone_home : t.halves ≡ 0 → Ended order s.root s.edges w₀ (Some (Up t)) w
   unfolding Ended
   gone_home none = (home_at order w t g.at none, g.on)
 
-  module _ (w' : List ℕ) (h : ℕ) (x : Step) (a : Stepped order t.root t.edges h w x w') where
+  module _ (w' : List ℕ) (h : ℕ) (x : Option Turn) (a : Stepped order t.root t.edges h w x w') where
     since_start : Stepped order s.root s.edges h w₀ x w'
     since_start = stepped_since order s.root t.root s.edges t.edges w₀ w w' g.on.rooted g.on.grown g.on.kept h x a
 
-    pub going_up : (u : Stroll) → x ≡ Up u → Going order w₀ w' s u
+    pub going_up : (u : Stroll) → x ≡ Some (Up u) → Going order w₀ w' s u
     unfolding Stepped
-    going_up u e = let (p, o, f) = subst (λ (y : Step). Stepped order s.root s.edges h w₀ y w') e since_start in record { at = p; on = o }
+    going_up u e = let (p, o, f) = subst (λ (y : Option Turn). Stepped order s.root s.edges h w₀ y w') e since_start in record { at = p; on = o }
 
-    pub going_lower : (u : Stroll) → x ≡ Up u → u.halves ≤ h
+    pub going_lower : (u : Stroll) → x ≡ Some (Up u) → u.halves ≤ h
     unfolding Stepped
-    going_lower u e = (subst (λ (y : Step). Stepped order s.root s.edges h w₀ y w') e since_start).2
+    going_lower u e = (subst (λ (y : Option Turn). Stepped order s.root s.edges h w₀ y w') e since_start).2
 
-    pub gone_down : (u : Stroll) → x ≡ Down u → Ended order s.root s.edges w₀ (Down u) w'
+    pub gone_down : (u : Stroll) → x ≡ Some (Down u) → Ended order s.root s.edges w₀ (Some (Down u)) w'
     unfolding Stepped Ended
-    gone_down u e = subst (λ (y : Step). Stepped order s.root s.edges h w₀ y w') e since_start
+    gone_down u e = subst (λ (y : Option Turn). Stepped order s.root s.edges h w₀ y w') e since_start
 
-    pub gone_unfit : x ≡ Unfit → Ended order s.root s.edges w₀ Unfit w'
+    pub gone_unfit : x ≡ None → Ended order s.root s.edges w₀ None w'
     unfolding Stepped Ended
-    gone_unfit e = subst (λ (y : Step). Stepped order s.root s.edges h w₀ y w') e since_start
+    gone_unfit e = subst (λ (y : Option Turn). Stepped order s.root s.edges h w₀ y w') e since_start
 
 -- ---- down and up again
 
-ended_since : (order : List ℕ) (r r' e e' : ℕ) (w w₁ w' : List ℕ) → r' ≡ r → e ≤ e' → length w₁ ≡ length w → (x : Step) → Ended order r' e' w₁ x w' → Ended order r e w x w'
+ended_since : (order : List ℕ) (r r' e e' : ℕ) (w w₁ w' : List ℕ) → r' ≡ r → e ≤ e' → length w₁ ≡ length w → (x : Option Turn) → Ended order r' e' w₁ x w' → Ended order r e w x w'
 unfolding Ended
-ended_since order r r' e e' w w₁ w' q h l (Down t) (a, o) = (a, since q h l o)
-ended_since order r r' e e' w w₁ w' q h l (Up t) (a, o) = (a, since q h l o)
-ended_since order r r' e e' w w₁ w' q h l Unfit (k, never) = (k ∙ l, λ f. never (subst (Fits order) (sym q) f))
+ended_since order r r' e e' w w₁ w' q h l (Some (Down t)) (a, o) = (a, since q h l o)
+ended_since order r r' e e' w w₁ w' q h l (Some (Up t)) (a, o) = (a, since q h l o)
+ended_since order r r' e e' w w₁ w' q h l None (k, never) = (k ∙ l, λ f. never (subst (Fits order) (sym q) f))
 
-module _ (order : List ℕ) (r e h : ℕ) (w w₁ : List ℕ) (x : Step) (a : Stepped order r e h w x w₁) where
-  pub turned_down : (t : Stroll) → x ≡ Down t → Ended order r e w (Down t) w₁
+module _ (order : List ℕ) (r e h : ℕ) (w w₁ : List ℕ) (x : Option Turn) (a : Stepped order r e h w x w₁) where
+  pub turned_down : (t : Stroll) → x ≡ Some (Down t) → Ended order r e w (Some (Down t)) w₁
   unfolding Stepped Ended
-  turned_down t q = subst (λ (y : Step). Stepped order r e h w y w₁) q a
+  turned_down t q = subst (λ (y : Option Turn). Stepped order r e h w y w₁) q a
 
-  pub turned_unfit : x ≡ Unfit → Ended order r e w Unfit w₁
+  pub turned_unfit : x ≡ None → Ended order r e w None w₁
   unfolding Stepped Ended
-  turned_unfit q = subst (λ (y : Step). Stepped order r e h w y w₁) q a
+  turned_unfit q = subst (λ (y : Option Turn). Stepped order r e h w y w₁) q a
 
-  pub turned_at : (t : Stroll) → x ≡ Up t → AtUp order w₁ t
+  pub turned_at : (t : Stroll) → x ≡ Some (Up t) → AtUp order w₁ t
   unfolding Stepped
-  turned_at t q = (subst (λ (y : Step). Stepped order r e h w y w₁) q a).0
+  turned_at t q = (subst (λ (y : Option Turn). Stepped order r e h w y w₁) q a).0
 
-  pub turned_up : (t : Stroll) → x ≡ Up t → (w' : List ℕ) (y : Step) → Ended order t.root t.edges w₁ y w' → Ended order r e w y w'
+  pub turned_up : (t : Stroll) → x ≡ Some (Up t) → (w' : List ℕ) (y : Option Turn) → Ended order t.root t.edges w₁ y w' → Ended order r e w y w'
   unfolding Stepped
   turned_up t q w' y b =
-      let o = (subst (λ (y : Step). Stepped order r e h w y w₁) q a).1 in
+      let o = (subst (λ (y : Option Turn). Stepped order r e h w y w₁) q a).1 in
       ended_since order r t.root e t.edges w w₁ w' o.rooted o.grown o.kept y b
 
 -- ---- the whole walk
@@ -126,18 +132,18 @@ pub record Walking (order : List ℕ) (root : ℕ) (w₀ w : List ℕ) (s : Stro
   pub rooted : s.root ≡ root
   pub kept : length w ≡ length w₀
 
-module _ (order : List ℕ) (root : ℕ) (w₀ w w' : List ℕ) (s : Stroll) (g : Walking order root w₀ w s) (x : Step)
+module _ (order : List ℕ) (root : ℕ) (w₀ w w' : List ℕ) (s : Stroll) (g : Walking order root w₀ w s) (x : Option Turn)
     (a : Ended order s.root (suc s.edges) w x w') where
-  pub walking_on : (t : Stroll) → x ≡ Down t → Walking order root w₀ w' t × (s.edges < t.edges)
+  pub walking_on : (t : Stroll) → x ≡ Some (Down t) → Walking order root w₀ w' t × (s.edges < t.edges)
   unfolding Ended
   walking_on t e =
-      let (p, o) = subst (λ (y : Step). Ended order s.root (suc s.edges) w y w') e a in
+      let (p, o) = subst (λ (y : Option Turn). Ended order s.root (suc s.edges) w y w') e a in
       (record { at = p; rooted = o.rooted ∙ g.rooted; kept = o.kept ∙ g.kept }, o.grown)
 
-  pub walking_home : (t : Stroll) → x ≡ Up t → AtHome order w' t × (t.root ≡ root) × (length w' ≡ length w₀)
+  pub walking_home : (t : Stroll) → x ≡ Some (Up t) → AtHome order w' t × (t.root ≡ root) × (length w' ≡ length w₀)
   unfolding Ended
   walking_home t e =
-      let (p, o) = subst (λ (y : Step). Ended order s.root (suc s.edges) w y w') e a in
+      let (p, o) = subst (λ (y : Option Turn). Ended order s.root (suc s.edges) w y w') e a in
       (p, o.rooted ∙ g.rooted, o.kept ∙ g.kept)
 
 pub meshed_since : (order : List ℕ) (r root : ℕ) (w w' : List ℕ) (b : Bool) → r ≡ root → length w' ≡ length w → Meshed (from order r) w' b w' → Meshed (from order root) w b w'
@@ -168,24 +174,37 @@ pub root_unfit : (order : List ℕ) (root : ℕ) (w w₁ : List ℕ) (b : Bool) 
 root_unfit order root w w₁ b hr f none l = not_meshed order root w w₁ l (face_declines order root root w b w₁ f none hr)
 
 module _ (order : List ℕ) (root : ℕ) (w w₀ w₁ : List ℕ) (s : Stroll) (l : length w₀ ≡ length w) (g : Walking order root w₀ w₁ s) where
-  pub turn_unfit : (x : Step) (w' : List ℕ) → Ended order s.root (suc s.edges) w₁ x w' → x ≡ Unfit → Meshed (from order root) w false w'
+  pub turn_unfit : (x : Option Turn) (w' : List ℕ) → Ended order s.root (suc s.edges) w₁ x w' → x ≡ None → Meshed (from order root) w false w'
   unfolding Ended
   turn_unfit x w' a e =
-      let (k, never) = subst (λ (y : Step). Ended order s.root (suc s.edges) w₁ y w') e a in
+      let (k, never) = subst (λ (y : Option Turn). Ended order s.root (suc s.edges) w₁ y w') e a in
       not_meshed order root w w' (k ∙ g.kept ∙ l) (λ f. never (subst (Fits order) (sym g.rooted) f))
-
-  pub walk_ends : length order ≤ s.edges → Meshed (from order root) w false w₁
-  walk_ends h = let z = (down_ranges order w₁ s g.at).edges in absurd (omega arith)
 
 -- ---- back at the root's face
 
--- whether a mark is that of the edge with number l
-pub no_end : (m l : ℕ) → m < 8192 → false ≡ eqb m (8192 + l)
-no_end m l h = sym (ne_eqb m (8192 + l) (λ e. omega arith))
+-- the other darts of the root's face, and their opposites
+pub record Corners (order : List ℕ) (x y : ℕ) : Type 0 where
+  pub few : length order ≤ 8192
+  pub some : 1 < length order
+  pub first : x < length order
+  pub second : y < length order
+  pub over_first : opposite x < length order
+  pub over_second : opposite y < length order
 
-pub is_end : (m l : ℕ) → 8192 ≤ m → eqb (m - 8192) l ≡ eqb m (8192 + l)
-is_end m l h = bool_ext _ _ (λ e. let q = eqb-true (m - 8192) l e in eq-eqb m (8192 + l) (omega arith))
-    (λ e. let q = eqb-true m (8192 + l) e in eq-eqb (m - 8192) l (omega arith))
+pub corners : {order w : List ℕ} {r x y : ℕ} → Ground order w → r < length order → x ≡ face_next order r → y ≡ face_next order x → Corners order x y
+corners {order} g hr ex ey =
+    let two = count_even (length order) g.count in
+    let some = count_positive (length order) g.count in
+    let hx = x_in g hr ex in
+    let hy = y_in g hr ex ey in
+    record {
+      few = grounds.few g;
+      some = omega arith;
+      first = hx;
+      second = hy;
+      over_first = opposite_bound (length order) _ two hx;
+      over_second = opposite_bound (length order) _ two hy;
+    }
 
 module _ (order w : List ℕ) (s : Stroll) (a : AtHome order w s) where
   pub home_unfit : (s.waiting ≢ 2) ⊎ (s.edges ≢ length order / 2) → Meshed (from order s.root) w false w

@@ -10,76 +10,55 @@ ghost use Rattle.mesh_second_places.specs.Areas.{WAITING};
 ghost use Rattle.mesh_second_places.specs.Walks.{AtDown, AtUp, Stepped};
 ghost use Rattle.mesh_tracing.specs.Walks.{AtHome, Ended, Meshed};
 
-use mesh_second_places::{Step, Stroll};
+use mesh_second_places::{Stroll, Turn};
+use trace_steps::{FIRST, SEEN};
 
 // ---- the way up
 
 // Up to the last second place that is still to come.
-fn back(order: &[u16], w: &mut [u16], s: Stroll) -> Step
+fn back(order: &[u16], w: &mut [u16], s: Stroll) -> Option<Turn>
     requires { AtUp order.now w.old s × (0 < s.halves) }
     ensures { Stepped order.now s.root s.edges (s.halves - 1) w.old result w.new }
 {
     let n = order.len();
-    let root = s.root;
-    let edges = s.edges;
-    let faces = s.faces;
-    let waiting = s.waiting;
     let halves = s.halves - 1;
     let y = w[mesh_second_places::HALVES * n + halves] as usize;
     let f = w[mesh_second_places::OWNERS * n + halves] as usize;
     let e = w[mesh_second_places::ENTRIES * n + halves];
-    let mark = w[dart_steps::other(y)];
     let t = Stroll {
-        root,
         dart: y,
-        edges,
-        faces,
-        waiting,
         halves,
+        ..s
     };
-    if mark == 0 || mark >= trace_steps::SEEN {
-        return mesh_second_places::second_place(order, w, f, 1, 3, t);
+    match w[dart_steps::other(y)] {
+        0 | SEEN.. => mesh_second_places::second_place(order, w, f, 1, 3, t),
+        _ => mesh_second_places::end_edge(order, w, f, e, t),
     }
-    mesh_second_places::end_edge(order, w, f, e, t)
 }
 
 // Up until the walk goes down again, or is back at the root's face.
-fn climb(order: &[u16], w: &mut [u16], s: Stroll) -> Step
+fn climb(order: &[u16], w: &mut [u16], s: Stroll) -> Option<Turn>
     requires { AtUp order.now w.old s }
     ensures { Ended order.now s.root s.edges w.old result w.new }
 {
     let mut t = s;
     while 0 < t.halves {
-        match back(order, w, t) {
-            Step::Up(u) => {
-                t = u;
-            }
-            Step::Down(u) => {
-                return Step::Down(u);
-            }
-            Step::Unfit => {
-                return Step::Unfit;
-            }
+        match back(order, w, t)? {
+            Turn::Up(u) => t = u,
+            Turn::Down(u) => return Some(Turn::Down(u)),
         }
     }
-    Step::Up(t)
+    Some(Turn::Up(t))
 }
 
 // Down to another face, and up from there as far as the walk goes.
-fn turn(order: &[u16], w: &mut [u16], s: Stroll) -> Step
+fn turn(order: &[u16], w: &mut [u16], s: Stroll) -> Option<Turn>
     requires { AtDown order.now w.old s }
     ensures { Ended order.now s.root (suc s.edges) w.old result w.new }
 {
-    match mesh_first_places::enter(order, w, s) {
-        Step::Up(t) => {
-            return climb(order, w, t);
-        }
-        Step::Down(t) => {
-            return Step::Down(t);
-        }
-        Step::Unfit => {
-            return Step::Unfit;
-        }
+    match mesh_first_places::enter(order, w, s)? {
+        Turn::Up(t) => climb(order, w, t),
+        Turn::Down(t) => Some(Turn::Down(t)),
     }
 }
 
@@ -91,10 +70,7 @@ fn is_end(w: &[u16], n: usize, o: usize, i: usize) -> bool
     ensures { result ≡ eqb (get_or w.now o 0) (8192 + get_or w.now (WAITING * n + i) 0) }
 {
     let mark = w[o];
-    if mark < trace_steps::FIRST {
-        return false;
-    }
-    mark - trace_steps::FIRST == w[mesh_second_places::WAITING * n + i]
+    mark >= FIRST && mark - FIRST == w[mesh_second_places::WAITING * n + i]
 }
 
 // Back at the root's face, whose other two places must end the two edges that wait. Every edge has begun.
@@ -105,7 +81,8 @@ fn at_end(order: &[u16], w: &[u16], s: Stroll) -> bool
     let n = order.len();
     let x = dart_steps::step(order, true, s.root);
     let y = dart_steps::step(order, true, x);
-    if s.waiting != 2 || s.edges != n / 2 {
+    let all = s.edges == n / 2;
+    if s.waiting != 2 || !all {
         return false;
     }
     if !is_end(w, n, dart_steps::other(x), 1) {
@@ -120,7 +97,6 @@ pub fn walk(order: &[u16], root: usize, w: &mut [u16]) -> bool
         × (16 * length order.now ≤ length w.old) × (region 0 (length order.now) w.old ≡ replicate (length order.now) 0) }
     ensures { Meshed (record { rotation = order.now; root = root; outside = 0 }) w.old result w.new }
 {
-    let n = order.len();
     let x = dart_steps::step(order, true, root);
     let y = dart_steps::step(order, true, x);
     if !mesh_first_places::mark_face(order, w, root, x, y) {
@@ -134,18 +110,11 @@ pub fn walk(order: &[u16], root: usize, w: &mut [u16]) -> bool
         waiting: 0,
         halves: 0,
     };
-    while s.edges < n {
+    loop {
         match turn(order, w, s) {
-            Step::Down(t) => {
-                s = t;
-            }
-            Step::Up(t) => {
-                return at_end(order, w, t);
-            }
-            Step::Unfit => {
-                return false;
-            }
+            Some(Turn::Down(t)) => s = t,
+            Some(Turn::Up(t)) => return at_end(order, w, t),
+            None => return false,
         }
     }
-    false
 }

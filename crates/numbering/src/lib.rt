@@ -18,6 +18,8 @@ struct Stand {
     place: usize,
 }
 
+// Not one generic function with those of `trace_steps`: what is put differs.
+
 // The dart of s goes down to the vertex of its opposite o.
 #[tactic(auto, unfolding(model::specs::Map::next))]
 fn go_down(order: &[u16], w: &mut [u16], o: usize, s: Stand) -> Stand
@@ -77,7 +79,6 @@ fn go_second(order: &[u16], w: &mut [u16], f: usize, s: Stand) -> Stand
 }
 
 // The dart that comes next is met, at position i of the walk from the root.
-#[tactic(auto, using(crate::proofs::Stepping::over_in, crate::proofs::Stepping::placed, crate::proofs::Stepping::blank, crate::proofs::Stepping::up_range, crate::proofs::Stepping::end_range))]
 fn visit(order: &[u16], root: usize, w: &mut [u16], i: usize, s: Stand) -> Stand
     requires { Numbering order.now root i w.old s × (i < length order.now) }
     ensures { Numbering order.now root (suc i) w.new result }

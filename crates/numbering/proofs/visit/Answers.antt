@@ -1,6 +1,6 @@
 use Rattle.std.proofs.Common.{refl, arith}
 use Rattle.trace_steps.proofs.Grounds.{few}
-use Rattle.numbering.proofs.Stepping.{over_in, placed, moved_down, moved_first, moved_up, moved_second}
+use Rattle.numbering.proofs.Stepping.{over_in, placed, blank, up_range, end_range, moved_down, moved_first, moved_up, moved_second}
 use Rattle.numbering.proofs.visit.Goals as goal
 
 pub other-o-requires : goal.other-o-requires
@@ -17,6 +17,30 @@ offset_bounds-w-o c =
 
 pub bounds-w-o : goal.bounds-w-o
 bounds-w-o c = let p = c.requires in omega (arith, over_in _ _ _ _ _ p.0 p.1 _ c.other-o.ensures, p.0.ground.room)
+
+pub go_down-requires : goal.go_down-requires
+go_down-requires c =
+    let p = c.requires in
+    let o = c.other-o.ensures in
+    (p.0.ground, placed _ _ _ _ _ p.0 p.1 _ o, over_in _ _ _ _ _ p.0 p.1 _ o, blank _ _ _ _ _ p.0 p.1 _ o (omega arith))
+
+pub go_first-requires : goal.go_first-requires
+go_first-requires c = let p = c.requires in (p.0.ground, placed _ _ _ _ _ p.0 p.1 _ c.other-o.ensures)
+
+pub go_up-requires : goal.go_up-requires
+go_up-requires c =
+    let p = c.requires in
+    let o = c.other-o.ensures in
+    (p.0.ground, placed _ _ _ _ _ p.0 p.1 _ o, over_in _ _ _ _ _ p.0 p.1 _ o, up_range _ _ _ _ _ p.0 p.1 _ o (omega arith) (omega arith))
+
+pub overflow_sub-mark : goal.overflow_sub-mark
+overflow_sub-mark c = let p = c.requires in (end_range _ _ _ _ _ p.0 p.1 _ c.other-o.ensures (omega arith) (omega arith)).0
+
+pub go_second-requires : goal.go_second-requires
+go_second-requires c =
+    let p = c.requires in
+    let o = c.other-o.ensures in
+    (p.0.ground, placed _ _ _ _ _ p.0 p.1 _ o, (end_range _ _ _ _ _ p.0 p.1 _ o (omega arith) (omega arith)).1)
 
 pub returns-in-0 : goal.returns-in-0
 returns-in-0 c =
