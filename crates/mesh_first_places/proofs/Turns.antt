@@ -57,8 +57,8 @@ module _ (order w : List ℕ) (y : ℕ) (s : Stroll) (a : AtFirst order w y s) (
       })
 
 pub first_unfit : (order w : List ℕ) (y : ℕ) (s : Stroll) → AtFirst order w y s → (o : ℕ) → o ≡ opposite s.dart
-    → (get_or w o 0 ≢ 0) × (get_or w o 0 < 32768) → Stepped order s.root s.edges s.halves w None w
-first_unfit order w y s a o is (some, small) = declined order s.root s.edges s.halves w w refl (λ fits.
+    → get_or w o 0 ≢ 0 → get_or w o 0 < 32768 → Stepped order s.root s.edges s.halves w None w
+first_unfit order w y s a o is some small = declined order s.root s.edges s.halves w w refl (λ fits.
     first_begins order w y s a fits (ending w o s.dart is some small))
 
 -- ---- at a down

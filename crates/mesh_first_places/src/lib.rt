@@ -9,7 +9,7 @@ ghost use Rattle.mesh_second_places.specs.Walks.{AtDown, Stepped};
 ghost use Rattle.mesh_first_places.specs.Faces.{Faced, half_area, AtFirst};
 
 use mesh_second_places::{Stroll, Turn};
-use trace_steps::Mark;
+use trace_steps::SEEN;
 
 // ---- what is put
 
@@ -22,9 +22,9 @@ pub fn mark_face(order: &[u16], w: &mut [u16], o: usize, x: usize, y: usize) -> 
     if z != o || o / 2 == x / 2 || x / 2 == y / 2 || y / 2 == o / 2 {
         return false;
     }
-    w[o] = trace_steps::SEEN;
-    w[x] = trace_steps::SEEN;
-    w[y] = trace_steps::SEEN;
+    w[o] = SEEN;
+    w[x] = SEEN;
+    w[y] = SEEN;
     true
 }
 
@@ -61,16 +61,16 @@ fn first_place(order: &[u16], w: &mut [u16], y: usize, s: Stroll) -> Option<Turn
     requires { AtFirst order.now w.old y s }
     ensures { Stepped order.now s.root s.edges s.halves w.old result w.new }
 {
-    match Mark::of(w[dart_steps::other(s.dart)]) {
-        Mark::Unseen => {
+    match w[dart_steps::other(s.dart)] {
+        0 => {
             put_half(w, order.len(), y, s.faces - 1, s.edges - 1, s.halves);
             Some(Turn::Down(Stroll {
                 halves: s.halves + 1,
                 ..s
             }))
         }
-        Mark::Seen => leaf(order, w, y, s),
-        Mark::Down(_) | Mark::First(_) => None,
+        SEEN.. => leaf(order, w, y, s),
+        _ => None,
     }
 }
 

@@ -2,7 +2,6 @@
 --
 --   declined             the plan is no mesh
 --   marked, ending       the mark of an opposite: some; that of an edge that has begun
---   begun                what such a mark is
 --   since, stepped_since   what a step answers, from an earlier time on
 --   second_goes_down, second_goes_up, second_unfit   at a second place
 --   second_ends, few_unfit, last_unfit   at one where an edge ends
@@ -10,7 +9,7 @@ use Prim.Native.Nat.{ℕ, ◌+◌, ◌-◌, ◌*◌, ◌≤◌, ◌<◌}
 use native.Mathlib.Nat.{le_refl}
 use native.Mathlib.Omega.{arith}
 use mathlib.Core.Path.{◌≡◌, refl, sym, ap, subst, ◌∙◌}
-use mathlib.Core.Logic.{◌⊎◌, inl, inr, ⊎_elim, ◌≢◌}
+use mathlib.Core.Logic.{◌⊎◌, ⊎_elim, ◌≢◌}
 use mathlib.Core.List.{List}
 use lib.ListN.{length, get_or, set, length-set}
 use Rattle.model.specs.Map.{opposite}
@@ -18,9 +17,6 @@ use Rattle.model.specs.Traversal.{up}
 use Rattle.model.specs.Mesh.{node_type}
 use Rattle.work.specs.Map.{TYPES}
 use Rattle.mesh_walks.specs.Told.{told_after}
-use Rattle.trace_steps.specs.declared.Mark.{Mark}
-use Rattle.trace_steps.specs.declared.Mark.TheVariants as marks
-use Rattle.trace_steps.specs.Steps.{Says}
 use Rattle.mesh_second_places.specs.declared.Stroll.{Stroll}
 use Rattle.std.specs.Prelude.{Option, None, Some}
 use Rattle.mesh_second_places.specs.declared.Turn.{Turn}
@@ -40,11 +36,6 @@ module _ (w : List ℕ) (o d : ℕ) (is : o ≡ opposite d) (some : get_or w o 0
 
   pub ending : get_or w o 0 < 32768 → Ending w d
   ending small = (marked, subst (λ (x : ℕ). get_or w x 0 < 32768) is small)
-
--- an edge began there
-pub begun : (m : ℕ) (x : Mark) → Says m x → ((f : ℕ) × (x ≡ marks.Down f)) ⊎ ((f : ℕ) × (x ≡ marks.First f)) → (m ≢ 0) × (m < 32768)
-begun m x says (inl (f, e)) = let s = subst (Says m) e says in ((λ z. omega arith), s.1)
-begun m x says (inr (f, e)) = let s = subst (Says m) e says in ((λ z. omega arith), omega arith)
 
 pub since : {r r' e e' : ℕ} {w w₁ w' : List ℕ} {t : Stroll} → r' ≡ r → e ≤ e' → length w₁ ≡ length w → Onward r' e' w₁ t w' → Onward r e w t w'
 since q h l o = record { rooted = o.rooted ∙ q; grown = let g = o.grown in omega arith; kept = o.kept ∙ l }
@@ -82,8 +73,8 @@ module _ (order w : List ℕ) (f a b : ℕ) (s : Stroll) (t : Telling order w f 
     le_refl s.halves,
   )
 
-  pub second_unfit : (get_or w o 0 ≢ 0) × (get_or w o 0 < 32768) → Stepped order s.root s.edges s.halves w None w
-  second_unfit (some, small) = declined order s.root s.edges s.halves w w refl (λ fits.
+  pub second_unfit : get_or w o 0 ≢ 0 → get_or w o 0 < 32768 → Stepped order s.root s.edges s.halves w None w
+  second_unfit some small = declined order s.root s.edges s.halves w w refl (λ fits.
       t.no_end fits (ending w o s.dart is some small))
 
 -- ---- at one where an edge ends

@@ -7,7 +7,7 @@ ghost use Rattle.model.specs.Traversal.{up};
 ghost use Rattle.mesh_second_places.specs.Areas.{edge_area};
 ghost use Rattle.mesh_second_places.specs.Walks.{AtSecond, Ending, Telling, Stepped};
 
-use trace_steps::Mark;
+use trace_steps::{FIRST, SEEN};
 
 // Stacks in the work area, in units of the number of darts: edges outside the tree that wait for their end, by number; and of each face whose second place is
 // still to come, that place, the face's number, and that of the edge it was entered by.
@@ -44,7 +44,7 @@ pub fn put_edge(w: &mut [u16], n: usize, d: usize, e: usize, waiting: usize)
     requires { (n ≤ 8192) × (16 * n ≤ length w.old) × (d < n) × (e < n) × (waiting < n) }
     ensures { w.new ≡ edge_area n d e waiting w.old }
 {
-    w[d] = trace_steps::FIRST + e as u16;
+    w[d] = FIRST + e as u16;
     w[WAITING * n + waiting] = e as u16;
 }
 
@@ -61,12 +61,12 @@ pub fn second_place(
     ensures { Stepped order.now s.root s.edges s.halves w.old result w.new }
 {
     let n = order.len();
-    match Mark::of(w[dart_steps::other(s.dart)]) {
-        Mark::Unseen => {
+    match w[dart_steps::other(s.dart)] {
+        0 => {
             w[work::TYPES * n + (f - 1)] = a;
             Some(Turn::Down(s))
         }
-        Mark::Seen => {
+        SEEN.. => {
             put_edge(w, n, s.dart, s.edges, s.waiting);
             w[work::TYPES * n + (f - 1)] = b;
             Some(Turn::Up(Stroll {
@@ -75,7 +75,7 @@ pub fn second_place(
                 ..s
             }))
         }
-        Mark::Down(_) | Mark::First(_) => None,
+        _ => None,
     }
 }
 
@@ -92,7 +92,7 @@ pub fn end_edge(order: &[u16], w: &mut [u16], f: usize, e: u16, s: Stroll) -> Op
     let mark = w[dart_steps::other(s.dart)];
     let last = w[WAITING * n + (s.waiting - 1)];
     let before = w[WAITING * n + (s.waiting - 2)];
-    if mark != trace_steps::FIRST + last || before < e {
+    if mark != FIRST + last || before < e {
         return None;
     }
     w[work::TYPES * n + (f - 1)] = 2;

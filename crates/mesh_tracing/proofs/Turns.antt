@@ -1,6 +1,5 @@
 -- What the steps of the walk answer on the way up, and the whole walk.
 --
---   free                 the mark of an opposite whose edge has not begun there
 --   half_tells           at a second place that was still to come
 --   Going, going_start, going_up, going_lower, gone_down, gone_unfit, gone_home   the way up
 --   ended_since          what leads down again or home, from an earlier time on
@@ -13,7 +12,7 @@ use Prim.Native.Nat.{ℕ, suc, ◌+◌, ◌-◌, ◌*◌, ◌/◌, ◌≤◌, �
 use native.Mathlib.Nat.{le_refl}
 use native.Mathlib.Omega.{arith}
 use mathlib.Core.Path.{◌≡◌, refl, sym, ap, subst, ◌∙◌}
-use mathlib.Core.Logic.{◌⊎◌, inl, inr, ⊎_elim, ◌≢◌}
+use mathlib.Core.Logic.{◌⊎◌, ⊎_elim, ◌≢◌}
 use mathlib.Core.Bool.{Bool, true, false, false≢true}
 use mathlib.Core.List.{List}
 use lib.Dec.{eqb}
@@ -32,9 +31,7 @@ use Rattle.tracing.specs.Tracing.{from}
 use Rattle.mesh_walks.specs.Told.{told_after}
 use Rattle.mesh_second_places.specs.declared.Stroll.{Stroll}
 use Rattle.std.specs.Prelude.{Option, None, Some}
-use Rattle.trace_steps.specs.declared.Mark.{Mark}
-use Rattle.trace_steps.specs.declared.Mark.TheVariants.{Unseen, Seen}
-use Rattle.trace_steps.specs.Steps.{Says, Ground}
+use Rattle.trace_steps.specs.Steps.{Ground}
 use Rattle.trace_steps.proofs.Grounds as grounds
 use Rattle.mesh_second_places.specs.declared.Turn.{Turn}
 use Rattle.mesh_second_places.specs.declared.Turn.TheVariants.{Down, Up}
@@ -50,11 +47,6 @@ use Rattle.mesh_tracing.proofs.Homes.{home_at, ended, begun}
 use Rattle.mesh_tracing.proofs.Declining.{home_over}
 
 -- ---- the way up
-
--- no edge began there
-pub free : (m : ℕ) (x : Mark) → Says m x → (x ≡ Unseen) ⊎ (x ≡ Seen) → (m ≡ 0) ⊎ (32768 ≤ m)
-free m x says (inl e) = inl (subst (Says m) e says)
-free m x says (inr e) = inr (subst (Says m) e says)
 
 pub half_tells : (order w : List ℕ) (f e : ℕ) (s : Stroll) → AtSecond order w up f e s → (o : ℕ) → o ≡ opposite s.dart
     → (get_or w o 0 ≡ 0) ⊎ (32768 ≤ get_or w o 0) → Telling order w f 1 3 s

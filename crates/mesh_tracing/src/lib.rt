@@ -11,7 +11,7 @@ ghost use Rattle.mesh_second_places.specs.Walks.{AtDown, AtUp, Stepped};
 ghost use Rattle.mesh_tracing.specs.Walks.{AtHome, Ended, Meshed};
 
 use mesh_second_places::{Stroll, Turn};
-use trace_steps::Mark;
+use trace_steps::{FIRST, SEEN};
 
 // ---- the way up
 
@@ -30,9 +30,9 @@ fn back(order: &[u16], w: &mut [u16], s: Stroll) -> Option<Turn>
         halves,
         ..s
     };
-    match Mark::of(w[dart_steps::other(y)]) {
-        Mark::Unseen | Mark::Seen => mesh_second_places::second_place(order, w, f, 1, 3, t),
-        Mark::Down(_) | Mark::First(_) => mesh_second_places::end_edge(order, w, f, e, t),
+    match w[dart_steps::other(y)] {
+        0 | SEEN.. => mesh_second_places::second_place(order, w, f, 1, 3, t),
+        _ => mesh_second_places::end_edge(order, w, f, e, t),
     }
 }
 
@@ -70,8 +70,7 @@ fn is_end(w: &[u16], n: usize, o: usize, i: usize) -> bool
     ensures { result ≡ eqb (get_or w.now o 0) (8192 + get_or w.now (WAITING * n + i) 0) }
 {
     let mark = w[o];
-    mark >= trace_steps::FIRST
-        && mark - trace_steps::FIRST == w[mesh_second_places::WAITING * n + i]
+    mark >= FIRST && mark - FIRST == w[mesh_second_places::WAITING * n + i]
 }
 
 // Back at the root's face, whose other two places must end the two edges that wait. Every edge has begun.

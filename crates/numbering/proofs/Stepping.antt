@@ -22,8 +22,6 @@ use Rattle.traversal.proofs.Steps.{dart_step, dart_bound}
 use Rattle.work.specs.Area.{region}
 use Rattle.work.proofs.Regions.{region_set_other}
 use Rattle.marks.specs.Marks.{Rounded}
-use Rattle.trace_steps.specs.declared.Mark.TheVariants.{Down, First}
-use Rattle.trace_steps.specs.Steps.{Says}
 use Rattle.tracing.specs.Tracing.{from}
 use Rattle.tracing.proofs.Places.{mark_at, region_mark, above_at}
 use Rattle.numbering.specs.declared.Stand.{Stand}
@@ -190,31 +188,31 @@ module _ (rot : List ℕ) (r k : ℕ) (w : List ℕ) (s : Stand) (g : Numbering 
       (subst (Marked rot r (suc k)) (sym (ap (region 0 n) area ∙ put_marks v)) marked)
       (λ j h. ap (λ (a : List ℕ). get_or a (n + link_of rot r j) 0) area ∙ stored rot r k w s g v value j h)
 
-  module _ (f : ℕ) (says : Says mark (Down f)) where
+  module _ (lo : 16384 ≤ mark) (hi : mark < 32768) where
     goes_up : ℓ k ≡ up
-    goes_up = tells_up rot r fits perm g.root_in g.toured k here marks g.marks (told (λ m. 16384 ≤ m) says.0) (told (λ m. m < 32768) says.1)
+    goes_up = tells_up rot r fits perm g.root_in g.toured k here marks g.marks (told (λ m. 16384 ≤ m) lo) (told (λ m. m < 32768) hi)
 
     up_ends : Ends rot r fits perm g.root_in g.toured k up
     up_ends = ends rot r fits perm g.root_in g.toured k here up goes_up refl
 
-    up_edge_lem : f ≡ opened ℓ up_ends.begun
-    up_edge_lem = let e = sym mark_is ∙ ends_mark rot r fits perm g.root_in g.toured k here marks g.marks up up_ends refl in omega (arith, says.2, e)
+    up_edge_lem : mark - 16384 ≡ opened ℓ up_ends.begun
+    up_edge_lem = let e = sym mark_is ∙ ends_mark rot r fits perm g.root_in g.toured k here marks g.marks up up_ends refl in omega arith
 
-    pub up_range : f < 8192
+    pub up_range : mark - 16384 < 8192
     up_range = let l = up_ends.earlier in let y = opened_few ℓ up_ends.begun in omega (arith, up_edge_lem, few)
 
-    pub moved_up : (t : Stand) (w' : List ℕ) → t ≡ up_on rot o f s → w' ≡ end_area n f s w → Numbering rot r (suc k) w' t
+    pub moved_up : (t : Stand) (w' : List ℕ) → t ≡ up_on rot o (mark - 16384) s → w' ≡ end_area n (mark - 16384) s w → Numbering rot r (suc k) w' t
     unfolding onward
     moved_up t w' stands area = subst (Numbering rot r (suc k) w') (sym stands)
-        (end_to up goes_up refl f w' (up_on rot o f s) area
-        (ap (λ (e : ℕ). 2 * e + 1) up_edge_lem ∙ sym (end_number rot r fits perm g.root_in g.toured k here up up_ends refl))
+        (end_to up goes_up refl (mark - 16384) w' (up_on rot o (mark - 16384) s) area
+        (ap (λ (f : ℕ). 2 * f + 1) up_edge_lem ∙ sym (end_number rot r fits perm g.root_in g.toured k here up up_ends refl))
         (ap (next rot) (sym across)) refl
-        (ap (λ (e : ℕ). 2 * e) up_edge_lem ∙ sym (open_number rot r fits perm g.root_in g.toured k here up up_ends refl))
+        (ap (λ (f : ℕ). 2 * f) up_edge_lem ∙ sym (open_number rot r fits perm g.root_in g.toured k here up up_ends refl))
         (up_marks rot r fits perm g.root_in g.toured k here marks g.marks goes_up))
 
-  module _ (f : ℕ) (says : Says mark (First f)) where
+  module _ (lo : 0 < mark) (hi : mark < 16384) where
     goes_second : ℓ k ≡ second
-    goes_second = tells_second rot r fits perm g.root_in g.toured k here marks g.marks (told (λ m. 0 < m) says.0) (told (λ m. m < 16384) says.1)
+    goes_second = tells_second rot r fits perm g.root_in g.toured k here marks g.marks (told (λ m. 0 < m) lo) (told (λ m. m < 16384) hi)
 
     second_ends : Ends rot r fits perm g.root_in g.toured k second
     second_ends = ends rot r fits perm g.root_in g.toured k here second goes_second refl
@@ -222,17 +220,17 @@ module _ (rot : List ℕ) (r k : ℕ) (w : List ℕ) (s : Stand) (g : Numbering 
     second_mark : mark ≡ 8192 + opened ℓ second_ends.begun
     second_mark = sym mark_is ∙ ends_mark rot r fits perm g.root_in g.toured k here marks g.marks second second_ends refl
 
-    second_edge : f ≡ opened ℓ second_ends.begun
-    second_edge = let l = second_ends.earlier in let y = opened_few ℓ second_ends.begun in omega (arith, second_mark, says.2, few)
+    second_edge : mark - 8192 ≡ opened ℓ second_ends.begun
+    second_edge = omega (arith, second_mark)
 
-    pub end_range : f < 8192
-    end_range = let l = second_ends.earlier in let y = opened_few ℓ second_ends.begun in omega (arith, second_edge, few)
+    pub end_range : (8192 ≤ mark) × (mark - 8192 < 8192)
+    end_range = (omega (arith, second_mark), let l = second_ends.earlier in let y = opened_few ℓ second_ends.begun in omega (arith, second_edge, few))
 
-    pub moved_second : (t : Stand) (w' : List ℕ) → t ≡ second_on rot f s → w' ≡ end_area n f s w → Numbering rot r (suc k) w' t
+    pub moved_second : (t : Stand) (w' : List ℕ) → t ≡ second_on rot (mark - 8192) s → w' ≡ end_area n (mark - 8192) s w → Numbering rot r (suc k) w' t
     unfolding onward
     moved_second t w' stands area =
-        let value : 2 * f + 1 ≡ num (D k) =
-        ap (λ (e : ℕ). 2 * e + 1) second_edge ∙ sym (end_number rot r fits perm g.root_in g.toured k here second second_ends refl) in
+        let value : 2 * (mark - 8192) + 1 ≡ num (D k) =
+        ap (λ (f : ℕ). 2 * f + 1) second_edge ∙ sym (end_number rot r fits perm g.root_in g.toured k here second second_ends refl) in
         subst (Numbering rot r (suc k) w') (sym stands)
-        (end_to second goes_second refl f w' (second_on rot f s) area value (ap (next rot) g.here) refl value
+        (end_to second goes_second refl (mark - 8192) w' (second_on rot (mark - 8192) s) area value (ap (next rot) g.here) refl value
         (second_marks rot r fits perm g.root_in g.toured k here marks g.marks goes_second))

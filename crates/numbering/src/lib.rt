@@ -8,7 +8,7 @@ ghost use Rattle.model.specs.Map.{vertex_of, connected, dart_count_fits};
 ghost use Rattle.trace_steps.specs.Steps.{Ground};
 ghost use Rattle.numbering.specs.Numbering.{Placed, WentDown, first_on, first_area, up_on, second_on, end_area, Numbering, Numbered};
 
-use trace_steps::Mark;
+use trace_steps::{DOWN, FIRST, SEEN};
 
 // Where the walk stands: the dart that comes next, how many edges have begun, and the number of the dart whose successor it is.
 #[derive(Clone, Copy)]
@@ -17,6 +17,8 @@ struct Stand {
     edges: usize,
     place: usize,
 }
+
+// Not one generic function with those of `trace_steps`: what is put differs.
 
 // The dart of s goes down to the vertex of its opposite o.
 #[tactic(auto, unfolding(model::specs::Map::next))]
@@ -27,8 +29,8 @@ fn go_down(order: &[u16], w: &mut [u16], o: usize, s: Stand) -> Stand
 {
     let dart = order[o] as usize;
     w[order.len() + s.place] = (2 * s.edges) as u16;
-    trace_steps::round(order, w, o, trace_steps::SEEN);
-    w[s.dart] = trace_steps::DOWN + s.edges as u16;
+    trace_steps::round(order, w, o, SEEN);
+    w[s.dart] = DOWN + s.edges as u16;
     Stand {
         dart,
         edges: s.edges + 1,
@@ -44,7 +46,7 @@ fn go_first(order: &[u16], w: &mut [u16], s: Stand) -> Stand
 {
     let dart = order[s.dart] as usize;
     w[order.len() + s.place] = (2 * s.edges) as u16;
-    w[s.dart] = trace_steps::FIRST + s.edges as u16;
+    w[s.dart] = FIRST + s.edges as u16;
     Stand {
         dart,
         edges: s.edges + 1,
@@ -77,17 +79,17 @@ fn go_second(order: &[u16], w: &mut [u16], f: usize, s: Stand) -> Stand
 }
 
 // The dart that comes next is met, at position i of the walk from the root.
-#[tactic(auto, using(crate::proofs::Stepping::over_in, crate::proofs::Stepping::placed, crate::proofs::Stepping::blank, crate::proofs::Stepping::up_range, crate::proofs::Stepping::end_range))]
 fn visit(order: &[u16], root: usize, w: &mut [u16], i: usize, s: Stand) -> Stand
     requires { Numbering order.now root i w.old s × (i < length order.now) }
     ensures { Numbering order.now root (suc i) w.new result }
 {
     let o = dart_steps::other(s.dart);
-    match Mark::of(w[o]) {
-        Mark::Unseen => go_down(order, w, o, s),
-        Mark::Seen => go_first(order, w, s),
-        Mark::Down(f) => go_up(order, w, o, f as usize, s),
-        Mark::First(f) => go_second(order, w, f as usize, s),
+    let mark = w[o];
+    match mark {
+        0 => go_down(order, w, o, s),
+        SEEN.. => go_first(order, w, s),
+        DOWN.. => go_up(order, w, o, (mark - DOWN) as usize, s),
+        _ => go_second(order, w, (mark - FIRST) as usize, s),
     }
 }
 
@@ -99,7 +101,7 @@ pub fn walk(order: &[u16], root: usize, w: &mut [u16])
 {
     let n = order.len();
     work::fill(w, 0, n, 0);
-    trace_steps::round(order, w, root, trace_steps::SEEN);
+    trace_steps::round(order, w, root, SEEN);
     let mut s = Stand {
         dart: root,
         edges: 0,

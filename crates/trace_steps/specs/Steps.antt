@@ -1,7 +1,6 @@
 -- What each kind of step does, in the work area w of a rotation of n darts. Position i comes next; i and the number of edges that wait are together the number of tree
 -- bits before it.
 --
---   Says entry m             the mark m is what this entry says
 --   Ground rot w             the entries are a permutation, and the work area has room
 --   Placed rot i s           position, dart and numbers are in range
 --   Circled rot o c w w'     the darts of o's vertex are marked with c, and all else stays
@@ -10,7 +9,7 @@
 --   up_on, up_area             one up, which ends tree edge f; o is the opposite
 --   second_on, second_area     one that ends edge f outside the tree
 --   last_is s f               f is on top of the stack s
-use Rattle.std.specs.Prelude.{ℕ, ◌+◌, ◌-◌, ◌*◌, ◌%◌, ◌≤◌, ◌<◌, ◌≡◌, Bool, true, false, List, [], ◌∷◌, eqb, length, set, drop}
+use Rattle.std.specs.Prelude.{ℕ, ◌+◌, ◌-◌, ◌*◌, ◌≤◌, ◌<◌, ◌≡◌, Bool, true, false, List, [], ◌∷◌, eqb, length, set, drop}
 use Rattle.model.specs.Numbers.{is_permutation}
 use Rattle.model.specs.Map.{next, dart_count_fits}
 use Rattle.work.specs.Map.{WAITING}
@@ -18,14 +17,6 @@ use Rattle.work.specs.Area.{region}
 use Rattle.marks.specs.Marks.{Rounded}
 use Rattle.trace_puts.specs.Putting.{follows, down_put, first_put, up_put, second_put}
 use Rattle.trace_steps.specs.declared.Trace.{Trace}
-use Rattle.trace_steps.specs.declared.Mark.{Mark}
-use Rattle.trace_steps.specs.declared.Mark.TheVariants.{Unseen, Seen, Down, First}
-
-abbrev pub Says : ℕ → Mark → Type 0
-Says entry Unseen = entry ≡ 0
-Says entry Seen = 32768 ≤ entry
-Says entry (Down e) = (16384 ≤ entry) × (entry < 32768) × (e ≡ entry - 16384)
-Says entry (First e) = (0 < entry) × (entry < 16384) × (e ≡ entry % 8192)
 
 pub record Ground (rot w : List ℕ) : Type 0 where
   pub count : dart_count_fits (length rot) ≡ true

@@ -6,39 +6,17 @@ ghost use Rattle.std.specs.Prelude.{◌≡◌, ℕ, ◌*◌, ◌≤◌, ◌<◌,
 ghost use Rattle.model.specs.Map.{vertex_of};
 ghost use Rattle.work.specs.Map.{WAITING};
 ghost use Rattle.work.specs.Area.{stack};
-ghost use Rattle.trace_steps.specs.Steps.{Says, Ground, Circled, Placed, WentDown, first_on, first_area, up_on, up_area, second_on, second_area, last_is};
+ghost use Rattle.trace_steps.specs.Steps.{Ground, Circled, Placed, WentDown, first_on, first_area, up_on, up_area, second_on, second_area, last_is};
 
 // ---- marks
 
-// Numbers, as the entries of the lent work area are; `Mark::of` reads them.
+// Numbers, not an enum: they stand in the 16-bit entries of the lent work area (fixed memory).
 // At a dart whose vertex is seen, with the number of edges begun by then; at a dart met first, as down or as first, with the number of its edge.
 pub const SEEN: u16 = 32768;
 
 pub const DOWN: u16 = 16384;
 
 pub const FIRST: u16 = 8192;
-
-// What an entry says of its dart: its vertex is not seen; it is seen; or the dart began the edge of this number, to a new vertex or outside the tree.
-#[derive(Clone, Copy)]
-pub enum Mark {
-    Unseen,
-    Seen,
-    Down(u16),
-    First(u16),
-}
-
-impl Mark {
-    pub fn of(entry: u16) -> Mark
-        ensures { Says entry result }
-    {
-        match entry {
-            0 => Mark::Unseen,
-            SEEN.. => Mark::Seen,
-            DOWN.. => Mark::Down(entry - DOWN),
-            _ => Mark::First(entry % FIRST),
-        }
-    }
-}
 
 // Every dart of the vertex of o, none of which has a mark, gets this one.
 pub fn round(order: &[u16], w: &mut [u16], o: usize, mark: u16)

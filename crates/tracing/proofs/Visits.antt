@@ -8,7 +8,6 @@ use mathlib.Core.Logic.{◌≢◌}
 use mathlib.Core.Bool.{Bool, true, false, cond, false≢true}
 use mathlib.Core.List.{List}
 use Prim.Native.Nat.{ℕ, suc, ◌-◌, ◌*◌, ◌≤◌, ◌<◌}
-use native.Mathlib.Omega.{arith}
 use lib.Dec.{eqb}
 use lib.ListN.{length, get_or}
 use borrow.Author.Tests.{eqb-true, eqb-false, eq-eqb, ne_eqb}
@@ -16,8 +15,7 @@ use Rattle.model.specs.Map.{opposite, next, vertex_of}
 use Rattle.work.specs.Map.{WAITING}
 use Rattle.work.specs.Area.{stack}
 use Rattle.trace_steps.specs.declared.Trace.{Trace}
-use Rattle.trace_steps.specs.declared.Mark.TheVariants.{Down, First}
-use Rattle.trace_steps.specs.Steps.{Says, Placed, down_on, WentDown, first_on, first_area, up_on, up_area, second_on, second_area, last_is}
+use Rattle.trace_steps.specs.Steps.{Placed, down_on, WentDown, first_on, first_area, up_on, up_area, second_on, second_area, last_is}
 use Rattle.std.specs.Prelude.{None, Some}
 use Rattle.tracing.specs.Tracing.{Tracing, Stepped}
 use Rattle.tracing.proofs.Declining.{loop_unsound, leaf_unsound, crossing_unsound}
@@ -88,68 +86,45 @@ module _ {family : ℕ} {rot : List ℕ} {k : ℕ} {w : List ℕ} {s : Trace} {o
       going t (first_on rot s) w' e refl
       (stepping.traced_first family rot k w s g here on (told (λ m. 32768 ≤ m) big) (λ f. told (λ m. m ≢ get_or w s.dart 0) (loop f)) w' area) l
 
-  module _ (f : ℕ) (says : Says mark (Down f)) where
-    lo : 16384 ≤ get_or w (opposite s.dart) 0
-    lo = told (λ m. 16384 ≤ m) says.0
-
-    hi : get_or w (opposite s.dart) 0 < 32768
-    hi = told (λ m. m < 32768) says.1
-
-    number : get_or w (opposite s.dart) 0 - 16384 ≡ f
-    number = ap (λ (m : ℕ). m - 16384) same ∙ sym says.2
-
-    pub up_range : f < n
-    up_range = subst (λ (m : ℕ). m < n) number (stepping.up_in family rot k w s g here on lo hi)
+  module _ (lo : 16384 ≤ mark) (hi : mark < 32768) where
+    pub up_range : mark - 16384 < n
+    up_range = subst (λ (m : ℕ). m - 16384 < n) same
+        (stepping.up_in family rot k w s g here on (told (λ m. 16384 ≤ m) lo) (told (λ m. m < 32768) hi))
 
     pub visited_up : (family ≡ 1 → next rot s.dart ≢ s.dart) → (t : Trace) (w' : List ℕ) → length w' ≡ length w
-        → t ≡ up_on rot o s → w' ≡ up_area rot family k o f s w → Stepped family rot k w s (Some t) w'
+        → t ≡ up_on rot o s → w' ≡ up_area rot family k o (mark - 16384) s w → Stepped family rot k w s (Some t) w'
     visited_up leaf t w' l e area =
         going t (up_on rot (opposite s.dart) s) w' (subst (λ (x : ℕ). t ≡ up_on rot x s) is e) refl
-        (stepping.traced_up family rot k w s g here on lo hi leaf w'
-        (subst (λ (m : ℕ). w' ≡ up_area rot family k (opposite s.dart) m s w) (sym number) (subst (λ (x : ℕ). w' ≡ up_area rot family k x f s w) is area))) l
+        (stepping.traced_up family rot k w s g here on (told (λ m. 16384 ≤ m) lo) (told (λ m. m < 32768) hi) leaf w'
+        (subst (λ (x : ℕ). w' ≡ up_area rot family k x (get_or w x 0 - 16384) s w) is area)) l
 
-    pub unfit_up : cond (eqb family 1) (eqb (next rot s.dart) s.dart) false ≡ true → Stepped family rot k w s None w
-    unfolding Stepped
-    unfit_up q = (
-      refl,
-      λ sound.
-          let (one, e) = leaf_taken family (next rot s.dart) s.dart q in
-          leaf_unsound family rot k w s g sound here on one lo hi e,
-    )
+  module _ (lo : 0 < mark) (hi : mark < 16384) where
+    pub end_range : (8192 ≤ mark) × (mark - 8192 < n)
+    end_range = subst (λ (m : ℕ). (8192 ≤ m) × (m - 8192 < n)) same
+        (stepping.end_in family rot k w s g here on (told (λ m. 0 < m) lo) (told (λ m. m < 16384) hi))
 
-  module _ (f : ℕ) (says : Says mark (First f)) where
-    some : 0 < get_or w (opposite s.dart) 0
-    some = told (λ m. 0 < m) says.0
+    module _ (last : last_is (stack (WAITING * n) s.waiting w) (mark - 8192) ≡ true) where
+      last' : last_is (stack (WAITING * n) s.waiting w) (get_or w (opposite s.dart) 0 - 8192) ≡ true
+      last' = told (λ m. last_is (stack (WAITING * n) s.waiting w) (m - 8192) ≡ true) last
 
-    top : get_or w (opposite s.dart) 0 < 16384
-    top = told (λ m. m < 16384) says.1
-
-    range : (8192 ≤ get_or w (opposite s.dart) 0) × (get_or w (opposite s.dart) 0 - 8192 < n)
-    range = stepping.end_in family rot k w s g here on some top
-
-    number_lem : get_or w (opposite s.dart) 0 - 8192 ≡ f
-    number_lem = omega (arith, same, says.2, range.0, top)
-
-    pub end_range : f < n
-    end_range = subst (λ (m : ℕ). m < n) number_lem range.1
-
-    last_told : (b : Bool) → last_is (stack (WAITING * n) s.waiting w) f ≡ b → last_is (stack (WAITING * n) s.waiting w) (get_or w (opposite s.dart) 0 - 8192) ≡ b
-    last_told b = subst (λ (m : ℕ). last_is (stack (WAITING * n) s.waiting w) m ≡ b) (sym number_lem)
-
-    module _ (last : last_is (stack (WAITING * n) s.waiting w) f ≡ true) where
       pub has_waiting : 1 ≤ s.waiting
-      has_waiting = stepping.some_waits family rot k w s g here on (last_told true last)
+      has_waiting = stepping.some_waits family rot k w s g here on last'
 
-      pub visited_second : (t : Trace) (w' : List ℕ) → length w' ≡ length w → t ≡ second_on rot s → w' ≡ second_area rot family k f s w
+      pub visited_second : (t : Trace) (w' : List ℕ) → length w' ≡ length w → t ≡ second_on rot s → w' ≡ second_area rot family k (mark - 8192) s w
           → Stepped family rot k w s (Some t) w'
       visited_second t w' l e area =
           going t (second_on rot s) w' e refl
-          (stepping.traced_second family rot k w s g here on some top (last_told true last) w'
-          (subst (λ (m : ℕ). w' ≡ second_area rot family k m s w) (sym number_lem) area)) l
+          (stepping.traced_second family rot k w s g here on (told (λ m. 0 < m) lo) (told (λ m. m < 16384) hi) last' w'
+          (subst (λ (x : ℕ). w' ≡ second_area rot family k (get_or w x 0 - 8192) s w) is area)) l
 
-    pub unfit_second : last_is (stack (WAITING * n) s.waiting w) f ≡ false → Stepped family rot k w s None w
+    pub unfit_second : last_is (stack (WAITING * n) s.waiting w) (mark - 8192) ≡ false → Stepped family rot k w s None w
     unfolding Stepped
-    unfit_second last = (refl, λ sound. crossing_unsound family rot k w s g sound here on some top (last_told false last))
+    unfit_second last = (
+      refl,
+      λ sound.
+          crossing_unsound family rot k w s g sound here on (told (λ m. 0 < m) lo) (told (λ m. m < 16384) hi)
+          (told (λ m. last_is (stack (WAITING * n) s.waiting w) (m - 8192) ≡ false) last),
+    )
 
   pub unfit_first : 32768 ≤ mark → cond (eqb family 4) false (eqb mark (get_or w s.dart 0)) ≡ true → Stepped family rot k w s None w
   unfolding Stepped
@@ -158,4 +133,13 @@ module _ {family : ℕ} {rot : List ℕ} {k : ℕ} {w : List ℕ} {s : Trace} {o
     λ sound.
         let (f, e) = loop_taken family mark (get_or w s.dart 0) q in
         loop_unsound family rot k w s g sound here on f (told (λ m. 32768 ≤ m) big) (same ∙ e),
+  )
+
+  pub unfit_up : 16384 ≤ mark → mark < 32768 → cond (eqb family 1) (eqb (next rot s.dart) s.dart) false ≡ true → Stepped family rot k w s None w
+  unfolding Stepped
+  unfit_up lo hi q = (
+    refl,
+    λ sound.
+        let (f, e) = leaf_taken family (next rot s.dart) s.dart q in
+        leaf_unsound family rot k w s g sound here on f (told (λ m. 16384 ≤ m) lo) (told (λ m. m < 32768) hi) e,
   )

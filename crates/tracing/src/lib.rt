@@ -8,7 +8,7 @@ ghost use Rattle.model.specs.Map.{next, dart_count_fits};
 ghost use Rattle.work.specs.Area.{region};
 ghost use Rattle.tracing.specs.Tracing.{Tracing, Stepped, Traced};
 
-use trace_steps::{Mark, Trace};
+use trace_steps::{DOWN, FIRST, SEEN, Trace};
 
 // The edge of d, met first with this mark at its opposite, is a loop that the family does not take.
 fn loop_refused(family: u16, w: &[u16], d: usize, mark: u16) -> bool
@@ -34,29 +34,30 @@ fn visit(order: &[u16], family: u16, w: &mut [u16], i: usize, s: Trace) -> Optio
     ensures { Stepped family order.now i w.old s result w.new }
 {
     let o = dart_steps::other(s.dart);
-    let entry = w[o];
-    match Mark::of(entry) {
-        Mark::Unseen => Some(trace_steps::go_down(order, family, w, i, o, s)),
-        Mark::Seen => {
-            if loop_refused(family, w, s.dart, entry) {
-                return None;
-            }
-            Some(trace_steps::go_first(order, family, w, i, s))
-        }
-        Mark::Down(f) => {
-            if leaf_refused(family, order, s.dart) {
-                return None;
-            }
-            Some(trace_steps::go_up(order, family, w, i, o, f as usize, s))
-        }
-        Mark::First(f) => {
-            let crossed = !trace_steps::is_last(w, order.len(), s.waiting, f);
-            if crossed {
-                return None;
-            }
-            Some(trace_steps::go_second(order, family, w, i, f as usize, s))
-        }
+    let mark = w[o];
+    // Tests here, and no `for` in `walk`: tried, and with a `match` or a `for` the walk of large plans in family 2 took 6 to 13 % longer.
+    if mark == 0 {
+        return Some(trace_steps::go_down(order, family, w, i, o, s));
     }
+    if mark >= SEEN {
+        if loop_refused(family, w, s.dart, mark) {
+            return None;
+        }
+        return Some(trace_steps::go_first(order, family, w, i, s));
+    }
+    if mark >= DOWN {
+        if leaf_refused(family, order, s.dart) {
+            return None;
+        }
+        let e = (mark - DOWN) as usize;
+        return Some(trace_steps::go_up(order, family, w, i, o, e, s));
+    }
+    let f = mark - FIRST;
+    let crossed = !trace_steps::is_last(w, order.len(), s.waiting, f);
+    if crossed {
+        return None;
+    }
+    Some(trace_steps::go_second(order, family, w, i, f as usize, s))
 }
 
 // ---- the walk
@@ -69,20 +70,22 @@ pub fn walk(order: &[u16], root: usize, family: u16, w: &mut [u16]) -> bool
     ensures { Traced family (record { rotation = order.now; root = root; outside = 0 }) w.old result w.new }
 {
     let n = order.len();
-    trace_steps::round(order, w, root, trace_steps::SEEN);
+    trace_steps::round(order, w, root, SEEN);
     let mut s = Trace {
         root,
         dart: root,
         edges: 0,
         waiting: 0,
     };
-    for i in 0..n {
+    let mut i = 0;
+    while i < n {
         let Some(t) = visit(order, family, w, i, s) else {
             return false;
         };
         s = t;
+        i += 1;
         if s.dart == root {
-            return i + 1 == n;
+            return i == n;
         }
     }
     false

@@ -1,5 +1,4 @@
 use Rattle.std.proofs.Common.{arith}
-use Rattle.mesh_second_places.proofs.Turns.{begun}
 use Rattle.mesh_first_places.proofs.Firsts.{first_ranges, first_in, first_over, first_second}
 use Rattle.mesh_first_places.proofs.Turns.{first_goes_down, first_unfit}
 use Rattle.mesh_first_places.proofs.first_place.Goals as goal
@@ -25,8 +24,8 @@ put_half-requires c =
 pub overflow_add-result : goal.overflow_add-result
 overflow_add-result c = let r = first_ranges _ _ _ _ c.requires in omega arith
 
-pub returns-in-Unseen : goal.returns-in-Unseen
-returns-in-Unseen c = first_goes_down _ _ _ _ c.requires _ c.other.ensures _ c.put_half.auto.w c.in-Unseen.ensures c.put_half.ensures
+pub returns-in-0 : goal.returns-in-0
+returns-in-0 c = first_goes_down _ _ _ _ c.requires _ c.other.ensures _ c.put_half.auto.w (omega arith) c.put_half.ensures
 
-pub returns-in-Down : goal.returns-in-Down
-returns-in-Down c = first_unfit _ _ _ _ c.requires _ c.other.ensures (begun _ _ c.of.ensures c.in-Down.is)
+pub returns-in_default : goal.returns-in_default
+returns-in_default c = first_unfit _ _ _ _ c.requires _ c.other.ensures (λ e. omega arith) (omega arith)

@@ -1,9 +1,10 @@
-use Rattle.std.proofs.Common.{arith}
+use Rattle.std.proofs.Common.{inl, inr, arith}
 use Rattle.mesh_second_places.proofs.Seconds.{second_here}
-use Rattle.mesh_second_places.proofs.Turns.{begun, ending}
+use Rattle.mesh_second_places.proofs.Turns.{ending}
 use Rattle.mesh_tracing.proofs.Homes.{back_at}
-use Rattle.mesh_tracing.proofs.Turns.{free, half_tells}
+use Rattle.mesh_tracing.proofs.Turns.{half_tells}
 use Rattle.mesh_tracing.proofs.back.Goals as goal
+use Rattle.mesh_tracing.proofs.back.Goals.{in-0-1, in_default+else-this-lt32768}
 
 pub overflow_add-y : goal.overflow_add-y
 overflow_add-y c = let h = second_here (back_at _ _ _ c.requires.0 c.requires.1) in omega arith
@@ -40,9 +41,9 @@ bounds-w-other c = let h = second_here (back_at _ _ _ c.requires.0 c.requires.1)
 
 pub second_place-requires : goal.second_place-requires
 second_place-requires c =
-    half_tells _ _ _ _ _ (back_at _ _ _ c.requires.0 c.requires.1) _ c.other.ensures (free _ _ c.of.ensures c.in-Unseen.is)
+    half_tells _ _ _ _ _ (back_at _ _ _ c.requires.0 c.requires.1) _ c.other.ensures
+    (elim c.in-0-1.branch [ in-0-1 u ↦ inl (omega arith) | in_default+else-this-lt32768 u ↦ inr (omega arith) ])
 
 pub end_edge-requires : goal.end_edge-requires
 end_edge-requires c =
-    let m = begun _ _ c.of.ensures c.in-Down.is in
-    (back_at _ _ _ c.requires.0 c.requires.1, ending c.args.w.now _ _ c.other.ensures m.0 m.1)
+    (back_at _ _ _ c.requires.0 c.requires.1, ending c.args.w.now _ _ c.other.ensures (λ e. omega arith) (omega arith))

@@ -19,10 +19,10 @@ offset_bounds-w-o c =
 pub bounds-w-o : goal.bounds-w-o
 bounds-w-o c = let p = c.requires in omega (arith, visits.over_in p.0 p.1 p.2 c.other-o.ensures, p.0.ground.room)
 
-pub returns-in-Unseen : goal.returns-in-Unseen
-returns-in-Unseen c =
+pub returns-then-mark-eq0 : goal.returns-then-mark-eq0
+returns-then-mark-eq0 c =
     let p = c.requires in
-    visits.visited_down p.0 p.1 p.2 c.other-o.ensures c.in-Unseen.ensures _ _ c.go_down.auto.w c.go_down.ensures
+    visits.visited_down p.0 p.1 p.2 c.other-o.ensures (omega arith) _ _ c.go_down.auto.w c.go_down.ensures
 
 pub loop_refused-requires : goal.loop_refused-requires
 loop_refused-requires c =
@@ -32,13 +32,13 @@ loop_refused-requires c =
 pub returns-then-loop_refused : goal.returns-then-loop_refused
 returns-then-loop_refused c =
     let p = c.requires in
-    visits.unfit_first p.0 p.1 p.2 c.other-o.ensures c.in-Seen.ensures (sym c.loop_refused.ensures ∙ c.if-loop_refused.true)
+    visits.unfit_first p.0 p.1 p.2 c.other-o.ensures (omega arith) (sym c.loop_refused.ensures ∙ c.if-loop_refused.true)
 
-pub returns-else-loop_refused : goal.returns-else-loop_refused
-returns-else-loop_refused c =
+pub returns-then-mark-ge-SEEN : goal.returns-then-mark-ge-SEEN
+returns-then-mark-ge-SEEN c =
     let p = c.requires in
     let v = c.go_first in
-    visits.visited_first p.0 p.1 p.2 c.other-o.ensures c.in-Seen.ensures (visits.loop_left _ _ _ (sym c.loop_refused.ensures ∙ c.if-loop_refused.false))
+    visits.visited_first p.0 p.1 p.2 c.other-o.ensures (omega arith) (visits.loop_left _ _ _ (sym c.loop_refused.ensures ∙ c.if-loop_refused.false))
     _ _ v.auto.w v.ensures.0 v.ensures.1
 
 pub leaf_refused-requires : goal.leaf_refused-requires
@@ -47,14 +47,17 @@ leaf_refused-requires c = let p = c.requires in (stepping.placed _ _ _ _ _ p.0 p
 pub returns-then-leaf_refused : goal.returns-then-leaf_refused
 returns-then-leaf_refused c =
     let p = c.requires in
-    visits.unfit_up p.0 p.1 p.2 c.other-o.ensures _ c.in-Down.ensures (sym c.leaf_refused.ensures ∙ c.if-leaf_refused.true)
+    visits.unfit_up p.0 p.1 p.2 c.other-o.ensures (omega arith) (omega arith) (sym c.leaf_refused.ensures ∙ c.if-leaf_refused.true)
 
-pub returns-else-leaf_refused : goal.returns-else-leaf_refused
-returns-else-leaf_refused c =
+pub returns-then-mark-ge-DOWN : goal.returns-then-mark-ge-DOWN
+returns-then-mark-ge-DOWN c =
     let p = c.requires in
     let v = c.go_up in
-    visits.visited_up p.0 p.1 p.2 c.other-o.ensures _ c.in-Down.ensures (visits.leaf_left _ _ _ (sym c.leaf_refused.ensures ∙ c.if-leaf_refused.false))
+    visits.visited_up p.0 p.1 p.2 c.other-o.ensures (omega arith) (omega arith) (visits.leaf_left _ _ _ (sym c.leaf_refused.ensures ∙ c.if-leaf_refused.false))
     _ _ v.auto.w v.ensures.0 v.ensures.1
+
+pub overflow_sub-f : goal.overflow_sub-f
+overflow_sub-f c = let p = c.requires in (visits.end_range p.0 p.1 p.2 c.other-o.ensures (omega arith) (omega arith)).0
 
 pub is_last-crossed-requires : goal.is_last-crossed-requires
 is_last-crossed-requires c =
@@ -65,20 +68,20 @@ is_last-crossed-requires c =
 pub returns-then-crossed : goal.returns-then-crossed
 returns-then-crossed c =
     let p = c.requires in
-    visits.unfit_second p.0 p.1 p.2 c.other-o.ensures _ c.in-First.ensures (sym c.is_last-crossed.ensures ∙ c.if-crossed.true)
+    visits.unfit_second p.0 p.1 p.2 c.other-o.ensures (omega arith) (omega arith) (sym c.is_last-crossed.ensures ∙ c.if-crossed.true)
 
 pub go_second-requires : goal.go_second-requires
 go_second-requires c =
     let p = c.requires in (
       p.0.ground,
       stepping.placed _ _ _ _ _ p.0 p.1 p.2,
-      visits.end_range p.0 p.1 p.2 c.other-o.ensures _ c.in-First.ensures,
-      visits.has_waiting p.0 p.1 p.2 c.other-o.ensures _ c.in-First.ensures (sym c.is_last-crossed.ensures ∙ c.if-crossed.false),
+      (visits.end_range p.0 p.1 p.2 c.other-o.ensures (omega arith) (omega arith)).1,
+      visits.has_waiting p.0 p.1 p.2 c.other-o.ensures (omega arith) (omega arith) (sym c.is_last-crossed.ensures ∙ c.if-crossed.false),
     )
 
-pub returns-else-crossed : goal.returns-else-crossed
-returns-else-crossed c =
+pub returns : goal.returns
+returns c =
     let p = c.requires in
     let v = c.go_second in
-    visits.visited_second p.0 p.1 p.2 c.other-o.ensures _ c.in-First.ensures (sym c.is_last-crossed.ensures ∙ c.if-crossed.false)
+    visits.visited_second p.0 p.1 p.2 c.other-o.ensures (omega arith) (omega arith) (sym c.is_last-crossed.ensures ∙ c.if-crossed.false)
     _ _ v.auto.w v.ensures.0 v.ensures.1
