@@ -1,6 +1,7 @@
 -- One step of the walk, from the stores that make it.
 --
 --   noted                        the store of a letter
+--   darts_few, other_below       a rotation's darts are few, and the other dart of an edge is one of them
 --   onward_bound                 the dart after a dart is a dart
 --   name_at, name_bound          a dart's vertex, read in the work area, and its bound
 --   Here, here                   what a step of dart d relies on, o being the other dart of its edge
@@ -36,14 +37,17 @@ noted n d l w h = record {
 
 -- ---- darts and names
 
-over_bound : (n d : ℕ) → dart_count_fits n ≡ true → d < n → opposite d < n
-over_bound n d count = opposite_bound n d (count_parts n count).1
+pub darts_few : (rot : List ℕ) → dart_count_fits (length rot) ≡ true → length rot ≤ 8192
+darts_few rot count = (count_parts (length rot) count).2
+
+pub other_below : (rot : List ℕ) (d : ℕ) → dart_count_fits (length rot) ≡ true → d < length rot → opposite d < length rot
+other_below rot d count = opposite_bound (length rot) d (count_parts (length rot) count).1
 
 pub onward_bound : (rot : List ℕ) → is_permutation rot ≡ true → dart_count_fits (length rot) ≡ true → (l : Letter) (d : ℕ) → d < length rot
     → onward rot l d < length rot
 unfolding onward
-onward_bound rot perm count down d h = (next_perm rot perm).bound (opposite d) (over_bound (length rot) d count h)
-onward_bound rot perm count up d h = (next_perm rot perm).bound (opposite d) (over_bound (length rot) d count h)
+onward_bound rot perm count down d h = (next_perm rot perm).bound (opposite d) (other_below rot d count h)
+onward_bound rot perm count up d h = (next_perm rot perm).bound (opposite d) (other_below rot d count h)
 onward_bound rot perm count first d h = (next_perm rot perm).bound d h
 onward_bound rot perm count second d h = (next_perm rot perm).bound d h
 
@@ -61,22 +65,18 @@ module _ (rot w : List ℕ) (named : VerticesNamed rot w) (d : ℕ) (h : d < len
 -- ---- one step
 
 pub record Here (rot w : List ℕ) (d o : ℕ) : Type 0 where
-  pub few : length rot ≤ 8192
   pub dart : d < length rot
-  pub room : 3 * length rot ≤ length w
   pub other : o ≡ opposite d
   pub over : o < length rot
   pub name : get_or w o 0 ≡ vertex_of rot (opposite d)
   pub bound : get_or w o 0 < length rot
 
-pub here : (rot w : List ℕ) (d o : ℕ) → dart_count_fits (length rot) ≡ true → d < length rot → 3 * length rot ≤ length w → VerticesNamed rot w
+pub here : (rot w : List ℕ) (d o : ℕ) → dart_count_fits (length rot) ≡ true → d < length rot → VerticesNamed rot w
     → o ≡ opposite d → Here rot w d o
-here rot w d o count hd room named e =
-    let b = over_bound (length rot) d count hd in
+here rot w d o count hd named e =
+    let b = other_below rot d count hd in
     record {
-      few = (count_parts (length rot) count).2;
       dart = hd;
-      room = room;
       other = e;
       over = omega arith;
       name = ap (λ (k : ℕ). get_or w k 0) e ∙ name_at rot w named (opposite d) b;

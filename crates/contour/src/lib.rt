@@ -9,6 +9,7 @@ ghost use Rattle.contour.specs.Steps.{VerticesNamed, Visited};
 ghost use Rattle.contour.specs.Walked.{Walked};
 
 // Dart d is met, and its letter noted: the dart after it. Both darts that may be it are read first: they stand side by side.
+#[tactic(auto, using(crate::proofs::Steps::darts_few, crate::proofs::Steps::other_below, crate::proofs::Steps::name_bound))]
 fn visit(order: &[u16], w: &mut [u16], d: usize) -> usize
     requires { (dart_count_fits (length order.now) ≡ true) × (d < length order.now) × (3 * length order.now ≤ length w.old)
         × VerticesNamed order.now w.old }

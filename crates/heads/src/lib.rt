@@ -24,6 +24,7 @@ pub struct Head {
 }
 
 // The head of these bytes, or the first of 1, 2, 3, 5 that concerns them.
+#[tactic(auto, unfolding(model::specs::Shelf::head_refusal, model::specs::Shelf::head_refusals, model::specs::Numbers::first_refusal))]
 pub fn parse(record: &[u8]) -> Result<Head, Refusal>
     ensures number { number_of result ≡ head_refusal «record».now }
     ensures fields { IfOk result (λ h. (h.kind ≡ kind_of «record».now) × (h.edges ≡ edges_of «record».now)) }

@@ -31,7 +31,7 @@ fn put_payload(bytes: &[u8], w: &[u16], n: usize, family: u16, out: &mut [u8], a
     }
 }
 
-// The number of the outside in the record; 0 in a kind without it.
+// The number of the outside in the record; 0 in a kind without it, where `packer::put_head`, which takes a number, puts none.
 fn stored(order: &[u16], root: u16, outside: u16, kind: u16, w: &[u16]) -> u16
     requires { stores_outside kind ≡ true → Marked (record { rotation = order.now; root = root; outside = outside }) w.now }
     ensures { stores_outside kind ≡ true → result ≡ standard_face (record { rotation = order.now; root = root; outside = outside }) outside }

@@ -18,7 +18,7 @@ pub fn is_face(w: &[u16], n: usize, x: usize) -> bool
     x == 0 || (x < n && outer_face::is_lowest(&w[..n], x))
 }
 
-// The number of the outside that a record of this kind names; 0 in a kind without it.
+// The number of the outside that a record of this kind names; 0 in a kind without it, no `None`: the theorems on `outside_of` have that number.
 #[tactic(auto, unfolding(lists::specs::Coder::outside_of))]
 pub fn outside_of(record: &[u8], kind: u16) -> u16
     requires { (passes «record».now ≡ true) × (kind ≡ kind_of «record».now) }
