@@ -22,7 +22,7 @@ use borrow.Author.Tests.{eq-eqb, ne_eqb, not-false}
 use Rattle.model.specs.declared.Table.{Table}
 use Rattle.std.specs.Prelude.{Result, Ok, Err, IsErr}
 use Rattle.model.specs.declared.Refusal.{Refusal}
-use Rattle.model.specs.declared.Refusal.TheVariants.{ShortOutput}
+use Rattle.model.specs.declared.Refusal.TheVariants.{ShortOutput, BadTable}
 use Rattle.model.specs.Numbers.{elem, first_refusal}
 use Rattle.model.specs.Map.{Plan, darts, edges, characteristic, stores_outside, family, has_loop, has_dead_end, loop_refused, face_refused, degree_refused, fit}
 use Rattle.model.specs.Traversal.{Letter, down, up, first, second, code, opens, visits, word}
@@ -50,17 +50,14 @@ use Rattle.laying.specs.Laid.{ToLay, Recorded}
 use Rattle.mesh_writing.specs.Recorded.{MeshRecorded}
 use Rattle.write_checks.specs.Early.{early_refusal}
 use Rattle.write_checks.proofs.Refusing.{Passed, early_parts}
-use Rattle.table_test.proofs.Checked as checked
 use Rattle.writing.specs.Made.{Made, Laid, last_refusal, Walked, Unfit, Refused, Fits}
 use Rattle.writing.proofs.Refusing.{refusal_table, refusal_split, early_not_ten}
 
-pub no_table : {table : Table} {k : ℕ} {p : Plan} {w out : List ℕ} {e : Refusal} → number_of_refusal e ≡ cond (table_refused table) 19 0
-    → Made table k p w out (Err e) w out
-unfolding answer_of
-no_table {table} {k} {p} {w} {out} {e} q =
-    let (bad, number) = checked.turned_away table (number_of_refusal e) q (refusal_some e) in
+pub no_table : {table : Table} {k : ℕ} {p : Plan} {w out : List ℕ} → table_refused table ≡ true → Made table k p w out (Err BadTable) w out
+unfolding answer_of numbered
+no_table {table} {k} {p} {w} {out} bad =
     let first = refusal_table table k p (length w) (length out) bad in
-    record { answered = rw first (refused_so (characteristic p.rotation) (Err e) e 19 refl number refl); filled = rw first; kept = refl }
+    record { answered = rw first; filled = rw first; kept = refl }
 
 pub turned_away : {table : Table} {k : ℕ} {p : Plan} {w out w₁ : List ℕ} {e : Refusal} → table_refused table ≡ false → length w₁ ≡ length w
     → number_of_refusal e ≡ early_refusal k p (length w₁) (length out) → Made table k p w out (Err e) w₁ out
@@ -243,15 +240,16 @@ mesh_record : (t : Table) (p : Plan) → record_of t 3 (with_outside p 0) ≡ re
 unfolding record_of payload_of outside_bytes family stores_outside elem
 mesh_record t p = ap (λ (ts : List ℕ). headed 3 (edges p.rotation) (mesh_payload t ts)) (types_outside p 0)
 
-module _ (t : Table) (p : Plan) {w out : List ℕ} {a : Result ℕ Refusal} {w' out' : List ℕ} (m : MeshRecorded t.bytes (with_outside p 0) w out a w' out') where
+module _ (t : Table) {bs : List ℕ} (p : Plan) {w out : List ℕ} {a : Result ℕ Refusal} {w' out' : List ℕ} (same : t.bytes ≡ bs)
+    (m : MeshRecorded bs (with_outside p 0) w out a w' out') where
   abbrev full : ℕ
   full = length (record_of t 3 p)
 
   answered : a ≡ cond (ltb (length out) full) (Err ShortOutput) (Ok full)
-  answered = rw (← mesh_record t p) (m.answered t refl)
+  answered = rw (← mesh_record t p) (m.answered t same)
 
   filled : out' ≡ cond (ltb (length out) full) out (front (record_of t 3 p) out)
-  filled = rw (← mesh_record t p) (m.filled t refl)
+  filled = rw (← mesh_record t p) (m.filled t same)
 
   as_three : Laid t 3 p w out a w' out'
   unfolding last_refusal last_refusals first_refusal answer_of numbered

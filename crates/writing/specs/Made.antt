@@ -5,7 +5,7 @@
 --   last_refusal          8, known only with a mesh's record
 --   Walked               whether the plan fits, and what the walk of its kind leaves then
 --   Unfit, Refused       a plan that does not fit, and its refusal
---   Fits, Laid           one that fits, with what its record is made of, and the answer for it
+--   Fits, Laid, LaidUnder   one that fits, with what its record is made of, and the answer for it; under every table with these bytes
 use Rattle.std.specs.Prelude.{ℕ, ◌*◌, ◌≤◌, ◌<◌, ◌≡◌, ◌≢◌, Bool, true, false, cond, List, eqb, length, Result}
 use Rattle.model.specs.declared.Table.{Table}
 use Rattle.model.specs.declared.Refusal.{Refusal}
@@ -60,3 +60,6 @@ pub record Fits (k : ℕ) (p : Plan) (w out : List ℕ) : Type 0 where
 
 abbrev pub Laid : Table → ℕ → Plan → List ℕ → List ℕ → Result ℕ Refusal → List ℕ → List ℕ → Type 0
 Laid t k p work out answer work' out' = Answered (last_refusal t k p (length out)) t k p work out answer work' out'
+
+abbrev pub LaidUnder : List ℕ → ℕ → Plan → List ℕ → List ℕ → Result ℕ Refusal → List ℕ → List ℕ → Type 0
+LaidUnder bs k p work out answer work' out' = (t : Table) → t.bytes ≡ bs → Laid t k p work out answer work' out'

@@ -6,7 +6,7 @@ ghost use Rattle.model.specs.Numbers.{is_permutation};
 ghost use Rattle.model.specs.Map.{dart_count_fits};
 ghost use Rattle.model.specs.Calls.{Wrote};
 ghost use Rattle.work.specs.Area.{region};
-ghost use Rattle.writing.specs.Made.{Made, Laid, Walked, Unfit, Refused, Fits};
+ghost use Rattle.writing.specs.Made.{Made, LaidUnder, Walked, Unfit, Refused, Fits};
 
 use model::{Refusal, Table};
 
@@ -33,7 +33,7 @@ fn refused(order: &[u16], root: u16, kind: u16, w: &mut [u16]) -> Refusal
 
 // The answer for a plan that fits. That a mesh has no room is known only now.
 fn laid(
-    table: &Table,
+    bytes: &[u8],
     order: &[u16],
     root: u16,
     outside: u16,
@@ -41,19 +41,19 @@ fn laid(
     w: &mut [u16],
     out: &mut [u8],
 ) -> Result<u16, Refusal>
-    requires { Fits kind (record { rotation = order.now; root = root; outside = outside }) w.old out.old }
-    ensures { Laid table.now kind (record { rotation = order.now; root = root; outside = outside })
+    requires { (length bytes.now ≡ 243) × Fits kind (record { rotation = order.now; root = root; outside = outside }) w.old out.old }
+    ensures { LaidUnder bytes.now kind (record { rotation = order.now; root = root; outside = outside })
         w.old out.old result w.new out.new }
 {
     if kind == 3 {
-        return mesh_writing::write(&table.bytes, order, root, w, out);
+        return mesh_writing::write(bytes, order, root, w, out);
     }
-    Ok(laying::laid_out(&table.bytes, order, root, outside, kind, w, out))
+    Ok(laying::laid_out(bytes, order, root, outside, kind, w, out))
 }
 
 // The answer and the output, before the work area is cleared.
 fn made(
-    table: &Table,
+    table: Table,
     order: &[u16],
     root: u16,
     outside: u16,
@@ -61,16 +61,19 @@ fn made(
     w: &mut [u16],
     out: &mut [u8],
 ) -> Result<u16, Refusal>
-    ensures { Made table.now kind (record { rotation = order.now; root = root; outside = outside })
+    ensures { Made table kind (record { rotation = order.now; root = root; outside = outside })
         w.old out.old result w.new out.new }
 {
-    table_test::check(table)?;
+    if !table_test::is_loaded(table) {
+        return Err(Refusal::BadTable);
+    }
+    let bytes = table.bytes; // lent alone: a table that is lent takes 256 bytes more of the stack
     let good = write_checks::entries_good(order, w);
     write_checks::early(order, root, outside, kind, good, w.len(), out.len())?;
     if !walked(order, root, kind, w) {
         return Err(refused(order, root, kind, w));
     }
-    laid(table, order, root, outside, kind, w, out)
+    laid(&bytes, order, root, outside, kind, w, out)
 }
 
 // A plan is written as a record of this kind. Any content and any length of what is lent.
@@ -86,7 +89,7 @@ pub fn write(
     ensures { Wrote table kind (record { rotation = order.now; root = root; outside = outside })
         work.old out.old result work.new out.new }
 {
-    let r = made(&table, order, root, outside, kind, work, out);
+    let r = made(table, order, root, outside, kind, work, out);
     work::clear(work);
     r
 }

@@ -1,17 +1,18 @@
 use native.Mathlib.Omega.{arith}
 use mathlib.Core.Path.{◌≡◌, refl, sym, ◌∙◌}
 use mathlib.Core.Bool.{false}
+use borrow.Author.Tests.{not-true, not-false}
 use Rattle.model.specs.Calls.{table_refused}
 use Rattle.model.proofs.Fitness.{count_parts}
 use Rattle.model.proofs.Numbered.{passed_on}
-use Rattle.table_test.proofs.Checked.{stands}
 use Rattle.write_checks.proofs.Refusing.{early_parts}
 use Rattle.writing.proofs.Making.{no_table, turned_away, Begun, walk_fits, made_laid, walk_unfit, made_refused}
+use borrow.Author.Rules.{rules}
 use Rattle.writing.proofs.made.Goals as goal
-use Rattle.writing.proofs.made.Goals.{In_ok-check, After-walked}
+use Rattle.writing.proofs.made.Goals.{Else-not-is_loaded, After-walked}
 
-stood : (c : In_ok-check) → table_refused c.args.table.now ≡ false
-stood c = stands _ _ c.in_ok-check.ensures refl
+stood : (c : Else-not-is_loaded) → table_refused c.args.table ≡ false
+stood c = not-true _ (sym c.is_loaded.ensures ∙ c.if-not-is_loaded.false)
 
 -- the early refusals are passed, and the plan is walked
 begun : (c : After-walked) →
@@ -19,16 +20,16 @@ begun : (c : After-walked) →
     c.entries_good-good.new.w c.walked.new.w c.walked.result
 begun c = record { kept = c.entries_good-good.auto.w; passes = sym c.in_ok-early.ensures; walk = c.walked.ensures }
 
-pub returns-in_err-check : goal.returns-in_err-check
-returns-in_err-check c = rw (passed_on _ _ c.from_residual.ensures) (no_table c.in_err-check.ensures)
+pub returns-then-not-is_loaded : goal.returns-then-not-is_loaded
+returns-then-not-is_loaded c = no_table (not-false _ (sym c.is_loaded.ensures ∙ c.if-not-is_loaded.true))
 
 pub early-requires : goal.early-requires
 early-requires c = λ l. c.entries_good-good.ensures.answer l
 
 pub returns-in_err-early : goal.returns-in_err-early
 returns-in_err-early c =
-    rw (passed_on _ _ c.from_residual-in_err-early.ensures)
-    (turned_away (stood (goal.at.returns-in_err-early c).In_ok-check) c.entries_good-good.auto.w c.in_err-early.ensures)
+    rw (passed_on _ _ c.from_residual.ensures)
+    (turned_away (stood (goal.at.returns-in_err-early c).Else-not-is_loaded) c.entries_good-good.auto.w c.in_err-early.ensures)
 
 pub walked-requires : goal.walked-requires
 walked-requires c =
@@ -43,12 +44,12 @@ refused-requires c = walk_unfit (begun (goal.at.refused-requires c).After-walked
 pub returns-then-not-walked : goal.returns-then-not-walked
 returns-then-not-walked c =
     let at = goal.at.returns-then-not-walked c in
-    made_refused (begun at.After-walked) c.if-not-walked.true _ (stood at.In_ok-check) _ _ c.refused.ensures
+    made_refused (begun at.After-walked) c.if-not-walked.true _ (stood at.Else-not-is_loaded) _ _ c.refused.ensures
 
 pub laid-requires : goal.laid-requires
-laid-requires c = walk_fits (begun (goal.at.laid-requires c).After-walked) c.if-not-walked.false
+laid-requires c = (search rules, walk_fits (begun (goal.at.laid-requires c).After-walked) c.if-not-walked.false)
 
 pub returns : goal.returns
 returns c =
     let at = goal.at.returns c in
-    made_laid (begun at.After-walked) c.if-not-walked.false _ (stood at.In_ok-check) _ _ _ c.laid.ensures
+    made_laid (begun at.After-walked) c.if-not-walked.false _ (stood at.Else-not-is_loaded) _ _ _ (c.laid.ensures c.args.table refl)
