@@ -1,16 +1,16 @@
 use Rattle.writing.proofs.Making.{other_laid, mesh_laid}
-use Rattle.std.proofs.Common.{refl, rules}
+use Rattle.std.proofs.Common.{refl}
 use Rattle.writing.proofs.laid.Goals as goal
 
 pub write-requires : goal.write-requires
-write-requires c = (search rules, c.requires.mesh c.if-kind-eq3.true)
+write-requires c = c.requires.mesh c.if-kind-eq3.true
 
 pub returns-then-kind-eq3 : goal.returns-then-kind-eq3
 returns-then-kind-eq3 c =
     mesh_laid c.args.table.now (record { rotation = c.args.order.now; root = c.args.root; outside = c.args.outside }) c.write.ensures _ c.if-kind-eq3.true
 
 pub laid_out-requires : goal.laid_out-requires
-laid_out-requires c = (search rules, c.requires.other c.if-kind-eq3.false)
+laid_out-requires c = c.requires.other c.if-kind-eq3.false
 
 pub returns : goal.returns
 returns c = other_laid c.args.table.now _ _ _ _ _ _ c.if-kind-eq3.false (c.laid_out.ensures c.args.table.now refl)
