@@ -41,8 +41,8 @@ fn label_in(group: u8, j: usize) -> u8
 }
 
 // Label i of the groups from byte `from` on.
-pub fn label_at(s: &[u8], inverse: &[u8], from: usize, i: usize) -> u8
-    requires { (length inverse.now ≡ 256) × (from ≤ length s.now) × (i < 5 * (length s.now - from)) }
+pub fn label_at(s: &[u8], inverse: &[u8; 256], from: usize, i: usize) -> u8
+    requires { (from ≤ length s.now) × (i < 5 * (length s.now - from)) }
     ensures { result ≡ get_or (groups (drop from (values_of inverse.now s.now))) i 0 }
 {
     let q = from + i / 5;

@@ -22,7 +22,7 @@ fn decode(table: &Table, payload: &[u8], family: u16, m: usize, w: &mut [u16]) -
     if family == 4 {
         return letter_decoder::decode(payload, m, w);
     }
-    decoder::decode(payload, family, table.inverse, m, w)
+    decoder::decode(payload, family, &table.inverse, m, w)
 }
 
 // The standard plan of a record of a kind other than 3 whose head passes, in the first 2m entries of a work area with room, and its outside; or 13. The work

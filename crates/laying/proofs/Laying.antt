@@ -202,16 +202,16 @@ module _ (bs : List ℕ) (n f at : ℕ) (w out : List ℕ) (r : Ready n f at w o
         let z = room in
         ap (region (at + front_bytes) count) laid_groups ∙ region_placed (at + front_bytes) gs (placed at fs out) (omega arith) count (sym lg)
 
-    pub table_asked : length bs ≡ 243 → (length bs ≡ 243) × (at + front_bytes + count ≤ length out₁) × (at + front_bytes ≤ 2 ^ 20) × (count ≤ 2 ^ 20)
+    pub table_asked : (at + front_bytes + count ≤ length out₁) × (at + front_bytes ≤ 2 ^ 20) × (count ≤ 2 ^ 20)
         × (all_below 243 (region (at + front_bytes) count out₁) ≡ true)
     unfolding gs
-    table_asked long =
+    table_asked =
         let c = counts n f at w out r in
         let (lf, lg, e) = parts in
         let b = r.begins in
         let z = room in
         let k = ap length laid_groups ∙ length_placed (at + front_bytes) gs (placed at fs out) (omega arith) in
-        (long, omega arith, omega arith, omega arith, ap (all_below 243) groups_there ∙ values)
+        (omega arith, omega arith, omega arith, ap (all_below 243) groups_there ∙ values)
 
     pub tabled : (out₂ : List ℕ) → out₂ ≡ placed (at + front_bytes) (map (λ v. get_or bs v 0) (region (at + front_bytes) count out₁)) out₁
         → Tabled bs n f at w out out₂

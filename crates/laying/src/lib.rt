@@ -1,7 +1,7 @@
 #![tactic(auto)]
 
 // The record of a plan that fits a kind other than 3, from what the walk has put in the work area. A plan that does not fit is not known here.
-ghost use Rattle.std.specs.Prelude.{◌≡◌, true, length};
+ghost use Rattle.std.specs.Prelude.{◌≡◌, true};
 ghost use Rattle.model.specs.Map.{stores_outside};
 ghost use Rattle.model.specs.Traversal.{standard_face};
 ghost use Rattle.work.specs.Area.{placed};
@@ -21,8 +21,8 @@ fn put_values(w: &[u16], n: usize, family: u16, out: &mut [u8], at: usize)
 }
 
 // The payload, under the table with these bytes.
-fn put_payload(bytes: &[u8], w: &[u16], n: usize, family: u16, out: &mut [u8], at: usize)
-    requires { (length bytes.now ≡ 243) × Ready n family at w.now out.old }
+fn put_payload(bytes: &[u8; 243], w: &[u16], n: usize, family: u16, out: &mut [u8], at: usize)
+    requires { Ready n family at w.now out.old }
     ensures { Tabled bytes.now n family at w.now out.old out.new }
 {
     put_values(w, n, family, out, at);
@@ -45,7 +45,7 @@ fn stored(order: &[u16], root: u16, outside: u16, kind: u16, w: &[u16]) -> u16
 
 // The record of a plan that fits a kind other than 3, as the walk left it in the work area.
 pub fn laid_out(
-    bytes: &[u8],
+    bytes: &[u8; 243],
     order: &[u16],
     root: u16,
     outside: u16,
@@ -53,7 +53,7 @@ pub fn laid_out(
     w: &[u16],
     out: &mut [u8],
 ) -> u16
-    requires { (length bytes.now ≡ 243) × ToLay kind (record { rotation = order.now; root = root; outside = outside }) w.now out.old }
+    requires { ToLay kind (record { rotation = order.now; root = root; outside = outside }) w.now out.old }
     ensures { RecordedUnder bytes.now kind (record { rotation = order.now; root = root; outside = outside })
         out.old result out.new }
 {

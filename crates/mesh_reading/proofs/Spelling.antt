@@ -4,7 +4,7 @@
 --   untyped_spelt, typed_spelt   no types, or what spelling them says
 --   word_there            the word that is found is nested
 --   mesh_there            the dual of its rotation in the output is the mesh's
---   mesh_found, mesh_not_found   what reading then gives
+--   mesh_found            what reading then gives
 use Prim.Native.Nat.{ℕ, ◌-◌, ◌*◌, ◌/◌, ◌%◌, ◌≤◌}
 use native.Mathlib.Omega.{arith}
 use mathlib.Core.Path.{◌≡◌, refl, sym, ap, ap₂, ◌∙◌}
@@ -85,9 +85,6 @@ module _ (x : Types) (m : ℕ) (w w₁ : List ℕ) (b : Bool) (t : Typed x m b w
 -- ---- the word that is found
 
 module _ (f : Found) (m : ℕ) (w w₁ : List ℕ) (b : Bool) (s : Spelt f m b w w₁) (out : List ℕ) where
-  pub mesh_not_found : b ≡ false → MeshRead f false out out
-  mesh_not_found e = record { word_found = λ g. absurd (false≢true g); none_found = λ g. (s.none_found e, refl) }
-
   module _ (e : b ≡ true) (some : 1 ≤ m) (few : m ≤ 4096) (room : 32 * m ≤ length w) where
     abbrev v : List Letter
     v = (s.word_found e).0

@@ -1,9 +1,8 @@
 -- From the dual of a mesh to the mesh in standard numbers.
 --
---   put_from              what is built is put to the output
 --   dual_nested           the word of the dual is nested
 --   mesh_size             the mesh has as many darts
---   order_long, mesh_asked   what the walk of the mesh asks
+--   mesh_asked            what the walk of the mesh asks
 --   copied_part, turned   its standard rotation is put to the output
 use Prim.Native.Nat.{ℕ, ◌-◌, ◌*◌, ◌≤◌, ◌<◌}
 use native.Mathlib.Nat.{add-zero}
@@ -30,12 +29,7 @@ use Rattle.coding.proofs.Meshes.{MeshWord, mesh_dual_built}
 use Rattle.work.specs.Area.{region}
 use Rattle.work.proofs.Regions.{region_region}
 use Rattle.numbering.specs.Numbering.{Numbered}
-use Rattle.word_builder.specs.Built.{Built}
-use Rattle.mesh_reading.specs.Stages.{PutFrom, MeshThere, mesh_of}
-
--- what is built and copied
-pub put_from : (m : ℕ) (w out w₁ out' : List ℕ) → Built (2 * m) w w₁ → out' ≡ front (dual_of (region 0 (2 * m) w₁)) out → PutFrom m w out w₁ out'
-put_from m w out w₁ out' b e = record { filled = e ∙ ap (λ (rot : List ℕ). front (dual_of rot) out) b.rotation; kept = b.kept }
+use Rattle.mesh_reading.specs.Stages.{MeshThere, mesh_of}
 
 module _ (v : List Letter) (mesh : MeshWord v) where
   proper : valid 2 v ≡ true
@@ -61,7 +55,7 @@ module _ (m : ℕ) (w out : List ℕ) (few : m ≤ 4096) (room : 32 * m ≤ leng
   abbrev order : List ℕ
   order = take (2 * m) out
 
-  pub order_long : length (take (2 * m) out) ≡ 2 * m
+  order_long : length (take (2 * m) out) ≡ 2 * m
   order_long = length-take-le (2 * m) out space
 
   fits : fit 3 (rooted order) ≡ true

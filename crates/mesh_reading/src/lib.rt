@@ -10,15 +10,11 @@ ghost use Rattle.mesh_reading.specs.Read.{MeshRead};
 ghost use Rattle.mesh_reading.specs.Stages.{Spelt, WordThere, PutFrom, MeshThere, mesh_of};
 
 // The word of the dual that the payload holds, at LETTERS; whether there is one, which is whether the payload is a mesh's.
-pub fn spell(payload: &[u8], inverse: &[u8], m: usize, w: &mut [u16]) -> bool
-    requires { (length inverse.now ≡ 256) × (1 ≤ m) × (m ≤ 4096) × (length payload.now < 65536) × (32 * m ≤ length w.old) }
+pub fn spell(payload: &[u8], inverse: &[u8; 256], m: usize, w: &mut [u16]) -> bool
+    requires { (1 ≤ m) × (m ≤ 4096) × (length payload.now < 65536) × (32 * m ≤ length w.old) }
     ensures { Spelt (decode_mesh m (undone inverse.now 3 m payload.now)) m result w.old w.new }
 {
-    let typed = mesh_unpacker::types(payload, inverse, m, w);
-    if !typed {
-        return false;
-    }
-    mesh_decoder::spell(w, m)
+    mesh_unpacker::types(payload, inverse, m, w) && mesh_decoder::spell(w, m)
 }
 
 // The dual of the standard rotation of the word at LETTERS, in the output.
@@ -40,13 +36,12 @@ fn turn(w: &mut [u16], m: usize, out: &mut [u16])
 }
 
 // The plan of a payload of m edges, in the first 2m entries of the output; whether there is one.
-pub fn read(payload: &[u8], inverse: &[u8], m: usize, w: &mut [u16], out: &mut [u16]) -> bool
-    requires { (length inverse.now ≡ 256) × (1 ≤ m) × (m ≤ 4096) × (length payload.now < 65536) × (32 * m ≤ length w.old)
+pub fn read(payload: &[u8], inverse: &[u8; 256], m: usize, w: &mut [u16], out: &mut [u16]) -> bool
+    requires { (1 ≤ m) × (m ≤ 4096) × (length payload.now < 65536) × (32 * m ≤ length w.old)
         × (2 * m ≤ length out.old) }
     ensures { MeshRead (decode_mesh m (undone inverse.now 3 m payload.now)) result out.old out.new }
 {
-    let found = spell(payload, inverse, m, w);
-    if !found {
+    if !spell(payload, inverse, m, w) {
         return false;
     }
     put(w, m, out);

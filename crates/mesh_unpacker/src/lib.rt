@@ -15,8 +15,8 @@ ghost use Rattle.mesh_unpacker.specs.Reading.{digit_on, values_from, Typed};
 // ---- what stands beside the codewords
 
 // The payload is as long as c bits and l digits want it; unused bits and fill digits are 0, and every group's byte is the table's.
-fn clean(payload: &[u8], inverse: &[u8], c: usize, l: usize) -> bool
-    requires { (length inverse.now ≡ 256) × (length payload.now < 65536) × (c ≤ 8 * length payload.now) × (l ≤ 65536) }
+fn clean(payload: &[u8], inverse: &[u8; 256], c: usize, l: usize) -> bool
+    requires { (length payload.now < 65536) × (c ≤ 8 * length payload.now) × (l ≤ 65536) }
     ensures { result ≡ clean (values_from (bytes_for c 8) inverse.now payload.now) c l }
 {
     let from = (c + 7) / 8;
@@ -29,8 +29,8 @@ fn clean(payload: &[u8], inverse: &[u8], c: usize, l: usize) -> bool
 // ---- digits
 
 // The codeword t, with digit j of the groups from byte `from` on if it has one.
-fn with_digit(payload: &[u8], inverse: &[u8], from: usize, j: usize, t: u16) -> u16
-    requires { (length inverse.now ≡ 256) × (from ≤ length payload.now) × (t ≡ 3 → j < 5 * (length payload.now - from)) × (t < 4) }
+fn with_digit(payload: &[u8], inverse: &[u8; 256], from: usize, j: usize, t: u16) -> u16
+    requires { (from ≤ length payload.now) × (t ≡ 3 → j < 5 * (length payload.now - from)) × (t < 4) }
     ensures { result ≡ digit_on t (get_or (groups (drop from (values_of inverse.now payload.now))) j 0) }
 {
     if t < 3 {
@@ -41,8 +41,8 @@ fn with_digit(payload: &[u8], inverse: &[u8], from: usize, j: usize, t: u16) -> 
 }
 
 // Each of the n codewords from place `at` on gets its digit.
-fn add_digits(payload: &[u8], inverse: &[u8], from: usize, n: usize, at: usize, w: &mut [u16])
-    requires inverse_len { (length inverse.now ≡ 256) × (length payload.now < 65536) × (from ≤ length payload.now) × (n ≤ 65536) }
+fn add_digits(payload: &[u8], inverse: &[u8; 256], from: usize, n: usize, at: usize, w: &mut [u16])
+    requires sizes { (length payload.now < 65536) × (from ≤ length payload.now) × (n ≤ 65536) }
     requires n_in_bounds { (at + n ≤ length w.old) × (all_below 4 (region at n w.old) ≡ true) }
     requires w_len_bound { length (type_digits (region at n w.old)) ≤ 5 * (length payload.now - from) }
     ensures { region at n w.new
@@ -59,8 +59,8 @@ fn add_digits(payload: &[u8], inverse: &[u8], from: usize, n: usize, at: usize, 
 // ---- the whole
 
 // The node types of a payload of m edges, put at TYPES; whether it is laid out as one.
-pub fn types(payload: &[u8], inverse: &[u8], m: usize, w: &mut [u16]) -> bool
-    requires { (length inverse.now ≡ 256) × (1 ≤ m) × (m ≤ 4096) × (length payload.now < 65536) × (32 * m ≤ length w.old) }
+pub fn types(payload: &[u8], inverse: &[u8; 256], m: usize, w: &mut [u16]) -> bool
+    requires { (1 ≤ m) × (m ≤ 4096) × (length payload.now < 65536) × (32 * m ≤ length w.old) }
     ensures { Typed (types_in m (undone inverse.now 3 m payload.now)) m result w.old w.new }
 {
     if m % 3 != 0 {

@@ -73,10 +73,10 @@ module _ (n : ℕ) (s : Sizes) (w : List ℕ) (r : Ready n s w) where
           (subst (λ (j : ℕ). region (at + length fs) j (placed at (fs ++ gs) out) ≡ gs) b (groups_there at fs gs out enough))
 
       module _ (from k : ℕ) (ef : from ≡ before) (ek : k ≡ count) where
-        pub table_asked : (bs : List ℕ) → length bs ≡ 243 → (length bs ≡ 243) × (at + from + k ≤ length out₁) × (at + from ≤ 2 ^ 20) × (k ≤ 2 ^ 20)
+        pub table_asked : (at + from + k ≤ length out₁) × (at + from ≤ 2 ^ 20) × (k ≤ 2 ^ 20)
             × (all_below 243 (region (at + from) k out₁) ≡ true)
         unfolding fs gs
-        table_asked bs long =
+        table_asked =
             let (a, b) = sizes in
             let x = length-append fs gs in
             let same : length out₁ ≡ length out = ap length e ∙ length_placed at (fs ++ gs) out (omega arith) in
@@ -84,7 +84,7 @@ module _ (n : ℕ) (s : Sizes) (w : List ℕ) (r : Ready n s w) where
             let u = r.bits_fit in
             let v = r.digits_fit in
             let low : all_below 243 gs ≡ true = pack_below 3 5 (omega arith) count (region (LABELS * n) s.digits w) r.digits_low in
-            (long, omega arith, omega arith, omega arith, ap₂ (λ (i j : ℕ). all_below 243 (region (at + i) j out₁)) ef ek ∙ ap (all_below 243) there ∙ low)
+            (omega arith, omega arith, omega arith, ap₂ (λ (i j : ℕ). all_below 243 (region (at + i) j out₁)) ef ek ∙ ap (all_below 243) there ∙ low)
 
         pub tabled : (bs out₂ : List ℕ) → out₂ ≡ placed (at + from) (map (λ v. get_or bs v 0) (region (at + from) k out₁)) out₁
             → out₂ ≡ placed at (tabled_payload bs n s w) out

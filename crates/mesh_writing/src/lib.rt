@@ -24,8 +24,8 @@ fn coded(order: &[u16], root: u16, w: &mut [u16]) -> Sizes
 }
 
 // The payload under the table with these bytes, from place at on.
-fn put_payload(bytes: &[u8], w: &[u16], n: usize, s: Sizes, out: &mut [u8], at: usize)
-    requires { (length bytes.now ≡ 243) × Ready n s w.now × (at ≤ 2 ^ 16) × (at + payload_size s ≤ length out.old) }
+fn put_payload(bytes: &[u8; 243], w: &[u16], n: usize, s: Sizes, out: &mut [u8], at: usize)
+    requires { Ready n s w.now × (at ≤ 2 ^ 16) × (at + payload_size s ≤ length out.old) }
     ensures { out.new ≡ placed at (tabled_payload bytes.now n s w.now) out.old }
 {
     mesh_packer::put_payload(w, n, s, out, at);
@@ -35,8 +35,8 @@ fn put_payload(bytes: &[u8], w: &[u16], n: usize, s: Sizes, out: &mut [u8], at: 
 }
 
 // The record of this length, where there is room for it.
-fn laid_out(bytes: &[u8], w: &[u16], n: usize, s: Sizes, total: u16, out: &mut [u8])
-    requires { (length bytes.now ≡ 243) × Ready n s w.now × (total ≡ 6 + payload_size s) × (6 + payload_size s ≤ length out.old) }
+fn laid_out(bytes: &[u8; 243], w: &[u16], n: usize, s: Sizes, total: u16, out: &mut [u8])
+    requires { Ready n s w.now × (total ≡ 6 + payload_size s) × (6 + payload_size s ≤ length out.old) }
     ensures { out.new ≡ front (headed 3 (n / 2) (tabled_payload bytes.now n s w.now)) out.old }
 {
     let m = (n / 2) as u16;
@@ -47,13 +47,13 @@ fn laid_out(bytes: &[u8], w: &[u16], n: usize, s: Sizes, total: u16, out: &mut [
 // The record of a mesh whose types stand in their place, under the table with these bytes: its length; refused where the output has no room for it, and is left as
 // it was.
 pub fn write(
-    bytes: &[u8],
+    bytes: &[u8; 243],
     order: &[u16],
     root: u16,
     w: &mut [u16],
     out: &mut [u8],
 ) -> Result<u16, Refusal>
-    requires { (length bytes.now ≡ 243) × Typed (record { rotation = order.now; root = root; outside = 0 }) w.old }
+    requires { Typed (record { rotation = order.now; root = root; outside = 0 }) w.old }
     ensures { MeshRecorded bytes.now (record { rotation = order.now; root = root; outside = 0 })
         w.old out.old result w.new out.new }
 {

@@ -2,7 +2,7 @@
 
 // Whether a table is the standard one: its entries are compared with those that the standard table has there, in loops without a branch. It knows bytes; of
 // loading, and of other tables, it knows nothing.
-ghost use Rattle.std.specs.Prelude.{◌≡◌, true, length};
+ghost use Rattle.std.specs.Prelude.{◌≡◌, true};
 ghost use Rattle.model.specs.Groups.{standard_table};
 ghost use Rattle.standard_test.specs.Entries.{standard_entry, Alike};
 
@@ -18,8 +18,7 @@ fn standard_entry(b: u8) -> u8
 
 // Each of the first 224 entries is its own place in both lists, as in the standard table. The loop has no branch, so that many entries are compared at once,
 // and it leaves none over: 224 is 7 times 32.
-fn first_places<'a>(bytes: &'a [u8], inverse: &'a [u8]) -> bool
-    requires { (length bytes.now ≡ 243) × (length inverse.now ≡ 256) }
+fn first_places(bytes: &[u8; 243], inverse: &[u8; 256]) -> bool
     ensures { result ≡ true → Alike (λ v. v) 0 224 bytes.now × Alike (λ v. v) 0 224 inverse.now }
 {
     let mut differ = 0u8;
@@ -31,8 +30,7 @@ fn first_places<'a>(bytes: &'a [u8], inverse: &'a [u8]) -> bool
 }
 
 // So is each byte after them.
-fn last_bytes(bytes: &[u8]) -> bool
-    requires { length bytes.now ≡ 243 }
+fn last_bytes(bytes: &[u8; 243]) -> bool
     ensures { result ≡ true → Alike (λ v. v) 224 243 bytes.now }
 {
     let mut differ = 0u8;
@@ -43,8 +41,7 @@ fn last_bytes(bytes: &[u8]) -> bool
 }
 
 // The entries of the inverse after them are the standard table's.
-fn last_entries(inverse: &[u8]) -> bool
-    requires { length inverse.now ≡ 256 }
+fn last_entries(inverse: &[u8; 256]) -> bool
     ensures { result ≡ true → Alike standard_entry 224 256 inverse.now }
 {
     let mut differ = 0u8;
@@ -55,8 +52,7 @@ fn last_entries(inverse: &[u8]) -> bool
 }
 
 // The standard table.
-fn is_standard<'a>(bytes: &'a [u8], inverse: &'a [u8]) -> bool
-    requires { (length bytes.now ≡ 243) × (length inverse.now ≡ 256) }
+fn is_standard(bytes: &[u8; 243], inverse: &[u8; 256]) -> bool
     ensures { result ≡ true → (bytes.now ≡ standard_table.bytes) × (inverse.now ≡ standard_table.inverse) }
 {
     first_places(bytes, inverse) && last_bytes(bytes) && last_entries(inverse)

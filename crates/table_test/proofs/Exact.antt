@@ -156,11 +156,11 @@ module _ (t : Table) where
   pub told_marks : count (is_mark t.inverse) 256 ≢ 13 → false ≡ not (table_refused t)
   told_marks d = unlike (λ stands. d (loaded_marks t stands))
 
-  pub told_all : length t.bytes ≡ 243 → ((i : ℕ) → i < 243 → get_or t.bytes i 0 < 256) → length t.inverse ≡ 256
+  pub told_all : length t.bytes ≡ 243 → ((i : ℕ) → get_or t.bytes i 0 < 256) → length t.inverse ≡ 256
       → count (is_mark t.inverse) 256 ≡ 13 → (r : Bool) → Decides (LeadsBack t.bytes t.inverse) r → r ≡ not (table_refused t)
   unfolding table_refused
   told_all long bytes wide thirteen true d =
-      let below = all_below_lem 256 t.bytes (λ k h. bytes k (omega arith)) in
+      let below = all_below_lem 256 t.bytes (λ k h. bytes k) in
       let (table, inverse) = test_exact t.bytes t.inverse long below wide (d.yes refl) thirteen in
       rw (table, inverse, same_refl (inverse_of t.bytes))
   told_all long bytes wide thirteen false d = unlike (λ stands. d.no refl (loaded_leads t stands))

@@ -2,7 +2,7 @@
 
 // The test that every call runs on the table it is handed: whether loading gives it. It knows bytes and values, and how many bytes stand for no group; it makes
 // no table, and knows no records.
-ghost use Rattle.std.specs.Prelude.{◌≡◌, not, cond, length};
+ghost use Rattle.std.specs.Prelude.{◌≡◌, not, cond};
 ghost use Rattle.model.specs.Numbers.{count};
 ghost use Rattle.model.specs.Calls.{table_refused};
 ghost use Rattle.model.specs.Refusals.{number_of};
@@ -11,8 +11,7 @@ ghost use Rattle.table_test.specs.Tested.{is_mark, LeadsBack, Decides};
 use model::{Refusal, Table};
 
 // How many bytes stand for no group.
-fn marks(inverse: &[u8]) -> u16
-    requires { length inverse.now ≡ 256 }
+fn marks(inverse: &[u8; 256]) -> u16
     ensures { result ≡ count (is_mark inverse.now) 256 }
 {
     let mut marks = 0;
@@ -25,8 +24,7 @@ fn marks(inverse: &[u8]) -> u16
 }
 
 // The entry of the inverse at each value's byte is that value.
-fn leads_back<'a>(bytes: &'a [u8], inverse: &'a [u8]) -> bool
-    requires { (length bytes.now ≡ 243) × (length inverse.now ≡ 256) }
+fn leads_back(bytes: &[u8; 243], inverse: &[u8; 256]) -> bool
     ensures { Decides (LeadsBack bytes.now inverse.now) result }
 {
     bytes
@@ -36,9 +34,8 @@ fn leads_back<'a>(bytes: &'a [u8], inverse: &'a [u8]) -> bool
 }
 
 // Loading gives the table with these arrays: each value's byte leads back to it, and the bytes left, 256 - 243, are marked.
-pub fn leads_all_back<'a>(bytes: &'a [u8], inverse: &'a [u8]) -> bool
-    requires { (length bytes.now ≡ 243) × (length inverse.now ≡ 256) }
-    ensures { result ≡ not (table_refused (record { bytes = bytes.entry.now; inverse = inverse.now })) }
+pub fn leads_all_back(bytes: &[u8; 243], inverse: &[u8; 256]) -> bool
+    ensures { result ≡ not (table_refused (record { bytes = bytes.now; inverse = inverse.now })) }
 {
     marks(inverse) == 13 && leads_back(bytes, inverse)
 }

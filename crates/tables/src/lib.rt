@@ -1,7 +1,7 @@
 #![tactic(auto)]
 
 // Group tables made: one loaded from bytes, with its inverse, and the standard one. It knows bytes and values, no records and no plans.
-ghost use Rattle.std.specs.Prelude.{◌≡◌, length};
+ghost use Rattle.std.specs.Prelude.{◌≡◌};
 ghost use Rattle.std.specs.Result.{result_unwrap_or};
 ghost use Rattle.model.specs.Refusals.{number_of};
 ghost use Rattle.model.specs.Numbers.{tabulate};
@@ -11,8 +11,7 @@ ghost use Rattle.model.specs.Calls.{Loads};
 use model::{Refusal, Table};
 
 // For each byte the first place where it stands, 243 where it does not.
-fn inverted(bytes: &[u8]) -> [u8; 256]
-    requires { length bytes.now ≡ 243 }
+fn inverted(bytes: &[u8; 243]) -> [u8; 256]
     ensures { result ≡ inverse_of bytes.now }
 {
     let mut inverse = [243u8; 256];

@@ -33,8 +33,8 @@ fn ends_in_zeros(group: u8, count: usize) -> bool
 }
 
 // Every label of the groups from byte `from` on is 0, from number m on, which is one of the last group's, or past it.
-pub fn zero_labels(bytes: &[u8], inverse: &[u8], from: usize, m: usize) -> bool
-    requires { (length inverse.now ≡ 256) × (from ≤ length bytes.now) × (length bytes.now < 2 ^ 32) × (5 * (length bytes.now - from) < m + 5) }
+pub fn zero_labels(bytes: &[u8], inverse: &[u8; 256], from: usize, m: usize) -> bool
+    requires { (from ≤ length bytes.now) × (length bytes.now < 2 ^ 32) × (5 * (length bytes.now - from) < m + 5) }
     ensures { result ≡ all_below 1 (drop m (groups (drop from (values_of inverse.now bytes.now)))) }
 {
     let end = 5 * (bytes.len() - from);
@@ -46,16 +46,15 @@ pub fn zero_labels(bytes: &[u8], inverse: &[u8], from: usize, m: usize) -> bool
 }
 
 // Every byte from place `from` on stands for a group.
-pub fn groups_fit(bytes: &[u8], inverse: &[u8], from: usize) -> bool
-    requires { length inverse.now ≡ 256 }
+pub fn groups_fit(bytes: &[u8], inverse: &[u8; 256], from: usize) -> bool
     ensures { result ≡ all_below 243 (drop from (values_of inverse.now bytes.now)) }
 {
     (from..bytes.len()).all(|k| inverse[bytes[k] as usize] < 243)
 }
 
 // A payload of kind 2 is clean: "unused low bits are 0", "the last group filled with 0", and every group's byte is the table's.
-fn groups_clean(payload: &[u8], inverse: &[u8], m: usize) -> bool
-    requires { Sized 2 m payload.now × (length inverse.now ≡ 256) }
+fn groups_clean(payload: &[u8], inverse: &[u8; 256], m: usize) -> bool
+    requires { Sized 2 m payload.now }
     ensures { result ≡ payload_clean 2 m (undone inverse.now 2 m payload.now) }
 {
     let from = (2 * m + 7) / 8;
@@ -84,8 +83,8 @@ fn put_group(w: &mut [u16], at: usize, group: u8)
 }
 
 // The labels of kind 2, and those that fill the last group.
-fn spread_groups(payload: &[u8], inverse: &[u8], m: usize, w: &mut [u16])
-    requires sized { Sized 2 m payload.now × (length inverse.now ≡ 256) }
+fn spread_groups(payload: &[u8], inverse: &[u8; 256], m: usize, w: &mut [u16])
+    requires sized { Sized 2 m payload.now }
     requires m_in_bounds { 32 * m ≤ length w.old }
     ensures { labels_at m w.new ≡ payload_labels 2 m (undone inverse.now 2 m payload.now) }
 {
@@ -95,23 +94,23 @@ fn spread_groups(payload: &[u8], inverse: &[u8], m: usize, w: &mut [u16])
     }
 }
 
-// Whether a payload of kind 2 is clean, and if so, its labels in the work area. The inverse is handed down by value: it is copied only here.
-fn unpack_groups(payload: &[u8], inverse: [u8; 256], m: usize, w: &mut [u16]) -> bool
+// Whether a payload of kind 2 is clean, and if so, its labels in the work area.
+fn unpack_groups(payload: &[u8], inverse: &[u8; 256], m: usize, w: &mut [u16]) -> bool
     requires { Sized 2 m payload.now × (32 * m ≤ length w.old) }
-    ensures { Unpacks 2 m inverse payload.now result w.new }
+    ensures { Unpacks 2 m inverse.now payload.now result w.new }
 {
-    let clean = groups_clean(payload, &inverse, m);
+    let clean = groups_clean(payload, inverse, m);
     if clean {
-        spread_groups(payload, &inverse, m, w);
+        spread_groups(payload, inverse, m, w);
     }
     clean
 }
 
 // Whether a payload is as it is laid out, and if so, its labels by number: those of kind 2 in the work area, so that whoever reads them one by one needs no
 // division; those of kind 1 stay in the payload.
-pub fn unpack(payload: &[u8], family: u16, inverse: [u8; 256], m: usize, w: &mut [u16]) -> bool
+pub fn unpack(payload: &[u8], family: u16, inverse: &[u8; 256], m: usize, w: &mut [u16]) -> bool
     requires { (has_labels family ≡ true) × Sized family m payload.now × (32 * m ≤ length w.old) }
-    ensures { Unpacks family m inverse payload.now result w.new }
+    ensures { Unpacks family m inverse.now payload.now result w.new }
 {
     if family == 1 {
         return zero_bits(payload, 3 * m, 8 * payload.len());

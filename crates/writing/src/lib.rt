@@ -33,7 +33,7 @@ fn refused(order: &[u16], root: u16, kind: u16, w: &mut [u16]) -> Refusal
 
 // The answer for a plan that fits. That a mesh has no room is known only now.
 fn laid(
-    bytes: &[u8],
+    bytes: &[u8; 243],
     order: &[u16],
     root: u16,
     outside: u16,
@@ -41,7 +41,7 @@ fn laid(
     w: &mut [u16],
     out: &mut [u8],
 ) -> Result<u16, Refusal>
-    requires { (length bytes.now ≡ 243) × Fits kind (record { rotation = order.now; root = root; outside = outside }) w.old out.old }
+    requires { Fits kind (record { rotation = order.now; root = root; outside = outside }) w.old out.old }
     ensures { LaidUnder bytes.now kind (record { rotation = order.now; root = root; outside = outside })
         w.old out.old result w.new out.new }
 {

@@ -16,9 +16,7 @@ pub slice_bounds-spell-start : goal.slice_bounds-spell-start
 slice_bounds-spell-start c = let h = passes_long _ c.requires.checked.passed in omega arith
 
 pub spell-found-requires : goal.spell-found-requires
-spell-found-requires c =
-    let (some, few, short, room) = mesh_asked _ _ _ _ c.requires.checked (all_bytes _ c.type_inv.«record») in
-    (omega arith, some, few, short, room)
+spell-found-requires c = mesh_asked _ _ _ _ c.requires.checked (all_bytes _ c.type_inv.«record»)
 
 -- what is spelt of the payload is spelt of the record
 spelt : (c : After-spell-found) → Spelt (decode_mesh_record c.args.table.now.inverse c.args.«record».now) c.args.head.edges c.spell-found.result c.args.w.now c.spell-found.new.w

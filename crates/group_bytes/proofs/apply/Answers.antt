@@ -12,8 +12,8 @@ unfolding region
 bounds-bytes-v c =
     let r = c.requires in
     let k : c.args.from + c.args.count - c.args.from ≡ c.args.count = omega arith in
-    let low = low_entry _ c.loop-v.v-index _ _ c.loop-v-test.true c.loop-v.invariant (rw k r.4) in
-    omega (arith, r.0)
+    let low = low_entry _ c.loop-v.v-index _ _ c.loop-v-test.true c.loop-v.invariant (rw k r.3) in
+    omega arith
 
 pub loop-v-preserved : goal.loop-v-preserved
 loop-v-preserved c =
@@ -28,4 +28,4 @@ returns c =
     let k : from + count - from ≡ count = omega arith in
     let g = λ (v : ℕ). get_or c.args.bytes.now v 0 in
     let e = all_applied g c.loop-v.v-index _ _ c.loop-v-test.false c.loop-v.invariant in
-    rw (e, k) (placed_part from count _ out (length-map (region from count out) g ∙ length_region from count out c.requires.1))
+    rw (e, k) (placed_part from count _ out (length-map (region from count out) g ∙ length_region from count out c.requires.0))

@@ -23,8 +23,8 @@ loop-i-init c =
 pub with_digit-requires : goal.with_digit-requires
 with_digit-requires c =
     let n = many (goal.at.with_digit-requires c).Start in
-    let p = c.requires.inverse_len in let room = c.requires.n_in_bounds.0 in let h = c.loop-i-test.true in
-    (p.0, p.2, λ e. let j = adding_there _ _ _ _ room _ _ _ c.loop-i.invariant h e in omega arith, adding_below _ _ _ _ room _ _ _ c.loop-i.invariant h)
+    let p = c.requires.sizes in let room = c.requires.n_in_bounds.0 in let h = c.loop-i-test.true in
+    (p.1, λ e. let j = adding_there _ _ _ _ room _ _ _ c.loop-i.invariant h e in omega arith, adding_below _ _ _ _ room _ _ _ c.loop-i.invariant h)
 
 pub overflow_add-j : goal.overflow_add-j
 overflow_add-j c =

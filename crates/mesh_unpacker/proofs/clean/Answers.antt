@@ -10,7 +10,7 @@ use Rattle.mesh_unpacker.proofs.clean.Goals.{Start, then-payload-from, else-payl
 
 in_parts : (c : Start) → let a = c.args in
     clean (values_from (bytes_for a.c 8) a.inverse.now a.payload.now) a.c a.l ≡ clean_parts a.inverse.now a.payload.now a.c a.l
-in_parts c = let a = c.args in clean_parts_lem a.inverse.now a.payload.now a.c a.l c.requires.2
+in_parts c = let a = c.args in clean_parts_lem a.inverse.now a.payload.now a.c a.l c.requires.1
 
 pub returns-then-groups_fit : goal.returns-then-groups_fit
 returns-then-groups_fit c =

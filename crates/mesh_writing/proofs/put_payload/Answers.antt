@@ -4,9 +4,9 @@ use Rattle.mesh_writing.proofs.put_payload.Goals as goal
 pub apply-requires : goal.apply-requires
 apply-requires c =
     let p = c.requires in
-    table_asked _ _ _ p.1 _ _ p.2 p.3 _ c.put_payload.ensures _ _ c.groups-before.ensures c.groups-count.ensures c.args.bytes.now p.0
+    table_asked _ _ _ p.0 _ _ p.1 p.2 _ c.put_payload.ensures _ _ c.groups-before.ensures c.groups-count.ensures
 
 pub returns : goal.returns
 returns c =
     let p = c.requires in
-    tabled _ _ _ p.1 _ _ p.2 p.3 _ c.put_payload.ensures _ _ c.groups-before.ensures c.groups-count.ensures _ _ c.apply.ensures
+    tabled _ _ _ p.0 _ _ p.1 p.2 _ c.put_payload.ensures _ _ c.groups-before.ensures c.groups-count.ensures _ _ c.apply.ensures

@@ -10,20 +10,20 @@ use Rattle.mesh_writing.proofs.write.Goals.{After-groups-count}
 total_is : (c : After-groups-count) → let total = 6 + c.groups-before.result + c.groups-count.result in
     (total ≡ 6 + payload_size c.coded-s.result) × (total < 65536)
 total_is c =
-    let (a, b) = small _ _ _ _ c.requires.1 c.coded-s.ensures in
+    let (a, b) = small _ _ _ _ c.requires c.coded-s.ensures in
     let e = c.groups-before.ensures in
     let f = c.groups-count.ensures in
     (omega arith, omega arith)
 
 pub groups-before-requires : goal.groups-before-requires
-groups-before-requires c = let (a, b) = small _ _ _ _ c.requires.1 c.coded-s.ensures in (omega arith, omega arith, omega arith)
+groups-before-requires c = let (a, b) = small _ _ _ _ c.requires c.coded-s.ensures in (omega arith, omega arith, omega arith)
 
 pub groups-count-requires : goal.groups-count-requires
-groups-count-requires c = let (a, b) = small _ _ _ _ c.requires.1 c.coded-s.ensures in (omega arith, omega arith, omega arith)
+groups-count-requires c = let (a, b) = small _ _ _ _ c.requires c.coded-s.ensures in (omega arith, omega arith, omega arith)
 
 pub returns-then-out-total : goal.returns-then-out-total
 returns-then-out-total c =
-    no_room _ _ _ _ c.requires.1 c.coded-s.ensures _ _ _ (total_is (goal.at.returns-then-out-total c).After-groups-count).0 c.if-out-total.true
+    no_room _ _ _ _ c.requires c.coded-s.ensures _ _ _ (total_is (goal.at.returns-then-out-total c).After-groups-count).0 c.if-out-total.true
 
 pub overflow_cast-total : goal.overflow_cast-total
 overflow_cast-total c = let (e, l) = total_is (goal.at.overflow_cast-total c).After-groups-count in omega arith
@@ -34,8 +34,8 @@ overflow_cast-result c = let (e, l) = total_is (goal.at.overflow_cast-result c).
 pub laid_out-requires : goal.laid_out-requires
 laid_out-requires c =
     let (e, l) = total_is (goal.at.laid_out-requires c).After-groups-count in
-    (c.requires.0, ready _ _ _ _ c.requires.1 c.coded-s.ensures, e, omega arith)
+    (ready _ _ _ _ c.requires c.coded-s.ensures, e, omega arith)
 
 pub returns : goal.returns
 returns c =
-    recorded _ _ _ _ c.requires.1 c.coded-s.ensures _ _ _ (total_is (goal.at.returns c).After-groups-count).0 c.if-out-total.false _ c.laid_out.ensures
+    recorded _ _ _ _ c.requires c.coded-s.ensures _ _ _ (total_is (goal.at.returns c).After-groups-count).0 c.if-out-total.false _ c.laid_out.ensures

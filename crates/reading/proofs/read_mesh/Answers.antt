@@ -19,7 +19,7 @@ pub read-found-requires : goal.read-found-requires
 read-found-requires c =
     let k = c.requires.checked in
     let (some, few, short, room) = mesh_asked _ _ _ _ k (all_bytes _ c.type_inv.«record») in
-    (omega arith, some, few, short, room, omega arith)
+    (some, few, short, room, omega arith)
 
 -- what is read of the payload is read of the record
 decoded : (c : After-read-found) → MeshRead (decode_mesh_record c.args.table.now.inverse c.args.«record».now) c.read-found.result c.args.out.now c.read-found.new.out

@@ -6,6 +6,6 @@ pub returns-then-last_bytes : goal.returns-then-last_bytes
 returns-then-last_bytes c = elim c.if-first_places.branch [
   | then-first_places w ↦ λ e.
       let first = c.first_places.ensures w.if-first_places.true in
-      standard_is _ _ c.requires.0 c.requires.1 first.0 first.1 (w.last_bytes.ensures (cc)) (c.last_entries.ensures e)
+      standard_is _ _ c.told-bytes c.told-inverse first.0 first.1 (w.last_bytes.ensures (cc)) (c.last_entries.ensures e)
   | else-first_places w ↦ absurd (cc)
 ]

@@ -10,13 +10,13 @@ use Rattle.unpacker.proofs.groups_clean.Goals.{Start, then-zero_bits, else-zero_
 in_parts : (c : Start) → let a = c.args in
     payload_clean 2 a.m (undone a.inverse.now 2 a.m a.payload.now) ≡ clean_parts a.m a.payload.now (values_of a.inverse.now a.payload.now)
 unfolding has_labels
-in_parts c = clean_two _ _ _ _ refl c.requires.0 (λ e. absurd (omega (arith, e)))
+in_parts c = clean_two _ _ _ _ refl c.requires (λ e. absurd (omega (arith, e)))
 
 pub zero_bits-requires : goal.zero_bits-requires
-zero_bits-requires c = let z = two _ _ c.requires.0 in omega arith
+zero_bits-requires c = let z = two _ _ c.requires in omega arith
 
 pub zero_labels-requires : goal.zero_labels-requires
-zero_labels-requires c = let z = two _ _ c.requires.0 in (c.requires.1, omega arith, omega arith, omega arith)
+zero_labels-requires c = let z = two _ _ c.requires in (omega arith, omega arith, omega arith)
 
 pub returns-then-groups_fit : goal.returns-then-groups_fit
 returns-then-groups_fit c =
