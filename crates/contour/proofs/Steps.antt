@@ -120,37 +120,43 @@ module _ {rot w : List ℕ} {d o : ℕ} (at : Here rot w d o) where
   unfolding next
   along = ap (λ (k : ℕ). get_or rot k 0) at.other
 
-  -- the step from its letter: w₁ is w with what is seen then
-  visited : (w₁ w' : List ℕ) (e : ℕ) (l : Letter) → letter_in rot w d ≡ l → e ≡ onward rot l d → names_in n w₁ ≡ names_in n w → met_in n w₁ ≡ met_in n w
-      → seen_in n w₁ ≡ seen_after rot l d (seen_in n w) → length w₁ ≡ length w → Noted n d (code l) w₁ w' → Visited rot d w e w'
-  visited w₁ w' e l is on names met seen kept t = record {
-    onwards = rw is on;
-    names = t.names ∙ names;
-    met = rw is (t.met ∙ ap (λ (r : List ℕ). set r d (code l)) met);
-    seen = rw is (t.seen ∙ seen);
-    kept = t.kept ∙ kept;
-  }
+  -- the step from its letter l, to the dart e: w₁ is w with what is seen then
+  visited : {u : List ℕ} {s : ℕ × ℕ} (w₁ : List ℕ) (e : ℕ) (l : Letter) → letter_in rot w d ≡ l → e ≡ onward rot l d → names_in n w₁ ≡ names_in n w
+      → met_in n w₁ ≡ met_in n w → seen_in n w₁ ≡ seen_after rot l d (seen_in n w) → length w₁ ≡ length w → u ≡ w₁ → s ≡ (code l, e)
+      → Visited rot d w s.1 (set u (MET * n + d) s.0)
+  visited w₁ e l is on names met seen kept area step =
+      let t : Noted n d (code l) w₁ (set w₁ (MET * n + d) (code l)) = noted n d (code l) w₁ at.dart in
+      rw (area, step) (record {
+        onwards = rw is on;
+        names = t.names ∙ names;
+        met = rw is (t.met ∙ ap (λ (r : List ℕ). set r d (code l)) met);
+        seen = rw is (t.seen ∙ seen);
+        kept = t.kept ∙ kept;
+      })
 
-  pub goes_down : {w' : List ℕ} → met_over ≡ 0 → seen_over ≡ 0 → Noted n d (code down) (set w (SEEN * n + get_or w o 0) 1) w'
-      → Visited rot d w (get_or rot o 0) w'
+  pub goes_down : {u : List ℕ} {s : ℕ × ℕ} → met_over ≡ 0 → seen_over ≡ 0 → u ≡ set w (SEEN * n + get_or w o 0) 1 → s ≡ (code down, get_or rot o 0)
+      → Visited rot d w s.1 (set u (MET * n + d) s.0)
   unfolding onward seen_after
-  goes_down {w'} m s t =
+  goes_down m s =
       let v = get_or w o 0 in
       let b : v < n = at.bound in
-      visited (set w (SEEN * n + v) 1) w' (get_or rot o 0) down (is_down_lem m s) along
+      visited (set w (SEEN * n + v) 1) (get_or rot o 0) down (is_down_lem m s) along
       (region_set_other 0 n w (SEEN * n + v) 1 (λ _. omega arith))
       (region_set_other (MET * n) n w (SEEN * n + v) 1 (λ _. omega arith))
       (region_set (SEEN * n) n w v 1 b ∙ ap (λ (k : ℕ). set (seen_in n w) k 1) at.name)
-      (length-set w (SEEN * n + v) 1) t
+      (length-set w (SEEN * n + v) 1)
 
-  pub is_noted : {w' : List ℕ} → met_over ≡ 0 → (seen_over ≢ 0) → Noted n d (code first) w w' → Visited rot d w (get_or rot d 0) w'
+  pub is_noted : {u : List ℕ} {s : ℕ × ℕ} → met_over ≡ 0 → (seen_over ≢ 0) → u ≡ w → s ≡ (code first, get_or rot d 0)
+      → Visited rot d w s.1 (set u (MET * n + d) s.0)
   unfolding onward seen_after next
-  is_noted {w'} m s t = visited w w' (get_or rot d 0) first (is_first_lem m s) refl refl refl refl refl t
+  is_noted m s = visited w (get_or rot d 0) first (is_first_lem m s) refl refl refl refl refl
 
-  pub comes_up : {w' : List ℕ} → met_over ≡ code down → Noted n d (code up) w w' → Visited rot d w (get_or rot o 0) w'
+  pub comes_up : {u : List ℕ} {s : ℕ × ℕ} → met_over ≡ code down → u ≡ w → s ≡ (code up, get_or rot o 0)
+      → Visited rot d w s.1 (set u (MET * n + d) s.0)
   unfolding onward seen_after
-  comes_up {w'} m t = visited w w' (get_or rot o 0) up (is_up m) along refl refl refl refl t
+  comes_up m = visited w (get_or rot o 0) up (is_up m) along refl refl refl refl
 
-  pub is_noted_again : {w' : List ℕ} → (met_over ≢ 0) → (met_over ≢ code down) → Noted n d (code second) w w' → Visited rot d w (get_or rot d 0) w'
+  pub is_noted_again : {u : List ℕ} {s : ℕ × ℕ} → (met_over ≢ 0) → (met_over ≢ code down) → u ≡ w → s ≡ (code second, get_or rot d 0)
+      → Visited rot d w s.1 (set u (MET * n + d) s.0)
   unfolding onward seen_after next
-  is_noted_again {w'} m₀ m₁ t = visited w w' (get_or rot d 0) second (is_second_lem m₀ m₁) refl refl refl refl refl t
+  is_noted_again m₀ m₁ = visited w (get_or rot d 0) second (is_second_lem m₀ m₁) refl refl refl refl refl

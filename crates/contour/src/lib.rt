@@ -5,20 +5,12 @@
 ghost use Rattle.std.specs.Prelude.{◌≡◌, true, ◌*◌, ◌≤◌, ◌<◌, length};
 ghost use Rattle.model.specs.Map.{dart_count_fits};
 ghost use Rattle.dart_steps.specs.Plans.{rooted_plan};
-ghost use Rattle.contour.specs.Steps.{VerticesNamed, Noted, Visited};
+ghost use Rattle.contour.specs.Steps.{VerticesNamed, Visited};
 ghost use Rattle.contour.specs.Walked.{Walked};
 
 use dart_steps::Rooted;
 
-// Dart d has letter l.
-fn note(w: &mut [u16], n: usize, d: usize, l: u16)
-    requires { (n ≤ 8192) × (d < n) × (3 * n ≤ length w.old) }
-    ensures { Noted n d l w.old w.new }
-{
-    w[work::MET * n + d] = l;
-}
-
-// Dart d is met: the dart after it. Both darts that may be it are read first: they stand side by side.
+// Dart d is met, and its letter noted: the dart after it. Both darts that may be it are read first: they stand side by side.
 fn visit(order: &[u16], w: &mut [u16], d: usize) -> usize
     requires { (dart_count_fits (length order.now) ≡ true) × (d < length order.now) × (3 * length order.now ≤ length w.old)
         × VerticesNamed order.now w.old }
@@ -28,23 +20,21 @@ fn visit(order: &[u16], w: &mut [u16], d: usize) -> usize
     let o = dart_steps::other(d);
     let around = order[d] as usize;
     let along = order[o] as usize;
-    let met = w[work::MET * n + o];
-    if met == 0 {
-        let s = work::SEEN * n + w[o] as usize;
-        if w[s] == 0 {
-            w[s] = 1;
-            note(w, n, d, work::DOWN);
-            return along;
+    let (letter, next) = match w[work::MET * n + o] {
+        0 => {
+            let s = work::SEEN * n + w[o] as usize;
+            if w[s] == 0 {
+                w[s] = 1;
+                (work::DOWN, along)
+            } else {
+                (work::FIRST, around)
+            }
         }
-        note(w, n, d, work::FIRST);
-        return around;
-    }
-    if met == work::DOWN {
-        note(w, n, d, work::UP);
-        return along;
-    }
-    note(w, n, d, work::SECOND);
-    around
+        work::DOWN => (work::UP, along),
+        _ => (work::SECOND, around),
+    };
+    w[work::MET * n + d] = letter;
+    next
 }
 
 // The walk from the root until it is back there: how many darts it meets.

@@ -1,20 +1,13 @@
 -- Heads at plain values, as the code reads them.
 --
---   field_value              a field from its two bytes
 --   refuse_none, refuse_many, counted    the number of edges m, test by test
 use mathlib.Core.Path.{◌≡◌}
 use mathlib.Core.List.{List}
-use Prim.Native.Nat.{ℕ, ◌+◌, ◌*◌, ◌≤◌, ◌<◌}
+use Prim.Native.Nat.{ℕ, ◌≤◌, ◌<◌}
 use native.Mathlib.Omega.{arith}
-use native.Mathlib.Numerals.{add-one}
-use lib.ListN.{get_or}
-use Rattle.model.specs.Shelf.{word16, edges_of, head_refusal}
+use Rattle.model.specs.Shelf.{edges_of, head_refusal}
 use Rattle.model.proofs.Fitness.{parts_edges, edges_unfit}
 use Rattle.model.proofs.Heads.{Kinded, Counted, refuse_count}
-
-pub field_value : (bs : List ℕ) (i : ℕ) → get_or bs i 0 + 256 * get_or bs (i + 1) 0 ≡ word16 bs i
-unfolding word16
-field_value bs i = rw add-one
 
 module _ (r : List ℕ) (k : Kinded r) (m : ℕ) (m-is : m ≡ edges_of r) where
   pub refuse_none : m ≡ 0 → 3 ≡ head_refusal r

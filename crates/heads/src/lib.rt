@@ -8,14 +8,12 @@ ghost use Rattle.model.specs.Shelf.{word16, kind_of, edges_of, head_refusal};
 use model::Refusal;
 
 // The little-endian 16-bit field at place i.
+#[tactic(auto, unfolding(model::specs::Shelf::word16))]
 pub fn field(bytes: &[u8], i: usize) -> u16
     requires { suc i < length bytes.now }
     ensures { result ≡ word16 bytes.now i }
 {
-    let j = i + 1;
-    let low = bytes[i] as u16;
-    let high = bytes[j] as u16;
-    low + 256 * high
+    u16::from_le_bytes([bytes[i], bytes[i + 1]])
 }
 
 // What a head says: the kind and the number of edges.

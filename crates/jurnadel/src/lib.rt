@@ -18,7 +18,7 @@ use model::Table;
 pub extern "C" fn jurnadel_record_length(kind: u16, trails: u16) -> u16
     ensures { result ≡ length_for kind trails }
 {
-    sizes::record_length(kind, trails)
+    sizes::record_length(kind, trails).unwrap_or(0)
 }
 
 // The work area, in 16-bit numbers, for so many trails.

@@ -15,9 +15,9 @@ fn put_values(w: &[u16], n: usize, family: u16, out: &mut [u8], at: usize)
 {
     if family == 4 {
         letter_packer::put_payload(w, n / 2, out, at);
-        return;
+    } else {
+        packer::put_payload(w, family, n / 2, out, at);
     }
-    packer::put_payload(w, family, n / 2, out, at);
 }
 
 // The payload, under the table with these bytes.
@@ -26,10 +26,9 @@ fn put_payload(bytes: &[u8], w: &[u16], n: usize, family: u16, out: &mut [u8], a
     ensures { Tabled bytes.now n family at w.now out.old out.new }
 {
     put_values(w, n, family, out, at);
-    if family != 2 {
-        return;
+    if family == 2 {
+        group_bytes::apply(bytes, out, at + (n + 7) / 8, (n / 2 + 4) / 5);
     }
-    group_bytes::apply(bytes, out, at + (n + 7) / 8, (n / 2 + 4) / 5);
 }
 
 // The number of the outside in the record; 0 in a kind without it.
@@ -38,9 +37,10 @@ fn stored(order: &[u16], root: u16, outside: u16, kind: u16, w: &[u16]) -> u16
     ensures { stores_outside kind ≡ true → result ≡ standard_face (record { rotation = order.now; root = root; outside = outside }) outside }
 {
     if kinds::stores_outside(kind) {
-        return outer_face::lowest(order, root as usize, outside as usize, w);
+        outer_face::lowest(order, root as usize, outside as usize, w)
+    } else {
+        0
     }
-    0
 }
 
 // The record of a plan that fits a kind other than 3, as the walk left it in the work area.

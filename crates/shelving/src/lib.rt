@@ -17,6 +17,9 @@ pub fn shelve(
 {
     let verdict = decoding::verdict(&table, record, work);
     work::clear(work);
-    verdict?;
-    placing::place(record, shelf, used)
+    // document 01 asks for let .. else here, where ? would do
+    let Err(refusal) = verdict else {
+        return placing::place(record, shelf, used);
+    };
+    Err(refusal)
 }

@@ -18,6 +18,8 @@ pub fn second_next(w: &[u16], x: usize) -> u16
 
 // ---- what is put at the letter in position i, where t tree bits are put before it
 
+// Not one generic function: each puts other entries, and they share only the test of the family.
+
 #[tactic(auto, unfolding(crate::specs::Putting::down_put))]
 pub fn put_down(w: &mut [u16], n: usize, family: u16, i: usize, t: usize)
     requires { (n ≤ 8192) × (16 * n ≤ length w.old) × (i < n) × (t < 2 * n) }

@@ -10,6 +10,7 @@ ghost use Rattle.trace_steps.specs.Steps.{Says, Ground, Circled, Placed, WentDow
 
 // ---- marks
 
+// Numbers, as the entries of the lent work area are; `Mark::of` reads them.
 // At a dart whose vertex is seen, with the number of edges begun by then; at a dart met first, as down or as first, with the number of its edge.
 pub const SEEN: u16 = 32768;
 
@@ -56,6 +57,8 @@ pub fn round(order: &[u16], w: &mut [u16], o: usize, mark: u16)
 
 // ---- one step
 
+// Not one generic function with those of `numbering`: the two put different entries, and share only which dart comes next.
+
 // Where the walk stands: the root, the dart that comes next, how many edges have begun, and how many of those outside the tree wait for their end.
 #[derive(Clone, Copy)]
 pub struct Trace {
@@ -65,7 +68,7 @@ pub struct Trace {
     pub waiting: usize,
 }
 
-// Dart d, at position i, goes down to the vertex of its opposite o.
+// The dart of s, at position i, goes down to the vertex of its opposite o.
 #[tactic(auto, using(crate::proofs::Grounds::few), unfolding(model::specs::Map::next))]
 pub fn go_down(order: &[u16], family: u16, w: &mut [u16], i: usize, o: usize, s: Trace) -> Trace
     requires { Ground order.now w.old × Placed order.now i s × (o < length order.now)
@@ -83,7 +86,7 @@ pub fn go_down(order: &[u16], family: u16, w: &mut [u16], i: usize, o: usize, s:
     }
 }
 
-// Dart d, at position i, begins an edge outside the tree.
+// The dart of s, at position i, begins an edge outside the tree.
 #[tactic(auto, using(crate::proofs::Grounds::few), unfolding(model::specs::Map::next, crate::specs::Steps::first_area))]
 pub fn go_first(order: &[u16], family: u16, w: &mut [u16], i: usize, s: Trace) -> Trace
     requires { Ground order.now w.old × Placed order.now i s }
@@ -102,7 +105,7 @@ pub fn go_first(order: &[u16], family: u16, w: &mut [u16], i: usize, s: Trace) -
     }
 }
 
-// Dart d, at position i, ends tree edge f; its opposite is o.
+// The dart of s, at position i, ends tree edge f; its opposite is o.
 #[tactic(auto, using(crate::proofs::Grounds::few, crate::proofs::Grounds::after_bound, crate::proofs::Grounds::over_bound), unfolding(model::specs::Map::next, crate::specs::Steps::up_area))]
 pub fn go_up(
     order: &[u16],
@@ -123,7 +126,7 @@ pub fn go_up(
     Trace { dart, ..s }
 }
 
-// Dart d, at position i, ends edge f, which is the last one open outside the tree.
+// The dart of s, at position i, ends edge f, which is the last one open outside the tree.
 #[tactic(auto, using(crate::proofs::Grounds::few, crate::proofs::Grounds::after_bound, crate::proofs::Grounds::over_bound), unfolding(model::specs::Map::next, crate::specs::Steps::second_area))]
 pub fn go_second(order: &[u16], family: u16, w: &mut [u16], i: usize, f: usize, s: Trace) -> Trace
     requires { Ground order.now w.old × Placed order.now i s × (f < length order.now) × (1 ≤ s.waiting) }

@@ -1,4 +1,4 @@
-use Rattle.std.proofs.Common.{arith, rules}
+use Rattle.std.proofs.Common.{add-one, arith, rules}
 use Rattle.numbering.proofs.Whole.{clear_ground, clear_marks, walking_start, finished}
 use Rattle.numbering.proofs.walk.Goals as goal
 
@@ -12,6 +12,9 @@ pub loop-i-init : goal.loop-i-init
 loop-i-init c =
     let r = c.args.plan.rotation in
     walking_start _ _ r.sized r.entries c.requires.1 _ c.fill.ensures _ c.args.plan.dart c.requires.0 _ c.round.ensures
+
+pub loop-i-preserved : goal.loop-i-preserved
+loop-i-preserved c = rw add-one c.visit-s.ensures
 
 pub returns : goal.returns
 returns c = record {
