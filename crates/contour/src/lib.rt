@@ -3,10 +3,12 @@
 // The contour walk of a rotation, in the work area, by the names of its vertices that are there: how many darts it meets. It knows the walk, not what is
 // read off its letters.
 ghost use Rattle.std.specs.Prelude.{◌≡◌, true, ◌*◌, ◌≤◌, ◌<◌, length};
-ghost use Rattle.model.specs.Numbers.{is_permutation};
 ghost use Rattle.model.specs.Map.{dart_count_fits};
+ghost use Rattle.dart_steps.specs.Plans.{rooted_plan};
 ghost use Rattle.contour.specs.Steps.{VerticesNamed, Visited};
 ghost use Rattle.contour.specs.Walked.{Walked};
+
+use dart_steps::Rooted;
 
 // Dart d is met, and its letter noted: the dart after it. Both darts that may be it are read first: they stand side by side.
 #[tactic(auto, using(crate::proofs::Steps::darts_few, crate::proofs::Steps::other_below, crate::proofs::Steps::name_bound))]
@@ -37,11 +39,12 @@ fn visit(order: &[u16], w: &mut [u16], d: usize) -> usize
 }
 
 // The walk from the root until it is back there: how many darts it meets.
-pub fn walk(order: &[u16], root: usize, w: &mut [u16]) -> usize
-    requires { (dart_count_fits (length order.now) ≡ true) × (is_permutation order.now ≡ true) × (root < length order.now)
-        × (3 * length order.now ≤ length w.old) × VerticesNamed order.now w.old }
-    ensures { Walked (record { rotation = order.now; root = root; outside = 0 }) w.old result w.new }
+pub fn walk(plan: Rooted<'_>, w: &mut [u16]) -> usize
+    requires { (3 * length plan.rotation.order.now ≤ length w.old) × VerticesNamed plan.rotation.order.now w.old }
+    ensures { Walked (rooted_plan plan.entry) w.old result w.new }
 {
+    let order = plan.rotation.order;
+    let root = plan.root;
     let n = order.len();
     work::fill(w, work::MET * n, n, 0);
     work::fill(w, work::SEEN * n, n, 0);

@@ -2,6 +2,7 @@
 
 // From a dart to the next: the other one of its edge, the next round its vertex, the next along its face. It knows rotations dart by dart, no whole cycles.
 ghost use Rattle.std.specs.Prelude.{◌≡◌, true, false, ℕ, ◌<◌, List, length};
+ghost use Rattle.model.specs.Numbers.{is_permutation};
 ghost use Rattle.model.specs.Map.{opposite, next, face_next, dart_count_fits};
 ghost use Rattle.orbits.proofs.Maps.{next_perm, face_perm};
 ghost use Rattle.model.proofs.Fitness.{count_even};
@@ -33,16 +34,32 @@ pub fn along(order: &[u16], d: usize) -> usize
     order[other(d)] as usize
 }
 
-// One step round a vertex, or, across an edge, along a face.
-pub fn step(order: &[u16], across: bool, d: usize) -> usize
-    requires { (dart_count_fits (length order.now) ≡ true) × (d < length order.now) }
-    ensures { result ≡ step_of order.now across d }
-{
-    if across {
-        along(order, d)
-    } else {
-        around(order, d)
+// ---- rotations and plans by value
+
+// The rotation of a plan: as many entries as a plan has darts, each dart once.
+#[derive(Clone, Copy)]
+pub struct Rotation<'a> {
+    pub order: &'a [u16],
+    ghost sized: { dart_count_fits (length order.now) ≡ true },
+    ghost entries: { is_permutation order.now ≡ true },
+}
+
+impl Rotation<'_> {
+    // The next dart along d's face.
+    pub fn along(self, d: usize) -> usize
+        requires { d < length self.order.now }
+        ensures { result ≡ face_next self.entry.order.now d }
+    {
+        along(self.order, d)
     }
+}
+
+// A rotation and the root, one of its darts.
+#[derive(Clone, Copy)]
+pub struct Rooted<'a> {
+    pub rotation: Rotation<'a>,
+    pub root: usize,
+    ghost dart: { root < length rotation.order.now },
 }
 
 // ---- whose cycles are the vertices, and whose are the faces

@@ -4,6 +4,7 @@
 ghost use Rattle.model.specs.Calls.{Measures};
 ghost use Rattle.measuring.specs.Made.{Made};
 
+use dart_steps::{Rooted, Rotation};
 use model::Refusal;
 
 // The answer and the list, before the work area is cleared. Kind 4 takes any connected planar plan, from any root.
@@ -11,7 +12,9 @@ fn made(order: &[u16], w: &mut [u16], list: &mut [u16]) -> Result<u16, Refusal>
     ensures { Made order.now w.old list.old result w.new list.new }
 {
     measure_checks::early(order, w.len())?;
-    let faces = fitting::judge(order, 0, 4, w)?;
+    let rotation = Rotation { order };
+    let plan = Rooted { rotation, root: 0 };
+    let faces = fitting::judge(plan, 4, w)?;
     measure_checks::copied(w, order.len(), faces, list)
 }
 

@@ -18,7 +18,7 @@ pub fn mark_face(order: &[u16], w: &mut [u16], o: usize, x: usize, y: usize) -> 
     requires { Ground order.now w.old × (o < length order.now) × (x ≡ face_next order.now o) × (y ≡ face_next order.now x) }
     ensures { Faced order.now o w.old result w.new }
 {
-    let z = dart_steps::step(order, true, y);
+    let z = dart_steps::along(order, y);
     if z != o || o / 2 == x / 2 || x / 2 == y / 2 || y / 2 == o / 2 {
         return false;
     }
@@ -81,7 +81,7 @@ pub fn enter(order: &[u16], w: &mut [u16], s: Stroll) -> Option<Turn>
 {
     let o = dart_steps::other(s.dart);
     let x = order[s.dart] as usize;
-    let y = dart_steps::step(order, true, x);
+    let y = dart_steps::along(order, x);
     if !mark_face(order, w, o, x, y) {
         return None;
     }

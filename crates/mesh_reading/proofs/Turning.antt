@@ -2,9 +2,9 @@
 --
 --   dual_nested           the word of the dual is nested
 --   mesh_size             the mesh has as many darts
---   mesh_asked            what the walk of the mesh asks
+--   order_long, mesh_there   how many darts it has, and what is known of it as a plan
 --   copied_part, turned   its standard rotation is put to the output
-use Prim.Native.Nat.{ℕ, ◌-◌, ◌*◌, ◌≤◌, ◌<◌}
+use Prim.Native.Nat.{ℕ, ◌-◌, ◌*◌, ◌≤◌}
 use native.Mathlib.Nat.{add-zero}
 use native.Mathlib.Omega.{arith}
 use mathlib.Core.Path.{◌≡◌, refl, sym, ap, subst, ◌∙◌}
@@ -12,12 +12,12 @@ use mathlib.Core.Bool.{true}
 use mathlib.Core.List.{List, []}
 use lib.ListN.{length, take, drop}
 use lib.Seq.{length-take-le}
-use Rattle.model.specs.Numbers.{elem, is_permutation}
-use Rattle.model.specs.Map.{connected, is_family, stores_outside, is_kind, family, dart_count_fits, fit}
+use Rattle.model.specs.Numbers.{elem}
+use Rattle.model.specs.Map.{is_family, stores_outside, is_kind, family, dart_count_fits, fit}
 use Rattle.model.specs.Traversal.{Letter, standard_rotation, standard_plan}
 use Rattle.model.specs.Mesh.{dual_of, dual_plan}
 use Rattle.model.specs.Calls.{front}
-use Rattle.model.proofs.Fitness.{fit_parts}
+use Rattle.model.proofs.Fitness.{Fit, fit_parts}
 use Rattle.model.proofs.Standard.{standard_darts}
 use Rattle.words.specs.Word.{nested, valid, rotation_of, rooted, plan_of}
 use Rattle.building.proofs.Built.{built_fit, built_word}
@@ -55,17 +55,11 @@ module _ (m : ℕ) (w out : List ℕ) (few : m ≤ 4096) (room : 32 * m ≤ leng
   abbrev order : List ℕ
   order = take (2 * m) out
 
-  order_long : length (take (2 * m) out) ≡ 2 * m
+  pub order_long : length (take (2 * m) out) ≡ 2 * m
   order_long = length-take-le (2 * m) out space
 
-  fits : fit 3 (rooted order) ≡ true
-  fits = subst (λ (rot : List ℕ). fit 3 (rooted rot) ≡ true) (sym there.3) (mesh_fit there.0 there.1)
-
-  pub mesh_asked : (dart_count_fits (length order) ≡ true) × (is_permutation order ≡ true) × (0 < length order) × (connected order ≡ true) × (16 * length order ≤ length w)
-  mesh_asked =
-      let a = fit_parts 3 (rooted order) fits in
-      let l = order_long in
-      (a.count, a.entries, a.root, a.joined, omega arith)
+  pub mesh_there : Fit 3 (rooted order)
+  mesh_there = fit_parts 3 (rooted order) (subst (λ (rot : List ℕ). fit 3 (rooted rot) ≡ true) (sym there.3) (mesh_fit there.0 there.1))
 
   module _ (w₁ : List ℕ) (numbered : Numbered (rooted order) w w₁) where
     copied_part : region 0 (2 * m) (take (length w₁ - 2 * m) (drop (2 * m) w₁)) ≡ standard_rotation (rooted order)

@@ -9,6 +9,8 @@ ghost use Rattle.coding.specs.Payloads.{decode_mesh};
 ghost use Rattle.mesh_reading.specs.Read.{MeshRead};
 ghost use Rattle.mesh_reading.specs.Stages.{Spelt, WordThere, PutFrom, MeshThere, mesh_of};
 
+use dart_steps::{Rooted, Rotation};
+
 // The word of the dual that the payload holds, at LETTERS; whether there is one, which is whether the payload is a mesh's.
 pub fn spell(payload: &[u8], inverse: &[u8; 256], m: usize, w: &mut [u16]) -> bool
     requires { (1 ≤ m) × (m ≤ 4096) × (length payload.now < 65536) × (32 * m ≤ length w.old) }
@@ -31,7 +33,9 @@ fn turn(w: &mut [u16], m: usize, out: &mut [u16])
     requires { (m ≤ 4096) × (32 * m ≤ length w.old) × (2 * m ≤ length out.old) × MeshThere m out.old }
     ensures { out.new ≡ front (mesh_of m out.old) out.old }
 {
-    numbering::walk(&out[..2 * m], 0, w);
+    let order = &out[..2 * m];
+    let rotation = Rotation { order };
+    numbering::walk(Rooted { rotation, root: 0 }, w);
     work::copy_front(&w[2 * m..], 2 * m, out);
 }
 

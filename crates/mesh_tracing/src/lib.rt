@@ -2,14 +2,14 @@
 
 // The contour walk of a mesh's dual by marks, face by face, which says of a plan whether it is a mesh: from face to face down, and up again to the second places
 // that are still to come, until the root's face. What is done at the places of a face, the crates below know.
-ghost use Rattle.std.specs.Prelude.{◌≡◌, true, suc, ◌+◌, ◌-◌, ◌*◌, ◌≤◌, ◌<◌, eqb, length, get_or, replicate};
-ghost use Rattle.model.specs.Numbers.{is_permutation};
-ghost use Rattle.model.specs.Map.{dart_count_fits};
+ghost use Rattle.std.specs.Prelude.{◌≡◌, suc, ◌+◌, ◌-◌, ◌*◌, ◌≤◌, ◌<◌, eqb, length, get_or, replicate};
 ghost use Rattle.work.specs.Area.{region};
+ghost use Rattle.dart_steps.specs.Plans.{rooted_plan};
 ghost use Rattle.mesh_second_places.specs.Areas.{WAITING};
 ghost use Rattle.mesh_second_places.specs.Walks.{AtDown, AtUp, Stepped};
 ghost use Rattle.mesh_tracing.specs.Walks.{AtHome, Ended, Meshed};
 
+use dart_steps::Rooted;
 use mesh_second_places::{Stroll, Turn};
 use trace_steps::{FIRST, SEEN};
 
@@ -79,8 +79,8 @@ fn at_end(order: &[u16], w: &[u16], s: Stroll) -> bool
     ensures { Meshed (record { rotation = order.now; root = s.root; outside = 0 }) w.now result w.now }
 {
     let n = order.len();
-    let x = dart_steps::step(order, true, s.root);
-    let y = dart_steps::step(order, true, x);
+    let x = dart_steps::along(order, s.root);
+    let y = dart_steps::along(order, x);
     let all = s.edges == n / 2;
     if s.waiting != 2 || !all {
         return false;
@@ -92,13 +92,14 @@ fn at_end(order: &[u16], w: &[u16], s: Stroll) -> bool
 }
 
 // Whether the plan is a mesh; then its node types stand in their place. The marks are zeros before.
-pub fn walk(order: &[u16], root: usize, w: &mut [u16]) -> bool
-    requires { (dart_count_fits (length order.now) ≡ true) × (is_permutation order.now ≡ true) × (root < length order.now)
-        × (16 * length order.now ≤ length w.old) × (region 0 (length order.now) w.old ≡ replicate (length order.now) 0) }
-    ensures { Meshed (record { rotation = order.now; root = root; outside = 0 }) w.old result w.new }
+pub fn walk(plan: Rooted<'_>, w: &mut [u16]) -> bool
+    requires { let n = length plan.rotation.order.now in (16 * n ≤ length w.old) × (region 0 n w.old ≡ replicate n 0) }
+    ensures { Meshed (rooted_plan plan.entry) w.old result w.new }
 {
-    let x = dart_steps::step(order, true, root);
-    let y = dart_steps::step(order, true, x);
+    let order = plan.rotation.order;
+    let root = plan.root;
+    let x = plan.rotation.along(root);
+    let y = plan.rotation.along(x);
     if !mesh_first_places::mark_face(order, w, root, x, y) {
         return false;
     }

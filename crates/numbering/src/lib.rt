@@ -3,11 +3,12 @@
 // The contour walk by marks of a connected rotation, which puts its standard rotation on the way: each dart gets its number when it is met, and is entered where
 // the dart before it waits for its successor. It knows marks and standard numbers; no words, and no records.
 ghost use Rattle.std.specs.Prelude.{◌≡◌, true, ℕ, suc, ◌*◌, ◌≤◌, ◌<◌, length, get_or};
-ghost use Rattle.model.specs.Numbers.{is_permutation};
-ghost use Rattle.model.specs.Map.{vertex_of, connected, dart_count_fits};
+ghost use Rattle.model.specs.Map.{vertex_of, connected};
+ghost use Rattle.dart_steps.specs.Plans.{rooted_plan};
 ghost use Rattle.trace_steps.specs.Steps.{Ground};
 ghost use Rattle.numbering.specs.Numbering.{Placed, WentDown, first_on, first_area, up_on, second_on, end_area, Numbering, Numbered};
 
+use dart_steps::Rooted;
 use trace_steps::{DOWN, FIRST, SEEN};
 
 // Where the walk stands: the dart that comes next, how many edges have begun, and the number of the dart whose successor it is.
@@ -94,11 +95,12 @@ fn visit(order: &[u16], root: usize, w: &mut [u16], i: usize, s: Stand) -> Stand
 }
 
 // The standard rotation for this root, behind the marks, which stand at the beginning of the work area.
-pub fn walk(order: &[u16], root: usize, w: &mut [u16])
-    requires { (dart_count_fits (length order.now) ≡ true) × (is_permutation order.now ≡ true) × (root < length order.now)
-        × (connected order.now ≡ true) × (16 * length order.now ≤ length w.old) }
-    ensures { Numbered (record { rotation = order.now; root = root; outside = 0 }) w.old w.new }
+pub fn walk(plan: Rooted<'_>, w: &mut [u16])
+    requires { (connected plan.rotation.order.now ≡ true) × (16 * length plan.rotation.order.now ≤ length w.old) }
+    ensures { Numbered (rooted_plan plan.entry) w.old w.new }
 {
+    let order = plan.rotation.order;
+    let root = plan.root;
     let n = order.len();
     work::fill(w, 0, n, 0);
     trace_steps::round(order, w, root, SEEN);

@@ -2,22 +2,23 @@
 
 // The outer face of a plan: the number that stands for it in a record, the least standard number along it, and whether a number is one. It knows rotations and the
 // marks of darts in the work area; no words, no bytes.
-ghost use Rattle.std.specs.Prelude.{◌≡◌, true, ◌<◌, eqb, length};
-ghost use Rattle.model.specs.Numbers.{is_permutation};
-ghost use Rattle.model.specs.Map.{opposite, face_of, dart_count_fits};
+ghost use Rattle.std.specs.Prelude.{◌≡◌, ◌<◌, eqb, length};
+ghost use Rattle.model.specs.Map.{opposite, face_of};
 ghost use Rattle.model.specs.Traversal.{standard_face};
 ghost use Rattle.outer_face.specs.Marks.{number_by, Marked};
+
+use dart_steps::Rotation;
 
 // ---- reading
 
 // Dart x is the lowest of its face: along the face from x no lower dart is met before x again.
-pub fn is_lowest(order: &[u16], x: usize) -> bool
-    requires { (dart_count_fits (length order.now) ≡ true) × (is_permutation order.now ≡ true) × (x < length order.now) }
-    ensures { result ≡ eqb (face_of order.now x) x }
+pub fn is_lowest(rotation: Rotation<'_>, x: usize) -> bool
+    requires { x < length rotation.order.now }
+    ensures { result ≡ eqb (face_of rotation.entry.order.now x) x }
 {
-    let mut d = dart_steps::along(order, x);
+    let mut d = rotation.along(x);
     while x < d {
-        d = dart_steps::along(order, d);
+        d = rotation.along(d);
     }
     d == x
 }

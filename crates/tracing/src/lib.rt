@@ -2,12 +2,13 @@
 
 // The contour walk by marks, which says whether a plan fits a family; why it does not, is for others to say. The next letter is read off the mark of the opposite.
 // Edges outside the tree wait on a stack: the plan is planar if each ends on top of it.
-ghost use Rattle.std.specs.Prelude.{◌≡◌, ◌≢◌, true, false, cond, ◌*◌, ◌≤◌, ◌<◌, eqb, length, get_or, replicate};
-ghost use Rattle.model.specs.Numbers.{is_permutation};
-ghost use Rattle.model.specs.Map.{next, dart_count_fits};
+ghost use Rattle.std.specs.Prelude.{◌≡◌, ◌≢◌, false, cond, ◌*◌, ◌≤◌, ◌<◌, eqb, length, get_or, replicate};
+ghost use Rattle.model.specs.Map.{next};
 ghost use Rattle.work.specs.Area.{region};
+ghost use Rattle.dart_steps.specs.Plans.{rooted_plan};
 ghost use Rattle.tracing.specs.Tracing.{Tracing, Stepped, Traced};
 
+use dart_steps::Rooted;
 use trace_steps::{DOWN, FIRST, SEEN, Trace};
 
 // The edge of d, met first with this mark at its opposite, is a loop that the family does not take.
@@ -64,11 +65,12 @@ fn visit(order: &[u16], family: u16, w: &mut [u16], i: usize, s: Trace) -> Optio
 
 // Whether the plan fits the family; then its marks stand at the beginning of the work area, and its letters, or its tree bits and labels, in their
 // places. The marks are zeros before.
-pub fn walk(order: &[u16], root: usize, family: u16, w: &mut [u16]) -> bool
-    requires { (dart_count_fits (length order.now) ≡ true) × (is_permutation order.now ≡ true) × (root < length order.now)
-        × (16 * length order.now ≤ length w.old) × (region 0 (length order.now) w.old ≡ replicate (length order.now) 0) }
-    ensures { Traced family (record { rotation = order.now; root = root; outside = 0 }) w.old result w.new }
+pub fn walk(plan: Rooted<'_>, family: u16, w: &mut [u16]) -> bool
+    requires { let n = length plan.rotation.order.now in (16 * n ≤ length w.old) × (region 0 n w.old ≡ replicate n 0) }
+    ensures { Traced family (rooted_plan plan.entry) w.old result w.new }
 {
+    let order = plan.rotation.order;
+    let root = plan.root;
     let n = order.len();
     trace_steps::round(order, w, root, SEEN);
     let mut s = Trace {

@@ -207,9 +207,6 @@ module _ {k : ℕ} {p : Plan} {w out w₁ w₂ : List ℕ} {b : Bool} (begun : B
 
     pub walk_unfit : Unfit k (with_outside p 0) w₂
     walk_unfit = record {
-      count = handed.count;
-      entries = handed.entries;
-      root_in = handed.root;
       room = room;
       late = λ e. some_late (sym (same_late (family k) p) ∙ e);
     }

@@ -6,11 +6,11 @@
 --   Walked               whether the plan fits, and what the walk of its kind leaves then
 --   Unfit, Refused       a plan that does not fit, and its refusal
 --   Fits, Laid, LaidUnder   one that fits, with what its record is made of, and the answer for it; under every table with these bytes
-use Rattle.std.specs.Prelude.{ℕ, ◌*◌, ◌≤◌, ◌<◌, ◌≡◌, ◌≢◌, Bool, true, false, cond, List, eqb, length, Result}
+use Rattle.std.specs.Prelude.{ℕ, ◌*◌, ◌≤◌, ◌≡◌, ◌≢◌, Bool, true, false, cond, List, eqb, length, Result}
 use Rattle.model.specs.declared.Table.{Table}
 use Rattle.model.specs.declared.Refusal.{Refusal}
-use Rattle.model.specs.Numbers.{first_refusal, is_permutation}
-use Rattle.model.specs.Map.{Plan, darts, family, characteristic, dart_count_fits, fit}
+use Rattle.model.specs.Numbers.{first_refusal}
+use Rattle.model.specs.Map.{Plan, darts, family, characteristic, fit}
 use Rattle.model.specs.Record.{record_of}
 use Rattle.model.specs.Refusals.{numbered}
 use Rattle.model.specs.Calls.{front, last_refusals, write_refusal, answer_of}
@@ -42,9 +42,6 @@ pub record Walked (k : ℕ) (p : Plan) (w : List ℕ) (r : Bool) (w' : List ℕ)
 -- ---- a plan that does not fit
 
 pub record Unfit (k : ℕ) (p : Plan) (w : List ℕ) : Type 0 where
-  pub count : dart_count_fits (darts p) ≡ true
-  pub entries : is_permutation p.rotation ≡ true
-  pub root_in : p.root < darts p
   pub room : 16 * darts p ≤ length w
   pub late : late_refusal (family k) p ≢ 0
 

@@ -1,34 +1,33 @@
 #![tactic(auto)]
 
 // The public call of writing: the refusals in the papers' order, the record, and a cleared work area.
-ghost use Rattle.std.specs.Prelude.{◌≡◌, true, ◌*◌, ◌≤◌, ◌<◌, length, replicate};
-ghost use Rattle.model.specs.Numbers.{is_permutation};
-ghost use Rattle.model.specs.Map.{dart_count_fits};
+ghost use Rattle.std.specs.Prelude.{◌≡◌, ◌*◌, ◌≤◌, length, replicate};
 ghost use Rattle.model.specs.Calls.{Wrote};
 ghost use Rattle.work.specs.Area.{region};
+ghost use Rattle.dart_steps.specs.Plans.{rooted_plan};
 ghost use Rattle.writing.specs.Made.{Made, LaidUnder, Walked, Unfit, Refused, Fits};
 
+use dart_steps::{Rooted, Rotation};
 use model::{Refusal, Table};
 
 // Whether the plan fits the kind; then what its record is made of is in the work area.
-fn walked(order: &[u16], root: u16, kind: u16, w: &mut [u16]) -> bool
-    requires { (dart_count_fits (length order.now) ≡ true) × (is_permutation order.now ≡ true) × (root < length order.now)
-        × (16 * length order.now ≤ length w.old) × (region 0 (length order.now) w.old ≡ replicate (length order.now) 0) }
-    ensures { Walked kind (record { rotation = order.now; root = root; outside = 0 }) w.old result w.new }
+fn walked(plan: Rooted<'_>, kind: u16, w: &mut [u16]) -> bool
+    requires { let n = length plan.rotation.order.now in (16 * n ≤ length w.old) × (region 0 n w.old ≡ replicate n 0) }
+    ensures { Walked kind (rooted_plan plan.entry) w.old result w.new }
 {
     if kind == 3 {
-        mesh_tracing::walk(order, root as usize, w)
+        mesh_tracing::walk(plan, w)
     } else {
-        tracing::walk(order, root as usize, kinds::family(kind), w)
+        tracing::walk(plan, kinds::family(kind), w)
     }
 }
 
 // The refusal of a plan that does not fit.
-fn refused(order: &[u16], root: u16, kind: u16, w: &mut [u16]) -> Refusal
-    requires { Unfit kind (record { rotation = order.now; root = root; outside = 0 }) w.old }
-    ensures { Refused kind (record { rotation = order.now; root = root; outside = 0 }) w.old result w.new }
+fn refused(plan: Rooted<'_>, kind: u16, w: &mut [u16]) -> Refusal
+    requires { Unfit kind (rooted_plan plan) w.old }
+    ensures { Refused kind (rooted_plan plan.entry) w.old result w.new }
 {
-    fitting::judge(order, root as usize, kinds::family(kind), w).unwrap_err()
+    fitting::judge(plan, kinds::family(kind), w).unwrap_err()
 }
 
 // The answer for a plan that fits. That a mesh has no room is known only now.
@@ -70,8 +69,13 @@ fn made(
     let bytes = table.bytes; // lent alone: a table that is lent takes 256 bytes more of the stack
     let good = write_checks::entries_good(order, w);
     write_checks::early(order, root, outside, kind, good, w.len(), out.len())?;
-    if !walked(order, root, kind, w) {
-        return Err(refused(order, root, kind, w));
+    let rotation = Rotation { order };
+    let plan = Rooted {
+        rotation,
+        root: root as usize,
+    };
+    if !walked(plan, kind, w) {
+        return Err(refused(plan, kind, w));
     }
     laid(&bytes, order, root, outside, kind, w, out)
 }

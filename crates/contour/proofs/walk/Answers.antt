@@ -4,10 +4,10 @@ use Rattle.contour.proofs.walk.Goals as goal
 use Rattle.contour.proofs.walk.Goals.{After-fill-2}
 
 -- the area is cleared
-start : (c : After-fill-2) → Started c.args.order.now c.args.root c.args.w.now c.fill-2.new.w
+start : (c : After-fill-2) → Started c.args.plan.rotation.order.now c.args.plan.root c.args.w.now c.fill-2.new.w
 start c =
-    started c.args.order.now c.args.root c.args.w.now c.fill.new.w c.fill-2.new.w c.requires.0 c.requires.1 c.requires.2 c.requires.3
-    c.requires.4 c.fill.ensures c.fill-2.ensures
+    started c.args.plan.rotation.order.now c.args.plan.root c.args.w.now c.fill.new.w c.fill-2.new.w c.args.plan.rotation.sized c.args.plan.rotation.entries
+    c.args.plan.dart c.requires.0 c.requires.1 c.fill.ensures c.fill-2.ensures
 
 pub bounds-w-n : goal.bounds-w-n
 bounds-w-n c = let s = start (goal.at.bounds-w-n c).After-fill-2 in omega arith

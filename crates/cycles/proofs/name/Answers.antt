@@ -5,13 +5,13 @@ use Rattle.cycles.proofs.name.Goals as goal
 use Rattle.cycles.proofs.name.Goals.{In-loop-d, then-w-a, else-w-a}
 
 -- dart d has its turn
-turn : (g : Over) (c : In-loop-d g) → Turn g.S.Steps.of c.args.order.now c.args.a c.args.b c.fill.new.w c.loop-d.d c.loop-d.count c.loop-d.w
+turn : (g : Over) (c : In-loop-d g) → Turn g.S.Steps.of c.args.rotation.order.now c.args.a c.args.b c.fill.new.w c.loop-d.d c.loop-d.count c.loop-d.w
 turn g c =
     record {
       permutes = g.met.S.Steps.permutes;
-      size = c.requires.0;
-      entries = c.requires.1;
-      apart = c.requires.2;
+      size = c.args.rotation.sized;
+      entries = c.args.rotation.entries;
+      apart = c.requires.0;
       fits = search rules;
       below = c.loop-d-test.true;
       as_long = c.loop-d.auto.w;
@@ -19,7 +19,7 @@ turn g c =
     }
 
 pub loop-d-init : goal.loop-d-init
-loop-d-init g c = half_start _ _ _ _ c.args.w.now c.requires.2 c.requires.3 _ c.fill.ensures
+loop-d-init g c = half_start _ _ _ _ c.args.w.now c.requires.0 c.requires.1 _ c.fill.ensures
 
 pub follow-size-requires : goal.follow-size-requires
 follow-size-requires g c = turn_ready (turn g (goal.at.follow-size-requires g c).In-loop-d) c.if-w-a.true
@@ -50,4 +50,4 @@ loop-d-preserved g c =
 
 pub returns : goal.returns
 returns g c =
-    half_end _ _ _ _ c.args.w.now c.requires.2 c.requires.3 _ c.fill.ensures c.loop-d.d _ _ (omega arith) c.loop-d.invariant
+    half_end _ _ _ _ c.args.w.now c.requires.0 c.requires.1 _ c.fill.ensures c.loop-d.d _ _ (omega arith) c.loop-d.invariant

@@ -4,18 +4,19 @@ use mir.Val.{SFits}
 use native.Mathlib.Omega.{arith}
 use Rattle.model.proofs.Numbered.{passed_on}
 use Rattle.characteristic.proofs.Signed.{bits_is, bits_not}
+use Rattle.dart_steps.specs.Plans.{rooted_plan}
 use Rattle.fitting.proofs.Cases.{Looked, parted, Counted, few_counts, curved, flat_refused, flat_fits}
 use Rattle.fitting.proofs.judge.Goals as goal
 use Rattle.fitting.proofs.judge.Goals.{After-surveyed-s, After-name-faces, After-euler-x}
 
 -- the plan is surveyed
 looked : (c : After-surveyed-s) →
-    Looked c.args.family (record { rotation = c.args.order.now; root = c.args.root; outside = 0 }) c.args.w.now c.surveyed-s.result c.surveyed-s.new.w
-looked c = record { fits = c.requires.0; entries = c.requires.1; low = c.requires.2; room = c.requires.3; survey = c.surveyed-s.ensures }
+    Looked c.args.family (rooted_plan c.args.plan) c.args.w.now c.surveyed-s.result c.surveyed-s.new.w
+looked c = record { fits = c.args.plan.rotation.sized; entries = c.args.plan.rotation.entries; low = c.args.plan.dart; room = c.requires; survey = c.surveyed-s.ensures }
 
 -- every dart is met, and the faces are counted
 counted : (c : After-name-faces) →
-    Counted c.args.family (record { rotation = c.args.order.now; root = c.args.root; outside = 0 }) c.args.w.now c.surveyed-s.result c.surveyed-s.new.w
+    Counted c.args.family (rooted_plan c.args.plan) c.args.w.now c.surveyed-s.result c.surveyed-s.new.w
     c.name-faces.result c.name-faces.new.w
 counted c = record { looked = looked (goal.at.After-name-faces c).After-surveyed-s; all = c.if-s-n.false; named = c.name-faces.ensures }
 

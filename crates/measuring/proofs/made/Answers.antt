@@ -9,10 +9,14 @@ pub returns-in_err-early : goal.returns-in_err-early
 returns-in_err-early c =
     rw (passed_on _ _ c.from_residual.ensures) (turned_away c.in_err-early.ensures)
 
+pub invariant_of-rotation : goal.invariant_of-rotation
+invariant_of-rotation c = let q = early_parts _ _ (sym c.in_ok-early.ensures) in record { sized = q.count; entries = q.entries }
+
+pub invariant_of-plan : goal.invariant_of-plan
+invariant_of-plan c = record { dart = (count_parts _ (early_parts _ _ (sym c.in_ok-early.ensures)).count).0 }
+
 pub judge-requires : goal.judge-requires
-judge-requires c =
-    let q = early_parts _ _ (sym c.in_ok-early.ensures) in
-    (q.count, q.entries, (count_parts _ q.count).0, q.room)
+judge-requires c = (early_parts _ _ (sym c.in_ok-early.ensures)).room
 
 pub returns-in_err-faces : goal.returns-in_err-faces
 returns-in_err-faces c =

@@ -15,8 +15,8 @@ offset_bounds-order-s c = let r = down_ranges _ _ _ c.requires in let l = down_i
 pub bounds-order-s : goal.bounds-order-s
 bounds-order-s c = down_in _ _ _ c.requires
 
-pub step-y-requires : goal.step-y-requires
-step-y-requires c =
+pub along-y-requires : goal.along-y-requires
+along-y-requires c =
     let a = c.requires in
     let e = down_next _ _ _ a in
     let l = next_below _ a.held.count a.held.perm _ (down_over _ _ _ a) in
@@ -26,7 +26,7 @@ pub mark_face-requires : goal.mark_face-requires
 mark_face-requires c =
     let a = c.requires in
     let l = down_over _ _ _ a in
-    (record { count = a.held.count; perm = a.held.perm; room = a.held.view.room }, omega arith, down_next _ _ _ a ∙ ap (face_next _) (sym c.other-o.ensures), c.step-y.ensures)
+    (record { count = a.held.count; perm = a.held.perm; room = a.held.view.room }, omega arith, down_next _ _ _ a ∙ ap (face_next _) (sym c.other-o.ensures), c.along-y.ensures)
 
 pub returns-then-not-mark_face : goal.returns-then-not-mark_face
 returns-then-not-mark_face c =
@@ -55,7 +55,7 @@ pub first_place-requires : goal.first_place-requires
 first_place-requires c =
     let a = c.requires in
     let o = c.other-o.ensures in
-    enters _ _ _ a _ _ _ o (down_next _ _ _ a ∙ ap (face_next _) (sym o)) c.step-y.ensures _ _ c.mark_face.ensures c.if-not-mark_face.false
+    enters _ _ _ a _ _ _ o (down_next _ _ _ a ∙ ap (face_next _) (sym o)) c.along-y.ensures _ _ c.mark_face.ensures c.if-not-mark_face.false
 
 pub returns : goal.returns
 returns c =

@@ -9,8 +9,8 @@ use Rattle.mesh_first_places.proofs.mark_face.Goals.{
   then-z-o-via-else-z-o+else-o-x+else-x-y+then-y-o,
 }
 
-pub step-z-requires : goal.step-z-requires
-step-z-requires c = let p = c.requires in (p.0.count, y_in p.0 p.1 p.2 p.3)
+pub along-z-requires : goal.along-z-requires
+along-z-requires c = let p = c.requires in (p.0.count, y_in p.0 p.1 p.2 p.3)
 
 pub offset_bounds-w-x : goal.offset_bounds-w-x
 offset_bounds-w-x c = let p = c.requires in let f = few p.0 in let l = x_in p.0 p.1 p.2 in omega arith
@@ -26,7 +26,7 @@ bounds-w-y c = let p = c.requires in let r = p.0.room in let l = y_in p.0 p.1 p.
 
 pub returns-then-z-o : goal.returns-then-z-o
 returns-then-z-o c =
-    unfaced _ _ _ _ _ c.requires.2 c.requires.3 c.step-z.ensures
+    unfaced _ _ _ _ _ c.requires.2 c.requires.3 c.along-z.ensures
     (elim c.then-z-o.branch [
       | then-z-o-via-then-z-o u ↦ inl u.if-z-o.true
       | then-z-o-via-else-z-o+then-o-x u ↦ inr (inl u.if-o-x.true)
@@ -36,4 +36,4 @@ returns-then-z-o c =
     _
 
 pub returns : goal.returns
-returns c = let p = c.requires in faced _ _ _ _ _ p.2 p.3 c.step-z.ensures c.if-z-o.false c.if-o-x.false c.if-x-y.false c.if-y-o.false _
+returns c = let p = c.requires in faced _ _ _ _ _ p.2 p.3 c.along-z.ensures c.if-z-o.false c.if-o-x.false c.if-x-y.false c.if-y-o.false _

@@ -2,14 +2,14 @@ use Rattle.std.proofs.Common.{refl, inl, inr, arith}
 use Rattle.trace_steps.specs.Steps.{Ground}
 use Rattle.mesh_tracing.proofs.Turns.{corners, home_unfit, mark_unfit, is_meshed}
 use Rattle.mesh_tracing.proofs.at_end.Goals as goal
-use Rattle.mesh_tracing.proofs.at_end.Goals.{After-step-x, then-s-ne2-via-then-s-ne2, then-s-ne2-via-else-s-ne2+then-not-all}
+use Rattle.mesh_tracing.proofs.at_end.Goals.{After-along-x, then-s-ne2-via-then-s-ne2, then-s-ne2-via-else-s-ne2+then-not-all}
 
-ground : (c : After-step-x) → Ground c.args.order.now c.args.w.now
+ground : (c : After-along-x) → Ground c.args.order.now c.args.w.now
 ground c = let h = c.requires.held in record { count = h.count; perm = h.perm; room = h.view.room }
 
-pub step-y-requires : goal.step-y-requires
-step-y-requires c =
-    let n = corners (ground (goal.at.step-y-requires c).After-step-x) c.requires.held.root_in c.step-x.ensures refl in
+pub along-y-requires : goal.along-y-requires
+along-y-requires c =
+    let n = corners (ground (goal.at.along-y-requires c).After-along-x) c.requires.held.root_in c.along-x.ensures refl in
     (c.requires.held.count, n.first)
 
 pub returns-then-s-ne2 : goal.returns-then-s-ne2
@@ -22,28 +22,28 @@ returns-then-s-ne2 c =
 
 pub other-requires : goal.other-requires
 other-requires c =
-    let n = corners (ground (goal.at.other-requires c).After-step-x) c.requires.held.root_in c.step-x.ensures c.step-y.ensures in
+    let n = corners (ground (goal.at.other-requires c).After-along-x) c.requires.held.root_in c.along-x.ensures c.along-y.ensures in
     omega arith
 
 pub is_end-requires : goal.is_end-requires
 is_end-requires c =
-    let n = corners (ground (goal.at.is_end-requires c).After-step-x) c.requires.held.root_in c.step-x.ensures c.step-y.ensures in
+    let n = corners (ground (goal.at.is_end-requires c).After-along-x) c.requires.held.root_in c.along-x.ensures c.along-y.ensures in
     (n.few, c.requires.held.view.room, omega arith, n.some)
 
 pub returns-then-not-is_end : goal.returns-then-not-is_end
-returns-then-not-is_end c = mark_unfit _ _ _ c.requires _ _ c.step-x.ensures c.other.ensures _ c.is_end.ensures c.if-not-is_end.true
+returns-then-not-is_end c = mark_unfit _ _ _ c.requires _ _ c.along-x.ensures c.other.ensures _ c.is_end.ensures c.if-not-is_end.true
 
 pub other-requires-2 : goal.other-requires-2
 other-requires-2 c =
-    let n = corners (ground (goal.at.other-requires-2 c).After-step-x) c.requires.held.root_in c.step-x.ensures c.step-y.ensures in
+    let n = corners (ground (goal.at.other-requires-2 c).After-along-x) c.requires.held.root_in c.along-x.ensures c.along-y.ensures in
     omega arith
 
 pub is_end-requires-2 : goal.is_end-requires-2
 is_end-requires-2 c =
-    let n = corners (ground (goal.at.is_end-requires-2 c).After-step-x) c.requires.held.root_in c.step-x.ensures c.step-y.ensures in
+    let n = corners (ground (goal.at.is_end-requires-2 c).After-along-x) c.requires.held.root_in c.along-x.ensures c.along-y.ensures in
     (n.few, c.requires.held.view.room, omega arith, omega arith)
 
 pub returns : goal.returns
 returns c =
-    is_meshed _ _ _ c.requires _ _ c.step-x.ensures c.other.ensures _ c.is_end.ensures c.if-s-ne2.false c.if-not-all.false c.if-not-is_end.false
-    _ _ c.step-y.ensures c.other-2.ensures _ c.is_end-2.ensures
+    is_meshed _ _ _ c.requires _ _ c.along-x.ensures c.other.ensures _ c.is_end.ensures c.if-s-ne2.false c.if-not-all.false c.if-not-is_end.false
+    _ _ c.along-y.ensures c.other-2.ensures _ c.is_end-2.ensures

@@ -3,20 +3,20 @@ use Rattle.mesh_first_places.proofs.Firsts.{down_ranges}
 use Rattle.mesh_tracing.proofs.Turns.{corners, faced_begun, walking_on, walking_home, meshed_since, root_unfit, turn_unfit}
 use Rattle.mesh_tracing.proofs.walk.Goals as goal
 
-pub step-y-requires : goal.step-y-requires
-step-y-requires c =
-    let p = c.requires in
-    (p.0, (corners (record { count = p.0; perm = p.1; room = p.3 }) p.2 c.step-x.ensures refl).first)
+pub along-y-requires : goal.along-y-requires
+along-y-requires c =
+    let r = c.args.plan.rotation in
+    (corners (record { count = r.sized; perm = r.entries; room = c.requires.0 }) c.args.plan.dart c.along-x.ensures refl).first
 
 pub returns-then-not-mark_face : goal.returns-then-not-mark_face
 returns-then-not-mark_face c =
     let f = c.mark_face in
-    root_unfit _ _ _ _ _ c.requires.2 f.ensures c.if-not-mark_face.true f.auto.w
+    root_unfit _ _ _ _ _ c.args.plan.dart f.ensures c.if-not-mark_face.true f.auto.w
 
 pub loop-t-init : goal.loop-t-init
 loop-t-init c =
-    let p = c.requires in
-    faced_begun _ _ _ _ p.0 p.1 p.2 p.3 p.4 _ c.mark_face.ensures c.if-not-mark_face.false
+    let p = c.args.plan in
+    faced_begun _ _ _ _ p.rotation.sized p.rotation.entries p.dart c.requires.0 c.requires.1 _ c.mark_face.ensures c.if-not-mark_face.false
 
 pub loop-t-smaller : goal.loop-t-smaller
 loop-t-smaller c =

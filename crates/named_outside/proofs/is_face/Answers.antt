@@ -1,9 +1,16 @@
-use Rattle.std.proofs.Common.{arith}
-use Rattle.named_outside.proofs.Faces.{face_zero_is, lowest_asked}
+use Rattle.std.proofs.Common.{◌∙◌, ap}
+use Rattle.std.proofs.lemmas.List.{length-take-le}
+use Rattle.model.specs.Map.{dart_count_fits}
+use Rattle.work.specs.Area.{region}
+use Rattle.named_outside.proofs.Faces.{face_zero_is}
 use Rattle.named_outside.proofs.is_face.Goals as goal
 
-pub is_lowest-requires : goal.is_lowest-requires
-is_lowest-requires c = lowest_asked _ _ _ c.requires.0 c.requires.1 c.requires.2 (omega arith)
+pub invariant_of-is_lowest : goal.invariant_of-is_lowest
+unfolding region
+invariant_of-is_lowest c = record {
+  sized = ap dart_count_fits (length-take-le c.args.n c.args.w.now c.requires.1) ∙ c.requires.0;
+  entries = c.requires.2;
+}
 
 pub returns-then-x-eq0 : goal.returns-then-x-eq0
 returns-then-x-eq0 c = face_zero_is _ _ _ c.requires.0 c.if-x-eq0.true

@@ -4,12 +4,14 @@ use Rattle.numbering.proofs.walk.Goals as goal
 
 pub round-requires : goal.round-requires
 round-requires c =
-    let p = c.requires in
+    let r = c.args.plan.rotation in
     let f = c.fill.ensures in
-    (clear_ground c.args.order.now _ p.0 p.1 p.4 _ f, p.2, omega arith, λ z h e. clear_marks c.args.order.now _ p.0 p.1 p.4 _ f z h)
+    (clear_ground r.order.now _ r.sized r.entries c.requires.1 _ f, c.args.plan.dart, omega arith, λ z h e. clear_marks r.order.now _ r.sized r.entries c.requires.1 _ f z h)
 
 pub loop-i-init : goal.loop-i-init
-loop-i-init c = let p = c.requires in walking_start _ _ p.0 p.1 p.4 _ c.fill.ensures _ p.2 p.3 _ c.round.ensures
+loop-i-init c =
+    let r = c.args.plan.rotation in
+    walking_start _ _ r.sized r.entries c.requires.1 _ c.fill.ensures _ c.args.plan.dart c.requires.0 _ c.round.ensures
 
 pub loop-i-preserved : goal.loop-i-preserved
 loop-i-preserved c = rw add-one c.visit-s.ensures

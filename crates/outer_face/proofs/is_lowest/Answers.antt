@@ -14,23 +14,23 @@ steps rot count entries = face_perm rot entries (count_even (length rot) count)
 
 pub loop-d-init : goal.loop-d-init
 loop-d-init c =
-    let f = steps _ c.requires.0 c.requires.1 in
-    rw c.along-d.ensures (f.bound c.args.x c.requires.2, (1, rising_start _ _ f _ c.requires.2))
+    let f = steps _ c.args.rotation.sized c.args.rotation.entries in
+    rw c.along-d.ensures (f.bound c.args.x c.requires, (1, rising_start _ _ f _ c.requires))
 
 pub loop-d-smaller : goal.loop-d-smaller
 loop-d-smaller c =
     let away : c.loop-d.d ≢ c.args.x = omega arith in
     rw c.along-d-in-loop-d.ensures
-    (ahead_less _ _ _ (steps _ c.requires.0 c.requires.1) c.requires.2 (rising_gone _ _ (steps _ c.requires.0 c.requires.1) _ c.requires.2 c.loop-d.invariant.1.1) away)
+    (ahead_less _ _ _ (steps _ c.args.rotation.sized c.args.rotation.entries) c.requires (rising_gone _ _ (steps _ c.args.rotation.sized c.args.rotation.entries) _ c.requires c.loop-d.invariant.1.1) away)
 
 pub loop-d-preserved : goal.loop-d-preserved
 loop-d-preserved c =
-    let f = steps _ c.requires.0 c.requires.1 in
+    let f = steps _ c.args.rotation.sized c.args.rotation.entries in
     rw c.along-d-in-loop-d.ensures (
       f.bound c.loop-d.d c.loop-d.invariant.0,
-      (c.loop-d.invariant.1.0 + 1, rising_step _ _ f _ c.requires.2 c.loop-d.invariant.1.1 (omega arith)),
+      (c.loop-d.invariant.1.0 + 1, rising_step _ _ f _ c.requires c.loop-d.invariant.1.1 (omega arith)),
     )
 
 pub returns : goal.returns
 unfolding face_of
-returns c = walk_ends _ _ (steps _ c.requires.0 c.requires.1) _ c.requires.2 c.loop-d.invariant.1.1 c.loop-d-test.false
+returns c = walk_ends _ _ (steps _ c.args.rotation.sized c.args.rotation.entries) _ c.requires c.loop-d.invariant.1.1 c.loop-d-test.false

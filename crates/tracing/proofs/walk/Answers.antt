@@ -4,13 +4,13 @@ use Rattle.tracing.proofs.walk.Goals as goal
 
 pub round-requires : goal.round-requires
 round-requires c =
-    let p = c.requires in
-    (record { count = p.0; perm = p.1; room = p.3 }, p.2, omega arith, λ z h e. unmarked_root c.args.order.now c.args.w.now p.4 z h)
+    let r = c.args.plan.rotation in
+    (record { count = r.sized; perm = r.entries; room = c.requires.0 }, c.args.plan.dart, omega arith, λ z h e. unmarked_root r.order.now c.args.w.now c.requires.1 z h)
 
 pub loop-i-init : goal.loop-i-init
 loop-i-init c =
-    let p = c.requires in
-    walking_start _ _ _ _ _ (record { count = p.0; perm = p.1; room = p.3 }) p.2 p.4 c.round.ensures
+    let r = c.args.plan.rotation in
+    walking_start _ _ _ _ _ (record { count = r.sized; perm = r.entries; room = c.requires.0 }) c.args.plan.dart c.requires.1 c.round.ensures
 
 pub visit-requires : goal.visit-requires
 visit-requires c = let at = c.loop-i.invariant in (at.traced, c.loop-i-test.true, at.away)

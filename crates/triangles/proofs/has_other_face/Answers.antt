@@ -8,7 +8,7 @@ use Rattle.triangles.proofs.has_other_face.Goals as goal
 pub returns : goal.returns
 unfolding has_other_face
 returns c =
-    let n = length c.args.order.now in
-    let test : ℕ → Bool = λ d. not (is_triangle c.args.order.now d) in
+    let n = length c.args.rotation.order.now in
+    let test : ℕ → Bool = λ d. not (is_triangle c.args.rotation.order.now d) in
     any_from_yields_List test _ _ _ c.any.ensures.ran (YieldsList-from_range 0 n n refl (omega arith)) (λ x b q k. search (rules, tests))
     ∙ some_list test n

@@ -31,12 +31,18 @@ returns-in_err-early c =
     rw (passed_on _ _ c.from_residual.ensures)
     (turned_away (stood (goal.at.returns-in_err-early c).Else-not-is_loaded) c.entries_good-good.auto.w c.in_err-early.ensures)
 
+pub invariant_of-rotation : goal.invariant_of-rotation
+invariant_of-rotation c = let q = early_parts _ _ _ _ (sym c.in_ok-early.ensures) in record { sized = q.count; entries = q.entries }
+
+pub invariant_of-plan : goal.invariant_of-plan
+invariant_of-plan c = record { dart = (early_parts _ _ _ _ (sym c.in_ok-early.ensures)).root }
+
 pub walked-requires : goal.walked-requires
 walked-requires c =
     let q = early_parts _ _ _ _ (sym c.in_ok-early.ensures) in
     let g = c.entries_good-good in
     let good = g.ensures.answer (count_parts _ q.count).2 ∙ q.entries in
-    (q.count, q.entries, q.root, q.room, g.ensures.zeros good (omega (arith, q.room, g.auto.w)))
+    (q.room, g.ensures.zeros good (omega (arith, q.room, g.auto.w)))
 
 pub refused-requires : goal.refused-requires
 refused-requires c = walk_unfit (begun (goal.at.refused-requires c).After-walked) c.if-not-walked.true

@@ -2,7 +2,7 @@ use Rattle.writing.proofs.Making.{told_err, told_refused}
 use Rattle.writing.proofs.refused.Goals as goal
 
 pub judge-requires : goal.judge-requires
-judge-requires c = (c.requires.count, c.requires.entries, c.requires.root_in, c.requires.room)
+judge-requires c = c.requires.room
 
 pub unwrap_err-requires : goal.unwrap_err-requires
 unwrap_err-requires c = told_err _ _ c.family.ensures c.judge.ensures c.requires.late
