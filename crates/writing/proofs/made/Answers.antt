@@ -53,7 +53,7 @@ returns-then-not-walked c =
     made_refused (begun at.After-walked) c.if-not-walked.true _ (stood at.Else-not-is_loaded) _ _ c.refused.ensures
 
 pub laid-requires : goal.laid-requires
-laid-requires c = (search rules, walk_fits (begun (goal.at.laid-requires c).After-walked) c.if-not-walked.false)
+laid-requires c = walk_fits (begun (goal.at.laid-requires c).After-walked) c.if-not-walked.false
 
 pub returns : goal.returns
 returns c =
