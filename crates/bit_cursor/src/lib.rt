@@ -2,6 +2,7 @@
 
 // A cursor on a payload of family 1 or 2: "The tree bits and the labels are read in step". It goes by value, and its methods hand back the next bit or label with
 // the cursor moved on. Bits come from a word of 64, labels from the payload or the work area. It knows no letters and no plans.
+// Kinds and families are numbers here, and what is promised holds of any number (decision 173).
 ghost use Rattle.std.specs.Prelude.{◌≡◌, true, ◌*◌, ◌^◌, ◌≤◌, ◌<◌, length};
 ghost use Rattle.packing.specs.Unpack.{bits};
 ghost use Rattle.packing.specs.Payload.{has_labels, Sized};

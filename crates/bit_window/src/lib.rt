@@ -22,7 +22,7 @@ fn inside(bytes: &[u8], q: usize) -> u64
     u64::from_be_bytes(whole)
 }
 
-// The same where the bytes may end before.
+// The same where the bytes may end before. Apart, since `inside` tests no byte, which makes reading faster.
 fn at_end(bytes: &[u8], q: usize) -> u64
     requires { q < 2 ^ 32 }
     ensures { Holds (bits bytes.now) result (8 * q) 64 }

@@ -27,7 +27,7 @@ fn top(w: &[u16], at: usize, count: usize) -> u16
     w[at + count - 1]
 }
 
-// The tree edge that was opened last.
+// The tree edge that was opened last. This and the next two read the top of three stacks; what they promise of it differs.
 pub fn last_tree(w: &[u16], m: usize, s: State) -> usize
     requires { Standing m w.now s × (0 < s.depth) }
     ensures { (result ≡ head (parts_at m w.now s).trees) × (result < m) }

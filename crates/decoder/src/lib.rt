@@ -2,6 +2,7 @@
 
 // A payload of kind 1 or 2 decoded into the standard plan, in the lent work area, by a machine that reads tree bits and labels in step: its turns one after the
 // other, and where the cursor's word is filled anew.
+// Kinds and families are numbers here, and what is promised holds of any number (decision 173).
 ghost use Rattle.std.specs.Prelude.{◌≡◌, true, ◌+◌, ◌*◌, ◌≤◌, ◌<◌, length, replicate};
 ghost use Rattle.words.specs.Word.{decode_word};
 ghost use Rattle.packing.specs.Payload.{has_labels, Sized, payload_bits};

@@ -2,6 +2,7 @@
 
 // The turns of the machine that decodes families 1 and 2: up, or down to a leaf, into the tree or along an edge outside it, and the edges that end after each.
 // The cursor hands out tree bits and labels; as many edges have begun as labels are read.
+// Kinds and families are numbers here, and what is promised holds of any number (decision 173).
 ghost use Rattle.std.specs.Prelude.{◌≡◌, ◌+◌, ◌*◌, ◌≤◌, ◌<◌};
 ghost use Rattle.packing.specs.Unpack.{bits};
 ghost use Rattle.bit_cursor.specs.Cursors.{Labelled, Sees};

@@ -2,6 +2,7 @@
 
 // Whether a record is a fit plan's, as reading and shelving ask it: 13, with the standard plan in the work area or, of a mesh, the verdict alone. How a payload of
 // a family is decoded is not known here, nor what else is refused.
+// Kinds and families are numbers here, and what is promised holds of any number (decision 173).
 ghost use Rattle.std.specs.Prelude.{◌≡◌, ◌≢◌, ◌*◌, ◌≤◌, length};
 ghost use Rattle.model.specs.Shelf.{kind_of};
 ghost use Rattle.packing.specs.Payload.{Sized};

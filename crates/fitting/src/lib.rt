@@ -2,6 +2,7 @@
 
 // Refusals 9 to 12 and 18, and of a plan that fits the lengths of its faces. Names and letters in the work area are its own matter. It knows no records, and
 // nothing of the outside.
+// Kinds and families are numbers here, and what is promised holds of any number (decision 173).
 ghost use Rattle.std.specs.Prelude.{◌*◌, ◌≤◌, length};
 ghost use Rattle.dart_steps.specs.Plans.{rooted_plan};
 ghost use Rattle.fitting.specs.Judged.{Surveyed, Judged};

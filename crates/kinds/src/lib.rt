@@ -1,6 +1,7 @@
 #![tactic(auto)]
 
 // Kinds of records and their families, and refusal 2. A kind is a number here: what a record of it holds is not known.
+// Kinds and families are numbers here, and what is promised holds of any number (decision 173).
 ghost use Rattle.std.specs.Prelude.{◌≡◌};
 ghost use Rattle.model.specs.Map.{is_family, stores_outside, is_kind, family};
 

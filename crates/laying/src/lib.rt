@@ -1,6 +1,7 @@
 #![tactic(auto)]
 
 // The record of a plan that fits a kind other than 3, from what the walk has put in the work area. A plan that does not fit is not known here.
+// Kinds and families are numbers here, and what is promised holds of any number (decision 173).
 ghost use Rattle.std.specs.Prelude.{◌≡◌, true};
 ghost use Rattle.model.specs.Map.{stores_outside};
 ghost use Rattle.model.specs.Traversal.{standard_face};

@@ -24,7 +24,7 @@ fn four(w: &[u16], n: usize, i: usize) -> u16
     64 * digit(w, n, i) + 16 * digit(w, n, i + 1) + 4 * digit(w, n, i + 2) + digit(w, n, i + 3)
 }
 
-// The byte of the last two letters, where no more are left.
+// The byte of the last two letters, where no more are left. Apart from `four`, whose sum has no test and no loop.
 fn two(w: &[u16], n: usize, i: usize) -> u16
     requires { (n ≤ 8192) × (16 * n ≤ length w.now) × Coded n w.now × (i + 2 ≡ n) }
     ensures { (result ≡ digits 4 4 (digits_at i n w.now)) × (result < 256) }

@@ -2,6 +2,7 @@
 
 // Refusals 11, 18 and 12, which look at one edge, face or vertex at a time: which of them is the first that concerns a plan of a family. Whether it has a loop is
 // told by the caller. It knows nothing of the whole plan, of whether it is connected or planar.
+// Kinds and families are numbers here, and what is promised holds of any number (decision 173).
 ghost use Rattle.std.specs.Prelude.{◌≡◌};
 ghost use Rattle.model.specs.Map.{loop_refused};
 ghost use Rattle.model.specs.Refusals.{number_of};

@@ -2,6 +2,7 @@
 
 // Refusal 11: whether some edge is a loop, by the names of the vertices in the work area, and whether the family takes it. It names no vertices itself, and
 // walks nowhere.
+// Kinds and families are numbers here, and what is promised holds of any number (decision 173).
 ghost use Rattle.std.specs.Prelude.{◌≡◌, true, ◌≤◌, length};
 ghost use Rattle.model.specs.Map.{dart_count_fits, has_loop, loop_refused};
 ghost use Rattle.contour.specs.Steps.{VerticesNamed};

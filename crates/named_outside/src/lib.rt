@@ -2,6 +2,7 @@
 
 // The outside that a record names: its number in the record, and whether that is the lowest dart of a face of the plan that was read. It knows heads of records and
 // rotations; no payloads.
+// Kinds and families are numbers here, and what is promised holds of any number (decision 173).
 ghost use Rattle.std.specs.Prelude.{◌≡◌, true, ◌&&◌, ◌≤◌, eqb, ltb, length};
 ghost use Rattle.model.specs.Numbers.{is_permutation};
 ghost use Rattle.model.specs.Map.{face_of, dart_count_fits};

@@ -1,6 +1,7 @@
 #![tactic(auto)]
 
 // The head of a record, and its payload from the tree bits and labels in the work area. It knows where groups of digits go, not how they are packed.
+// Kinds and families are numbers here, and what is promised holds of any number (decision 173).
 ghost use Rattle.std.specs.Prelude.{◌≡◌, true, ◌++◌, ◌+◌, ◌*◌, ◌^◌, ◌≤◌, length};
 ghost use Rattle.model.specs.Numbers.{all_below};
 ghost use Rattle.model.specs.Record.{le16, pack, head_length, label_base, bytes_for};

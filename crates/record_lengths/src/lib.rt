@@ -1,6 +1,7 @@
 #![tactic(auto)]
 
 // How long the head, the payload and the whole record of a kind are, from the number of edges. It looks at no bytes.
+// Kinds and families are numbers here, and what is promised holds of any number (decision 173).
 ghost use Rattle.std.specs.Prelude.{◌≡◌, ◌≤◌};
 ghost use Rattle.model.specs.Record.{head_length, payload_length, record_length};
 

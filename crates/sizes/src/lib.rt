@@ -1,6 +1,7 @@
 #![tactic(auto)]
 
 // The sizes of what is lent, from the kind and the number of edges alone. No record and no plan is known here.
+// Kinds and families are numbers here, and what is promised holds of any number (decision 173).
 ghost use Rattle.std.specs.Prelude.{◌≡◌, ◌*◌, ◌<◌, MatchOption};
 ghost use Rattle.model.specs.Exports.{length_for};
 

@@ -2,6 +2,7 @@
 
 // What the contour walk by marks puts for the record at each letter: letters for family 4, else tree bits and labels. It knows where they stand in the lent work
 // area, and by a mark whether a second comes next; no walk.
+// Kinds and families are numbers here, and what is promised holds of any number (decision 173).
 ghost use Rattle.std.specs.Prelude.{◌≡◌, ◌*◌, ◌≤◌, ◌<◌, length};
 ghost use Rattle.model.specs.Map.{opposite};
 ghost use Rattle.trace_puts.specs.Putting.{follows, down_put, first_put, up_put, second_put};

@@ -2,6 +2,7 @@
 
 // The steps of the contour walk by marks, one function for each letter. On going down to a vertex its darts are marked, once round; so a dart is marked exactly
 // when its vertex is seen. What the record is made of is put on the way (`trace_puts`). When which step is due, `tracing` knows.
+// Kinds and families are numbers here, and what is promised holds of any number (decision 173).
 ghost use Rattle.std.specs.Prelude.{◌≡◌, ℕ, ◌*◌, ◌≤◌, ◌<◌, length, get_or};
 ghost use Rattle.model.specs.Map.{vertex_of};
 ghost use Rattle.work.specs.Map.{WAITING};

@@ -2,6 +2,7 @@
 
 // The contour walk by marks, which says whether a plan fits a family; why it does not, is for others to say. The next letter is read off the mark of the opposite.
 // Edges outside the tree wait on a stack: the plan is planar if each ends on top of it.
+// Kinds and families are numbers here, and what is promised holds of any number (decision 173).
 ghost use Rattle.std.specs.Prelude.{◌≡◌, ◌≢◌, false, cond, ◌*◌, ◌≤◌, ◌<◌, eqb, length, get_or, replicate};
 ghost use Rattle.model.specs.Map.{next};
 ghost use Rattle.work.specs.Area.{region};

@@ -2,6 +2,7 @@
 
 // A payload taken apart: whether its padding bits and fill labels are 0 and its groups are a table's, and its labels by number, those of kind 2 put into
 // the lent work area. It knows digits and bytes and the inverse of a table; no heads of records, no letters, no words and no plans.
+// Kinds and families are numbers here, and what is promised holds of any number (decision 173).
 ghost use Rattle.std.specs.Prelude.{◌≡◌, true, ◌+◌, ◌-◌, ◌*◌, ◌^◌, ◌≤◌, ◌<◌, length, get_or, take, drop};
 ghost use Rattle.model.specs.Numbers.{all_below};
 ghost use Rattle.packing.specs.Unpack.{digits_of, bits, groups};

@@ -11,7 +11,7 @@ ghost use Rattle.word_builder.specs.Built.{Built};
 
 use builder::State;
 
-// The letter with the code x, which may come, where e edges have begun.
+// The letter with the code x, which may come, where e edges have begun. Tests in place of a match, which would need a last arm for codes that no letter has.
 fn step(w: &mut [u16], m: usize, s: State, e: usize, x: u16) -> State
     requires { Fits m w.old s e × Able (to_letter x) m (parts_at m w.old s) s e }
     ensures { Moved (to_letter x ∷ []) [] m w.old s e result (begun_after (to_letter x) e) w.new }

@@ -1,6 +1,7 @@
 #![tactic(auto)]
 
 // The refusals of writing before those of the plan itself, but 19, in the papers' order.
+// Kinds and families are numbers here, and what is promised holds of any number (decision 173).
 ghost use Rattle.std.specs.Prelude.{◌≡◌, ◌≤◌, length, not, ◌&&◌, ltb};
 ghost use Rattle.model.specs.Numbers.{is_permutation};
 ghost use Rattle.model.specs.Map.{stores_outside};

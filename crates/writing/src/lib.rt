@@ -1,6 +1,7 @@
 #![tactic(auto)]
 
 // The public call of writing: the refusals in the papers' order, the record, and a cleared work area.
+// Kinds and families are numbers here, and what is promised holds of any number (decision 173).
 ghost use Rattle.std.specs.Prelude.{◌≡◌, ◌*◌, ◌≤◌, length, replicate};
 ghost use Rattle.model.specs.Calls.{Wrote};
 ghost use Rattle.work.specs.Area.{region};
