@@ -4,16 +4,17 @@
 --   spot_over, spot_broken, spot_there, spot_full, spot_new    the spot of a record, way by way
 --   placed_refused, placed_there, placed_new    the answer and the shelf, by the spot
 --   new_fits              a new record has room
---   put_all               a record put into the shelf
-use mathlib.Core.Path.{◌≡◌, refl, ◌∙◌}
+--   put_turn, put_ends    the loop that puts a record into the shelf
+use mathlib.Core.Path.{◌≡◌, refl, ◌∙◌, ap}
 use mathlib.Core.Bool.{Bool, true, false, not, cond}
-use mathlib.Core.List.{List, ◌++◌}
+use mathlib.Core.List.{List, ◌++◌, append_assoc}
 use Prim.Native.Nat.{ℕ, ◌+◌, ◌-◌, ◌≤◌, ◌<◌}
 use native.Mathlib.Omega.{arith}
 use lib.Dec.{eqb}
 use lib.IntN.{pos}
-use lib.ListN.{length, take, drop}
-use borrow.Rule.Slice.PartMut.{put_mid}
+use native.Mathlib.Numerals.{add-one}
+use lib.ListN.{length, get_or, set, take, drop}
+use lib.Seq.{paste, paste-suc, take-length, drop-drop}
 use borrow.Author.Tests.{lt-ltb, le-ltb, eqb-true}
 use Rattle.std.specs.Prelude.{Option, Some, None, ok_or, Result, Ok, Err}
 use Rattle.model.specs.declared.Refusal.{Refusal}
@@ -142,6 +143,12 @@ module _ (r s : List ℕ) (u : ℕ) where
 
 -- ---- putting
 
-pub put_all : (s r new : List ℕ) (at k : ℕ) → new ≡ r → k ≡ length r → put_mid at k s new ≡ take at s ++ front r (drop at s)
-unfolding front
-put_all s r new at k e f = rw (e, f) refl
+module _ (d : List ℕ) (at : ℕ) (r : List ℕ) where
+  pub put_turn : (s : List ℕ) (i : ℕ) → s ≡ paste d at r i → at + i < length d → i < length r → set s (at + i) (get_or r i 0) ≡ paste d at r (i + 1)
+  put_turn s i e h k = ap (λ (l : List ℕ). set l (at + i) (get_or r i 0)) e ∙ (paste-suc d at r i 0 h k ∙ rw (sym (add-one i)))
+
+  pub put_ends : (s : List ℕ) (i : ℕ) → i ≡ length r → s ≡ paste d at r i → s ≡ take at d ++ front r (drop at d)
+  unfolding front
+  put_ends s i e p =
+      p ∙ (ap (paste d at r) e ∙ (ap (λ (x : List ℕ). take at d ++ x ++ drop (at + length r) d) (take-length r)
+      ∙ (append_assoc (take at d) r (drop (at + length r) d) ∙ ap (λ (x : List ℕ). take at d ++ (r ++ x)) (sym (drop-drop (length r) at d)))))

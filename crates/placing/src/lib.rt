@@ -39,7 +39,10 @@ fn put(shelf: &mut [u8], at: usize, record: &[u8])
     requires { at + length «record».now ≤ length shelf.old }
     ensures { shelf.new ≡ take at shelf.old ++ front «record».now (drop at shelf.old) }
 {
-    shelf[at..at + record.len()].copy_from_slice(record);
+    // not copy_from_slice: that is compiled to memmove, and the library may need no more than memset and memcpy
+    for i in 0..record.len() {
+        shelf[at + i] = record[i];
+    }
 }
 
 pub fn place(record: &[u8], shelf: &mut [u8], used: usize) -> Result<Shelved, Refusal>
