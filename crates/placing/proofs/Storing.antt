@@ -5,7 +5,7 @@
 --   placed_refused, placed_there, placed_new    the answer and the shelf, by the spot
 --   new_fits              a new record has room
 --   put_turn, put_ends    the loop that puts a record into the shelf
-use mathlib.Core.Path.{◌≡◌, refl, ◌∙◌, ap}
+use mathlib.Core.Path.{◌≡◌, refl, sym, ap, ◌∙◌}
 use mathlib.Core.Bool.{Bool, true, false, not, cond}
 use mathlib.Core.List.{List, ◌++◌, append_assoc}
 use Prim.Native.Nat.{ℕ, ◌+◌, ◌-◌, ◌≤◌, ◌<◌}
