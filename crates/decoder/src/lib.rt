@@ -88,9 +88,9 @@ fn run(payload: &[u8], family: u16, m: usize, w: &mut [u16]) -> bool
 }
 
 // The standard plan of a payload of kind 1 or 2, under the table with this inverse: whether there is one, and its rotation in the first 2m entries.
-pub fn decode(payload: &[u8], family: u16, inverse: &[u8; 256], m: usize, w: &mut [u16]) -> bool
+pub fn decode(payload: &[u8], family: u16, inverse: [u8; 256], m: usize, w: &mut [u16]) -> bool
     requires { (has_labels family ≡ true) × Sized family m payload.now × (32 * m ≤ length w.old) }
-    ensures { Answered (decode_labelled family m (undone inverse.now family m payload.now)) (2 * m) result w.new }
+    ensures { Answered (decode_labelled family m (undone inverse family m payload.now)) (2 * m) result w.new }
 {
     if !unpacker::unpack(payload, family, inverse, m, w) {
         return false;

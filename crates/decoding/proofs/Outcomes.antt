@@ -1,15 +1,17 @@
 -- Each way out of decoding a record whose head passes, at plain values.
 --
 --   checked_so, checked_none   where no refusal of a record but 8 and 13 holds, from that fact and to it
+--   checked_core, checked_under   so it is under each table that loading gives, by the fields of the head, and by another table
+--   under, spelt_under   tables with one inverse read alike
 --   read_so m x          what reading answers where there is a plan
 --   face_asked           where a word is found, what testing the outside asks
 --   core_read, core_unsound, core_unreadable   the ways out of a record of a kind other than 3
 --   planned_judged       where the plan stands in the work area, there is one
 --   verdict_early        a refusal that needs no payload
 --   mesh_had, mesh_not_had   the ways out of the verdict on a record of kind 3
-use Prim.Native.Nat.{ℕ, ◌*◌}
+use Prim.Native.Nat.{ℕ, ◌*◌, ◌≤◌}
 use native.Mathlib.Omega.{arith}
-use mathlib.Core.Path.{◌≡◌, refl, sym, ap₂, ◌∙◌}
+use mathlib.Core.Path.{◌≡◌, refl, sym, ap₂, subst, ◌∙◌}
 use mathlib.Core.Logic.{◌≢◌}
 use mathlib.Core.Bool.{Bool, true, false, ◌&&◌, true≢false}
 use mathlib.Core.List.{List}
@@ -25,9 +27,9 @@ use Rattle.model.specs.declared.ReadBack.{ReadBack}
 use Rattle.model.specs.Numbers.{all_below, is_permutation}
 use Rattle.model.specs.Map.{face_of, dart_count_fits}
 use Rattle.model.specs.Traversal.{Letter}
-use Rattle.model.specs.Shelf.{kind_of, edges_of, head_refusals}
+use Rattle.model.specs.Shelf.{kind_of, edges_of, passes, head_refusals}
 use Rattle.model.specs.Refusals.{number_of_refusal}
-use Rattle.model.specs.Calls.{record_refusals, record_refusal}
+use Rattle.model.specs.Calls.{table_refused, record_refusals, record_refusal}
 use Rattle.model.proofs.Booleans.{and_left, and_right, both}
 use Rattle.model.proofs.Numbered.{refused_so, refusal_some}
 use Rattle.model.proofs.Reading.{record_clear, clear_record}
@@ -41,7 +43,7 @@ use Rattle.coding.proofs.MeshRecords.{mesh_none_has, mesh_decodes_has, mesh_deco
 use Rattle.mesh_reading.specs.Stages.{Spelt}
 use Rattle.work.specs.Area.{region}
 use Rattle.builder.specs.Decoded.{Answered}
-use Rattle.decoding.specs.Planned.{Checked, Planned, planned, no_plan, Judged, had, not_had, Verdict, early}
+use Rattle.decoding.specs.Planned.{Checked, CheckedUnder, Planned, planned, no_plan, Judged, had, not_had, Verdict, early}
 
 pub checked_so : (t : Table) (h : Head) (r : List ℕ) (n : ℕ) → 0 ≡ record_refusal t r n → (h.kind ≡ kind_of r) × (h.edges ≡ edges_of r) → Checked t h r n
 checked_so t h r n none says =
@@ -50,6 +52,18 @@ checked_so t h r n none says =
 
 pub checked_none : (t : Table) (h : Head) (r : List ℕ) (n : ℕ) → Checked t h r n → record_refusal t r n ≡ 0
 checked_none t h r n k = clear_record t r n (record { stands = k.stands; passed = k.passed; room = k.room })
+
+module _ (t : Table) (stands : table_refused t ≡ false) (r : List ℕ) (n : ℕ) where
+  pub checked_core : passes r ≡ true → 32 * edges_of r ≤ n → (kind edges : ℕ) → kind ≡ kind_of r → edges ≡ edges_of r → Checked t (record { kind = kind; edges = edges }) r n
+  checked_core passed room kind edges k e = record { stands = stands; passed = passed; room = room; kind = k; edges = e }
+
+  pub checked_under : (inv : List ℕ) (h : Head) → CheckedUnder inv h r n → Checked t h r n
+  checked_under inv h (u, same, k) = record { stands = stands; passed = k.passed; room = k.room; kind = k.kind; edges = k.edges }
+
+-- a table with this inverse
+pub under : (t : Table) (inv r : List ℕ) (b : Bool) (w : List ℕ) → t.inverse ≡ inv → Answered (decode_record inv r) (2 * edges_of r) b w
+    → Answered (decode_record t.inverse r) (2 * edges_of r) b w
+under t inv r b w same = subst (λ (i : List ℕ). Answered (decode_record i r) (2 * edges_of r) b w) (sym same)
 
 abbrev pub read_so : ℕ → ℕ → Result ReadBack Refusal
 read_so m x = Ok (record { edges = m; outside = x })
@@ -108,6 +122,10 @@ verdict_early t r n e a q is =
     early (λ z. refusal_some e (q ∙ z)) (refused_so (pos 0) a e _ is q (first_lacks 10 (record_refusals t r n) refl refl))
 
 -- ---- a mesh
+
+pub spelt_under : (t : Table) (inv r : List ℕ) (m : ℕ) (b : Bool) (w w' : List ℕ) → t.inverse ≡ inv → Spelt (decode_mesh_record inv r) m b w w'
+    → Spelt (decode_mesh_record t.inverse r) m b w w'
+spelt_under t inv r m b w w' same = subst (λ (i : List ℕ). Spelt (decode_mesh_record i r) m b w w') (sym same)
 
 module _ (t : Table) (h : Head) (r : List ℕ) (n : ℕ) (k : Checked t h r n) (three : kind_of r ≡ 3) (b : Bool) (w w' : List ℕ)
     (spelt : Spelt (decode_mesh_record t.inverse r) h.edges b w w') where

@@ -11,11 +11,12 @@ use heads::Head;
 use model::{Refusal, Table};
 
 // The head of the record, or the first of 19, 1, 2, 3, 5, 7 that concerns it, with a work area of this length.
-pub fn checked(table: &Table, record: &[u8], work: usize) -> Result<Head, Refusal>
-    ensures number { number_of result ≡ record_refusal table.now «record».now work }
+pub fn checked(table: Table, record: &[u8], work: usize) -> Result<Head, Refusal>
+    ensures number { number_of result ≡ record_refusal table «record».now work }
     ensures fields { IfOk result (λ h. (h.kind ≡ kind_of «record».now) × (h.edges ≡ edges_of «record».now)) }
 {
-    table_test::check(table)?;
+    let stands = table_test::check(table);
+    stands?;
     let head = heads::parse(record)?;
     if work < 32 * head.edges as usize {
         return Err(Refusal::ShortWork);

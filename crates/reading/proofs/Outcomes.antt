@@ -1,10 +1,11 @@
 -- Each way out of reading, at plain values: n is the length of the work area.
 --
+--   mesh_under           tables with one inverse read a mesh alike
 --   mesh_read, mesh_unreadable   the ways out of reading a record of kind 3 whose head passes
 --   out_record, out_output, out_mesh, out_read, out_not_read   the ways out of reading
 use Prim.Native.Nat.{ℕ, ◌*◌, ◌<◌, ◌≤◌}
 use native.Mathlib.Omega.{arith}
-use mathlib.Core.Path.{◌≡◌, refl, sym, ap, ap₂, ◌∙◌}
+use mathlib.Core.Path.{◌≡◌, refl, sym, ap, ap₂, subst, ◌∙◌}
 use mathlib.Core.Bool.{Bool, true, false}
 use mathlib.Core.List.{List}
 use lib.IntN.{pos}
@@ -33,6 +34,10 @@ use Rattle.decoding.proofs.Outcomes.{checked_none, read_so}
 use Rattle.reading.specs.Planned.{MeshPlanned, mesh_planned, no_mesh}
 
 -- ---- a mesh
+
+pub mesh_under : (t : Table) (inv r : List ℕ) (b : Bool) (out out' : List ℕ) → t.inverse ≡ inv → MeshRead (decode_mesh_record inv r) b out out'
+    → MeshRead (decode_mesh_record t.inverse r) b out out'
+mesh_under t inv r b out out' same = subst (λ (i : List ℕ). MeshRead (decode_mesh_record i r) b out out') (sym same)
 
 module _ (t : Table) (h : Head) (r : List ℕ) (n : ℕ) (k : Checked t h r n) (three : kind_of r ≡ 3) (b : Bool) (out out' : List ℕ)
     (decoded : MeshRead (decode_mesh_record t.inverse r) b out out') where

@@ -5,26 +5,26 @@
 ghost use Rattle.std.specs.Prelude.{◌≡◌, ◌*◌, ◌≤◌, length};
 ghost use Rattle.model.specs.Shelf.{kind_of, edges_of};
 ghost use Rattle.model.specs.Calls.{Reads, ReadCall};
-ghost use Rattle.decoding.specs.Planned.{Checked};
-ghost use Rattle.reading.specs.Planned.{MeshPlanned};
+ghost use Rattle.decoding.specs.Planned.{CheckedUnder};
+ghost use Rattle.reading.specs.Planned.{MeshUnder};
 
 use heads::Head;
 use model::{ReadBack, Refusal, Table};
 
 // The standard plan of a record of kind 3 whose head passes, in the output, or 13. The work area is not cleared.
 fn read_mesh(
-    table: &Table,
+    inverse: [u8; 256],
     head: Head,
     record: &[u8],
     w: &mut [u16],
     out: &mut [u16],
 ) -> Result<ReadBack, Refusal>
-    requires checked { Checked table.now head «record».now (length w.old) }
+    requires checked { CheckedUnder inverse head «record».now (length w.old) }
     requires mesh { kind_of «record».now ≡ 3 }
     requires room { 2 * edges_of «record».now ≤ length out.old }
-    ensures { MeshPlanned table.now «record».now out.old result out.new }
+    ensures { MeshUnder inverse «record».now out.old result out.new }
 {
-    let found = mesh_reading::read(&record[6..], &table.inverse, head.edges as usize, w, out);
+    let found = mesh_reading::read(&record[6..], &inverse, head.edges as usize, w, out);
     if !found {
         return Err(Refusal::NoFitPlan);
     }
@@ -36,12 +36,12 @@ fn read_mesh(
 
 // The refusals of the record, 8, then 13, then the plan to the output.
 fn read_out(
-    table: &Table,
+    table: Table,
     record: &[u8],
     work: &mut [u16],
     out: &mut [u16],
 ) -> Result<ReadBack, Refusal>
-    ensures { Reads table.now «record».now (length work.old) out.old result out.new }
+    ensures { Reads table «record».now (length work.old) out.old result out.new }
 {
     let head = read_checks::checked(table, record, work.len())?;
     let m = head.edges as usize;
@@ -49,9 +49,9 @@ fn read_out(
         return Err(Refusal::ShortOutput);
     }
     if head.kind == 3 {
-        return read_mesh(table, head, record, work, out);
+        return read_mesh(table.inverse, head, record, work, out);
     }
-    let back = decoding::read_core(table, head, record, work)?;
+    let back = decoding::read_core(table.inverse, record, work)?;
     work::copy_front(work, 2 * m, out);
     Ok(back)
 }
@@ -65,7 +65,7 @@ pub fn read(
 ) -> Result<ReadBack, Refusal>
     ensures { ReadCall table «record».now work.old out.old result work.new out.new }
 {
-    let r = read_out(&table, record, work, out);
+    let r = read_out(table, record, work, out);
     work::clear(work);
     r
 }

@@ -15,7 +15,7 @@ pub fn shelve(
 ) -> Result<Shelved, Refusal>
     ensures { Stored table «record».now work.old shelf.old used result work.new shelf.new }
 {
-    let verdict = decoding::verdict(&table, record, work);
+    let verdict = decoding::verdict(table, record, work);
     work::clear(work);
     // document 01 asks for let .. else here, where ? would do
     let Err(refusal) = verdict else {

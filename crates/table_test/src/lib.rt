@@ -56,10 +56,10 @@ pub fn is_loaded(table: Table) -> bool
 }
 
 // Refusal 19, "a call is handed a table that loading never gives".
-pub fn check(table: &Table) -> Result<(), Refusal>
-    ensures { number_of result ≡ cond (table_refused table.now) 19 0 }
+pub fn check(table: Table) -> Result<(), Refusal>
+    ensures { number_of result ≡ cond (table_refused table) 19 0 }
 {
-    if is_loaded(*table) {
+    if is_loaded(table) {
         Ok(())
     } else {
         Err(Refusal::BadTable)

@@ -95,23 +95,23 @@ fn spread_groups(payload: &[u8], inverse: &[u8; 256], m: usize, w: &mut [u16])
     }
 }
 
-// Whether a payload of kind 2 is clean, and if so, its labels in the work area.
-fn unpack_groups(payload: &[u8], inverse: &[u8; 256], m: usize, w: &mut [u16]) -> bool
+// Whether a payload of kind 2 is clean, and if so, its labels in the work area. The inverse is handed down by value: it is copied only here.
+fn unpack_groups(payload: &[u8], inverse: [u8; 256], m: usize, w: &mut [u16]) -> bool
     requires { Sized 2 m payload.now × (32 * m ≤ length w.old) }
-    ensures { Unpacks 2 m inverse.now payload.now result w.new }
+    ensures { Unpacks 2 m inverse payload.now result w.new }
 {
-    let clean = groups_clean(payload, inverse, m);
+    let clean = groups_clean(payload, &inverse, m);
     if clean {
-        spread_groups(payload, inverse, m, w);
+        spread_groups(payload, &inverse, m, w);
     }
     clean
 }
 
 // Whether a payload is as it is laid out, and if so, its labels by number: those of kind 2 in the work area, so that whoever reads them one by one needs no
 // division; those of kind 1 stay in the payload.
-pub fn unpack(payload: &[u8], family: u16, inverse: &[u8; 256], m: usize, w: &mut [u16]) -> bool
+pub fn unpack(payload: &[u8], family: u16, inverse: [u8; 256], m: usize, w: &mut [u16]) -> bool
     requires { (has_labels family ≡ true) × Sized family m payload.now × (32 * m ≤ length w.old) }
-    ensures { Unpacks family m inverse.now payload.now result w.new }
+    ensures { Unpacks family m inverse payload.now result w.new }
 {
     if family == 1 {
         return zero_bits(payload, 3 * m, 8 * payload.len());

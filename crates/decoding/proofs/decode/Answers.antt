@@ -6,11 +6,11 @@ pub decode-requires-clause-le_m : goal.decode-requires-clause-le_m
 decode-requires-clause-le_m c = letters_asked _ _ _ c.requires.sized.0 c.requires.sized.1 (omega arith)
 
 pub returns-then-family-eq4 : goal.returns-then-family-eq4
-returns-then-family-eq4 c = letters_answered c.args.table.now.inverse _ _ c.args.payload.now _ _ (omega arith) c.decode.ensures
+returns-then-family-eq4 c = letters_answered c.args.inverse _ _ c.args.payload.now _ _ (omega arith) c.decode.ensures
 
 pub decode-requires-2 : goal.decode-requires-2
 decode-requires-2 c =
     (labels_asked _ _ _ c.requires.sized.0 c.requires.sized.1 (λ four. omega arith), c.requires.sized.0, c.requires.m_in_bounds)
 
 pub returns : goal.returns
-returns c = labels_answered c.args.table.now.inverse _ _ c.args.payload.now _ _ (λ four. omega arith) c.decode-2.ensures
+returns c = labels_answered c.args.inverse _ _ c.args.payload.now _ _ (λ four. omega arith) c.decode-2.ensures

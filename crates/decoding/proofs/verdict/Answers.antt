@@ -1,4 +1,4 @@
-use mathlib.Core.Path.{sym}
+use mathlib.Core.Path.{refl, sym, ◌∙◌}
 use Rattle.model.proofs.Numbered.{passed_on}
 use Rattle.decoding.specs.Planned.{decided}
 use Rattle.decoding.proofs.Outcomes.{checked_so, planned_judged, verdict_early}
@@ -8,13 +8,19 @@ pub returns-in_err-head : goal.returns-in_err-head
 returns-in_err-head c = verdict_early _ _ _ _ _ c.in_err-head.ensures.number (passed_on _ _ c.from_residual.ensures)
 
 pub judge_mesh-requires-clause-checked : goal.judge_mesh-requires-clause-checked
-judge_mesh-requires-clause-checked c = checked_so _ _ _ _ c.in_ok-head.ensures.number c.in_ok-head.ensures.fields
+judge_mesh-requires-clause-checked c = (c.args.table, refl, checked_so _ _ _ _ c.in_ok-head.ensures.number c.in_ok-head.ensures.fields)
 
 pub returns-then-head-eq3 : goal.returns-then-head-eq3
-returns-then-head-eq3 c = decided (sym c.in_ok-head.ensures.number) c.judge_mesh.ensures
+returns-then-head-eq3 c =
+    let k = checked_so _ _ _ _ c.in_ok-head.ensures.number c.in_ok-head.ensures.fields in
+    decided (sym c.in_ok-head.ensures.number) (c.judge_mesh.ensures _ k.stands refl)
 
-pub read_core-requires-clause-checked : goal.read_core-requires-clause-checked
-read_core-requires-clause-checked c = checked_so _ _ _ _ c.in_ok-head.ensures.number c.in_ok-head.ensures.fields
+pub read_core-requires : goal.read_core-requires
+read_core-requires c =
+    let k = checked_so _ _ _ _ c.in_ok-head.ensures.number c.in_ok-head.ensures.fields in
+    ((c.args.table, k.stands, refl), k.passed, k.room, λ three. c.if-head-eq3.false (k.kind ∙ three))
 
 pub returns : goal.returns
-returns c = decided (sym c.in_ok-head.ensures.number) (planned_judged _ _ _ _ c.read_core.ensures)
+returns c =
+    let k = checked_so _ _ _ _ c.in_ok-head.ensures.number c.in_ok-head.ensures.fields in
+    decided (sym c.in_ok-head.ensures.number) (planned_judged _ _ _ _ (c.read_core.ensures _ k.stands refl))

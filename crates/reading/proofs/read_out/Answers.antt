@@ -1,4 +1,5 @@
 use native.Mathlib.Omega.{arith}
+use mathlib.Core.Path.{refl, ◌∙◌}
 use Rattle.model.proofs.Numbered.{passed_on}
 use Rattle.decoding.specs.Planned.{Checked}
 use Rattle.decoding.proofs.Outcomes.{checked_so}
@@ -12,27 +13,29 @@ pub returns-then-out-m : goal.returns-then-out-m
 returns-then-out-m c = out_output _ _ _ _ (checked_so _ _ _ _ c.in_ok-head.ensures.number c.in_ok-head.ensures.fields) _ (omega arith)
 
 pub read_mesh-requires-clause-checked : goal.read_mesh-requires-clause-checked
-read_mesh-requires-clause-checked c = checked_so _ _ _ _ c.in_ok-head.ensures.number c.in_ok-head.ensures.fields
+read_mesh-requires-clause-checked c = (c.args.table, refl, checked_so _ _ _ _ c.in_ok-head.ensures.number c.in_ok-head.ensures.fields)
 
 pub returns-then-head-eq3 : goal.returns-then-head-eq3
 returns-then-head-eq3 c =
     let k = checked_so _ _ _ _ c.in_ok-head.ensures.number c.in_ok-head.ensures.fields in
-    out_mesh _ _ _ _ k _ c.if-out-m.false _ _ c.read_mesh.ensures
+    out_mesh _ _ _ _ k _ c.if-out-m.false _ _ (c.read_mesh.ensures _ k.stands refl)
 
-pub read_core-requires-clause-checked : goal.read_core-requires-clause-checked
-read_core-requires-clause-checked c = checked_so _ _ _ _ c.in_ok-head.ensures.number c.in_ok-head.ensures.fields
+pub read_core-requires : goal.read_core-requires
+read_core-requires c =
+    let k = checked_so _ _ _ _ c.in_ok-head.ensures.number c.in_ok-head.ensures.fields in
+    ((c.args.table, k.stands, refl), k.passed, k.room, λ three. c.if-head-eq3.false (k.kind ∙ three))
 
 pub returns-in_err-back : goal.returns-in_err-back
 returns-in_err-back c =
     let k = checked_so _ _ _ _ c.in_ok-head.ensures.number c.in_ok-head.ensures.fields in
-    out_not_read _ _ _ _ k _ c.if-out-m.false _ _ _ c.in_err-back.ensures (passed_on _ _ c.from_residual-in_err-back.ensures)
+    out_not_read _ _ _ _ k _ c.if-out-m.false _ _ _ (c.in_err-back.ensures _ k.stands refl) (passed_on _ _ c.from_residual-in_err-back.ensures)
 
 pub copy_front-requires : goal.copy_front-requires
 copy_front-requires c =
-    let k : Checked c.args.table.now c.in_ok-head.head c.args.«record».now _ = checked_so _ _ _ _ c.in_ok-head.ensures.number c.in_ok-head.ensures.fields in
+    let k : Checked c.args.table c.in_ok-head.head c.args.«record».now _ = checked_so _ _ _ _ c.in_ok-head.ensures.number c.in_ok-head.ensures.fields in
     (omega (arith, k.room, k.edges, c.read_core.auto.w), omega arith)
 
 pub returns : goal.returns
 returns c =
     let k = checked_so _ _ _ _ c.in_ok-head.ensures.number c.in_ok-head.ensures.fields in
-    out_read _ _ _ _ k _ c.if-out-m.false _ _ _ c.in_ok-back.ensures c.copy_front.ensures
+    out_read _ _ _ _ k _ c.if-out-m.false _ _ _ (c.in_ok-back.ensures _ k.stands refl) c.copy_front.ensures

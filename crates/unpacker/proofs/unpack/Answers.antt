@@ -19,8 +19,8 @@ pub returns-then-family-eq1 : goal.returns-then-family-eq1
 returns-then-family-eq1 c =
     let a = c.args in let f = c.if-family-eq1.true in
     record {
-      clean = c.zero_bits.ensures ∙ clean_one a.inverse.now _ _ a.payload.now f;
-      labels = λ e. labels_in_one _ _ _ _ f ∙ labels_own a.payload.now a.m a.inverse.now ∙ labels_of_kind a.payload.now a.m a.inverse.now _ _ f;
+      clean = c.zero_bits.ensures ∙ clean_one a.inverse _ _ a.payload.now f;
+      labels = λ e. labels_in_one _ _ _ _ f ∙ labels_own a.payload.now a.m a.inverse ∙ labels_of_kind a.payload.now a.m a.inverse _ _ f;
     }
 
 pub unpack_groups-requires : goal.unpack_groups-requires
@@ -29,4 +29,4 @@ unpack_groups-requires c = let p = c.requires in (of_kind _ _ _ _ (is_two (goal.
 pub returns : goal.returns
 returns c =
     let a = c.args in let v = c.unpack_groups in
-    subst (λ (f : ℕ). Unpacks f a.m a.inverse.now a.payload.now v.result v.new.w) (sym (is_two (goal.at.returns c).Else-family-eq1)) v.ensures
+    subst (λ (f : ℕ). Unpacks f a.m a.inverse a.payload.now v.result v.new.w) (sym (is_two (goal.at.returns c).Else-family-eq1)) v.ensures
