@@ -7,6 +7,7 @@
 --   fine_parts            where fetching is not refused: the used length, the used bytes, the number
 --   first_record_lem          the record at a walk's beginning is the fetched one
 --   begun_refused, begun_fine    the two ways that a walk begins
+--   none_fetched          a refused beginning, at the used length, is a refused fetching, of the empty part
 --   fetched_part          fetching, by the part at a beginning: its bytes, and which part of the shelf it is
 --   next_is, whole_part   the next place by a record's length; the used part of a shelf that is shorter
 use mathlib.Core.Path.{◌≡◌, refl, sym, ap, ◌∙◌}
@@ -124,6 +125,10 @@ module _ (s : List ℕ) (u n : ℕ) where
         part_is = p ∙ (ap (λ (r : List ℕ). record_at r at) e ∙ (ap (record_at (take u s)) b.place_is ∙ first_record_lem));
         number_is = b.number_is;
       }
+
+  -- refused, at the used length, it is the empty part
+  pub none_fetched : (x : ℕ) → Begun s u n u x → Fetched s u n [] x
+  none_fetched x b = fetched_there u x (take u s) [] b refl (sym (none_left s u))
 
 -- t is the used part of the shelf s, and r the part of t that is handed over
 pub fetched_part : (s : Bor (List ℕ)) (u n at x : ℕ) (t r : Bor (List ℕ)) → Begun s.now u n at x

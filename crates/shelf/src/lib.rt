@@ -2,10 +2,10 @@
 
 // The shelf: a lent byte slice with a used length, whose used bytes are records end to end. Fetching and walking look at heads and lengths only. The public
 // calls are `fetch`, `walk_begin`, `walk_length` and `walk_next`, and for the walker `used_part` and `next_place`; they have no `requires`.
-ghost use Rattle.std.specs.Prelude.{◌≡◌, length, take, MatchResult};
+ghost use Rattle.std.specs.Prelude.{◌≡◌, [], length, take, MatchResult};
 ghost use Rattle.std.specs.Result.{result_unwrap_or};
 ghost use Rattle.model.specs.Refusals.{number_of_refusal, number_of};
-ghost use Rattle.model.specs.Calls.{fetch_refusal};
+ghost use Rattle.model.specs.Calls.{fetch_refusal, Fetched};
 ghost use Rattle.model.specs.ShelfWalk.{record_at, next_place, Begun};
 ghost use Rattle.shelf.specs.Count.{shelf_count};
 ghost use Rattle.model.specs.Parts.{FetchedPart};
@@ -77,8 +77,10 @@ pub fn next_place(bytes: &[u8], at: usize) -> usize
 
 // ---- fetching: the first step of a walk
 
+// The part of the shelf that is record n. What a caller takes for it where it is refused is the empty part.
+#[tactic(auto, using(crate::proofs::Walking::none_fetched))]
 pub fn fetch<'a>(shelf: &'a [u8], used: usize, n: usize) -> Result<&'a [u8], Refusal>
-    ensures { MatchResult result (λ part. FetchedPart shelf.entry used n part 0) (λ e. fetch_refusal shelf.now used n ≡ number_of_refusal e) }
+    ensures { MatchResult result (λ part. FetchedPart shelf.entry used n part 0) (λ e. Fetched shelf.now used n [] (number_of_refusal e)) }
 {
     let at = walk_begin(shelf, used, n)?;
     Ok(records::record_at(used_part(shelf, used), at))
