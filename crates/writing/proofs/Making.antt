@@ -42,6 +42,7 @@ use Rattle.fit_plans.proofs.FitPlans.{fit_toured}
 use Rattle.forward.proofs.Labels.{opened_bound}
 use Rattle.marks.specs.Marks.{mark_of}
 use Rattle.fitting.specs.Judged.{late_refusal, verdict_of, Judged}
+use Rattle.fitting.proofs.Verdicts.{verdict_refused, verdict_fits}
 use Rattle.meshes.proofs.Meshes.{types_outside}
 use Rattle.tracing.specs.Tracing.{Sound, Fitting}
 use Rattle.outer_face.specs.Marks.{Marked}
@@ -263,12 +264,15 @@ module _ (t : Table) {bs : List ℕ} (p : Plan) {w out : List ℕ} {a : Result �
 
 module _ (k f : ℕ) {p : Plan} {w : List ℕ} {v : Result ℕ Refusal} {w₁ : List ℕ} (of : f ≡ family k) (judged : Judged f p w v w₁)
     (some : late_refusal (family k) p ≢ 0) where
-  found : v ≡ Err (numbered (late_refusal (family k) p) (characteristic p.rotation))
-  unfolding verdict_of
-  found = judged.answered ∙ ap (λ (g : ℕ). verdict_of g p) of ∙ rw (ne_eqb (late_refusal (family k) p) 0 some)
+  found : v ≡ verdict_of (family k) p
+  found = judged.answered ∙ ap (λ (g : ℕ). verdict_of g p) of
 
   pub told_err : IsErr v
-  told_err = rw found
+  told_err = go v found
+    where
+      go : (a : Result ℕ Refusal) → a ≡ verdict_of (family k) p → IsErr a
+      go (Ok n) e = absurd (some (verdict_fits (family k) p e).0)
+      go (Err x) e = refl
 
   pub told_refused : {e : Refusal} → v ≡ Err e → Refused k p w e w₁
-  told_refused {e} z = record { answered = (let q = sym z ∙ found in cc); kept = judged.kept }
+  told_refused z = record { answered = (verdict_refused (family k) p (sym z ∙ found)).1; kept = judged.kept }

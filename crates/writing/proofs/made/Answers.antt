@@ -7,7 +7,6 @@ use Rattle.model.proofs.Fitness.{count_parts}
 use Rattle.model.proofs.Numbered.{passed_on}
 use Rattle.write_checks.proofs.Refusing.{early_parts}
 use Rattle.writing.proofs.Making.{no_table, turned_away, Begun, walk_fits, made_laid, walk_unfit, made_refused}
-use borrow.Author.Rules.{rules}
 use Rattle.writing.proofs.made.Goals as goal
 use Rattle.writing.proofs.made.Goals.{Else-not-is_loaded, After-walked}
 
