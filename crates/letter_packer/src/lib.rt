@@ -49,7 +49,8 @@ pub fn put_payload(w: &[u16], m: usize, out: &mut [u8], at: usize)
     ensures { out.new ≡ placed at (letters_payload (letters_in (2 * m) w.now)) out.old }
 {
     put_full(w, m, out, at);
-    if m % 2 == 0 {
+    let even = m % 2 == 0;
+    if even {
         return;
     }
     out[at + m / 2] = two(w, 2 * m, 2 * m - 2) as u8;

@@ -18,7 +18,8 @@ pub fn is_face(w: &[u16], n: usize, x: usize) -> bool
     requires { (dart_count_fits n ≡ true) × (n ≤ length w.now) × (is_permutation (region 0 n w.now) ≡ true) }
     ensures { result ≡ (ltb x n && eqb (face_of (region 0 n w.now) x) x) }
 {
-    x == 0 || (x < n && outer_face::is_lowest(Rotation { order: &w[..n] }, x))
+    let zero = x == 0;
+    zero || (x < n && outer_face::is_lowest(Rotation { order: &w[..n] }, x))
 }
 
 // The number of the outside that a record of this kind names; 0 in a kind without it, no `None`: the theorems on `outside_of` have that number.

@@ -90,7 +90,8 @@ pub fn finish(w: &mut [u16], m: usize, s: State) -> Option<Outcome>
     if s.read < 2 * (m / 3) - 1 {
         return None;
     }
-    if s.height == 2 {
+    let two = s.height == 2;
+    if two {
         w[work::LETTERS * (2 * m) + s.put] = work::SECOND;
         w[work::LETTERS * (2 * m) + (s.put + 1)] = work::SECOND;
         return Some(Outcome::Whole);

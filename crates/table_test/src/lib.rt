@@ -37,7 +37,8 @@ fn leads_back(bytes: &[u8; 243], inverse: &[u8; 256]) -> bool
 pub fn leads_all_back(bytes: &[u8; 243], inverse: &[u8; 256]) -> bool
     ensures { result ≡ not (table_refused (record { bytes = bytes.now; inverse = inverse.now })) }
 {
-    marks(inverse) == 13 && leads_back(bytes, inverse)
+    let counted = marks(inverse) == 13;
+    counted && leads_back(bytes, inverse)
 }
 
 // The same of a table that is handed over by value.

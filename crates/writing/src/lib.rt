@@ -64,7 +64,8 @@ fn made(
     ensures { Made table kind (record { rotation = order.now; root = root; outside = outside })
         w.old out.old result w.new out.new }
 {
-    if !table_test::is_loaded(table) {
+    let bad_table = !table_test::is_loaded(table);
+    if bad_table {
         return Err(Refusal::BadTable);
     }
     let bytes = table.bytes; // lent alone: a table that is lent takes 256 bytes more of the stack

@@ -12,5 +12,5 @@ invariant_of-is_lowest c = record {
   entries = c.requires.2;
 }
 
-pub returns-then-x-eq0 : goal.returns-then-x-eq0
-returns-then-x-eq0 c = face_zero_is _ _ _ c.requires.0 c.if-x-eq0.true
+pub returns-then-zero : goal.returns-then-zero
+returns-then-zero c = face_zero_is _ _ _ c.requires.0 c.if-zero.true

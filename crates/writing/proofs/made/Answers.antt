@@ -8,10 +8,10 @@ use Rattle.model.proofs.Numbered.{passed_on}
 use Rattle.write_checks.proofs.Refusing.{early_parts}
 use Rattle.writing.proofs.Making.{no_table, turned_away, Begun, walk_fits, made_laid, walk_unfit, made_refused}
 use Rattle.writing.proofs.made.Goals as goal
-use Rattle.writing.proofs.made.Goals.{Else-not-is_loaded, After-walked}
+use Rattle.writing.proofs.made.Goals.{Else-bad_table, After-walked}
 
-stood : (c : Else-not-is_loaded) → table_refused c.args.table ≡ false
-stood c = not-true _ (sym c.is_loaded.ensures ∙ c.if-not-is_loaded.false)
+stood : (c : Else-bad_table) → table_refused c.args.table ≡ false
+stood c = not-true _ (sym c.is_loaded-bad_table.ensures ∙ c.if-bad_table.false)
 
 -- the early refusals are passed, and the plan is walked
 begun : (c : After-walked) →
@@ -19,8 +19,8 @@ begun : (c : After-walked) →
     c.entries_good-good.new.w c.walked.new.w c.walked.result
 begun c = record { kept = c.entries_good-good.auto.w; passes = sym c.in_ok-early.ensures; walk = c.walked.ensures }
 
-pub returns-then-not-is_loaded : goal.returns-then-not-is_loaded
-returns-then-not-is_loaded c = no_table (not-false _ (sym c.is_loaded.ensures ∙ c.if-not-is_loaded.true))
+pub returns-then-bad_table : goal.returns-then-bad_table
+returns-then-bad_table c = no_table (not-false _ (sym c.is_loaded-bad_table.ensures ∙ c.if-bad_table.true))
 
 pub early-requires : goal.early-requires
 early-requires c = λ l. c.entries_good-good.ensures.answer l
@@ -28,7 +28,7 @@ early-requires c = λ l. c.entries_good-good.ensures.answer l
 pub returns-in_err-early : goal.returns-in_err-early
 returns-in_err-early c =
     rw (passed_on _ _ c.from_residual.ensures)
-    (turned_away (stood (goal.at.returns-in_err-early c).Else-not-is_loaded) c.entries_good-good.auto.w c.in_err-early.ensures)
+    (turned_away (stood (goal.at.returns-in_err-early c).Else-bad_table) c.entries_good-good.auto.w c.in_err-early.ensures)
 
 pub invariant_of-rotation : goal.invariant_of-rotation
 invariant_of-rotation c = let q = early_parts _ _ _ _ (sym c.in_ok-early.ensures) in record { sized = q.count; entries = q.entries }
@@ -49,7 +49,7 @@ refused-requires c = walk_unfit (begun (goal.at.refused-requires c).After-walked
 pub returns-then-not-walked : goal.returns-then-not-walked
 returns-then-not-walked c =
     let at = goal.at.returns-then-not-walked c in
-    made_refused (begun at.After-walked) c.if-not-walked.true _ (stood at.Else-not-is_loaded) _ _ c.refused.ensures
+    made_refused (begun at.After-walked) c.if-not-walked.true _ (stood at.Else-bad_table) _ _ c.refused.ensures
 
 pub laid-requires : goal.laid-requires
 laid-requires c = walk_fits (begun (goal.at.laid-requires c).After-walked) c.if-not-walked.false
@@ -57,4 +57,4 @@ laid-requires c = walk_fits (begun (goal.at.laid-requires c).After-walked) c.if-
 pub returns : goal.returns
 returns c =
     let at = goal.at.returns c in
-    made_laid (begun at.After-walked) c.if-not-walked.false _ (stood at.Else-not-is_loaded) _ _ _ (c.laid.ensures c.args.table refl)
+    made_laid (begun at.After-walked) c.if-not-walked.false _ (stood at.Else-bad_table) _ _ _ (c.laid.ensures c.args.table refl)
