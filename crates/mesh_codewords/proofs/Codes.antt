@@ -65,7 +65,7 @@ head_below (zero ∷ []) t e q = cc
 head_below (zero ∷ b ∷ bs) t e q = let s : suc b ≡ t = cc in let h = below_head 2 b bs (below_tail 2 0 (b ∷ bs) e) in omega arith
 head_below (suc a ∷ bs) t e q = let s : 3 ≡ t = cc in omega arith
 
-head_fits : (xs : List ℕ) (t : ℕ) → code_head xs ≡ Some t → 2 - t / 3 ≤ length xs
+pub head_fits : (xs : List ℕ) (t : ℕ) → code_head xs ≡ Some t → 2 - t / 3 ≤ length xs
 unfolding code_head
 head_fits [] t q = cc
 head_fits (zero ∷ []) t q = cc
