@@ -6,6 +6,7 @@
 ghost use Rattle.std.specs.Prelude.{◌≤◌, length};
 
 use model::Refusal;
+use printing::GoesOn;
 use std::{array, io};
 
 // The longest work area, output and list that a case may have.
@@ -481,7 +482,7 @@ fn print_lines(rt: &impl Print) -> io::Result<()> {
     large_areas(rt)
 }
 
-// Output that cannot be written ends the run, which is no failure.
+// Output that cannot be written is no failure, and what comes after it is still written.
 fn main(rt: HostRuntime) {
-    let _ = print_lines(&rt);
+    let _ = print_lines(&GoesOn(&rt));
 }

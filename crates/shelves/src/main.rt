@@ -8,6 +8,7 @@ ghost use Rattle.model.specs.Parts.{CutOut};
 ghost use Rattle.model.specs.ShelfWalk.{next_place};
 
 use model::Refusal;
+use printing::GoesOn;
 use searching::Searched;
 use std::{fmt, io};
 use walker::Walker;
@@ -335,7 +336,7 @@ fn print_lines(rt: &impl Print) -> io::Result<()> {
     shelve_lent(rt)
 }
 
-// Output that cannot be written ends the run, which is no failure.
+// Output that cannot be written is no failure, and what comes after it is still written.
 fn main(rt: HostRuntime) {
-    let _ = print_lines(&rt);
+    let _ = print_lines(&GoesOn(&rt));
 }
