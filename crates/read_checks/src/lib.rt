@@ -10,7 +10,8 @@ ghost use Rattle.model.specs.Calls.{record_refusal};
 use heads::Head;
 use model::{Refusal, Table};
 
-// The head of the record, or the first of 19, 1, 2, 3, 5, 7 that concerns it, with a work area of this length.
+// The head of the record, or the first of 19, 1, 2, 3, 5, 7 that concerns it, with a work area of this length. Called by itself it hands both back through memory.
+#[inline(always)]
 pub fn checked(table: Table, record: &[u8], work: usize) -> Result<Head, Refusal>
     ensures number { number_of result ≡ record_refusal table «record».now work }
     ensures fields { IfOk result (λ h. (h.kind ≡ kind_of «record».now) × (h.edges ≡ edges_of «record».now)) }
