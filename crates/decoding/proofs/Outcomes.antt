@@ -1,6 +1,7 @@
 -- Each way out of decoding a record whose head passes, at plain values.
 --
 --   checked_so, checked_none   where no refusal of a record but 8 and 13 holds, from that fact and to it
+--   checked_ok           the same from what `read_checks::checked` answers
 --   checked_core, checked_under   so it is under each table that loading gives, by the fields of the head, and by another table
 --   under, spelt_under   tables with one inverse read alike
 --   read_so m x          what reading answers where there is a plan
@@ -11,7 +12,7 @@
 --   mesh_had, mesh_not_had   the ways out of the verdict on a record of kind 3
 use Prim.Native.Nat.{ℕ, ◌*◌, ◌≤◌}
 use native.Mathlib.Omega.{arith}
-use mathlib.Core.Path.{◌≡◌, refl, sym, ap₂, subst, ◌∙◌}
+use mathlib.Core.Path.{◌≡◌, refl, sym, ap, ap₂, subst, ◌∙◌}
 use mathlib.Core.Logic.{◌≢◌}
 use mathlib.Core.Bool.{Bool, true, false, ◌&&◌, true≢false}
 use mathlib.Core.List.{List}
@@ -19,7 +20,7 @@ use lib.Dec.{eqb, ltb}
 use lib.IntN.{pos}
 use lib.ListN.{length}
 use borrow.Author.Tests.{ltb-true, lt-ltb, eqb-true, eq-eqb}
-use Rattle.std.specs.Prelude.{Result, Ok, Err}
+use Rattle.std.specs.Prelude.{Result, Ok, Err, IfOk}
 use Rattle.model.specs.declared.Table.{Table}
 use Rattle.model.specs.declared.Refusal.{Refusal}
 use Rattle.model.specs.declared.Refusal.TheVariants.{NoFitPlan}
@@ -28,7 +29,7 @@ use Rattle.model.specs.Numbers.{all_below, is_permutation}
 use Rattle.model.specs.Map.{face_of, dart_count_fits}
 use Rattle.model.specs.Traversal.{Letter}
 use Rattle.model.specs.Shelf.{kind_of, edges_of, passes, head_refusals}
-use Rattle.model.specs.Refusals.{number_of_refusal}
+use Rattle.model.specs.Refusals.{number_of_refusal, number_of}
 use Rattle.model.specs.Calls.{table_refused, record_refusals, record_refusal}
 use Rattle.model.proofs.Booleans.{and_left, and_right, both}
 use Rattle.model.proofs.Numbered.{refused_so, refusal_some}
@@ -49,6 +50,11 @@ pub checked_so : (t : Table) (h : Head) (r : List ℕ) (n : ℕ) → 0 ≡ recor
 checked_so t h r n none says =
     let c = record_clear t r n (sym none) in
     record { stands = c.stands; passed = c.passed; room = c.room; kind = says.0; edges = says.1 }
+
+pub checked_ok : (t : Table) (h : Head) (r : List ℕ) (n : ℕ) (a : Result Head Refusal) → a ≡ Ok h → number_of a ≡ record_refusal t r n
+    → IfOk a (λ g. (g.kind ≡ kind_of r) × (g.edges ≡ edges_of r)) → Checked t h r n
+checked_ok t h r n a was number fields =
+    checked_so t h r n (ap number_of (sym was) ∙ number) (subst (λ (b : Result Head Refusal). IfOk b (λ g. (g.kind ≡ kind_of r) × (g.edges ≡ edges_of r))) was fields)
 
 pub checked_none : (t : Table) (h : Head) (r : List ℕ) (n : ℕ) → Checked t h r n → record_refusal t r n ≡ 0
 checked_none t h r n k = clear_record t r n (record { stands = k.stands; passed = k.passed; room = k.room })

@@ -31,4 +31,9 @@ impl<R: Print> Print for GoesOn<'_, R> {
         let _ = self.0.write_all(bytes);
         Ok(())
     }
+
+    // How many bytes are written is not made up.
+    fn write_some(&self, bytes: &[u8]) -> io::Result<usize> {
+        self.0.write_some(bytes)
+    }
 }

@@ -16,8 +16,10 @@ pub fn checked(table: Table, record: &[u8], work: usize) -> Result<Head, Refusal
     ensures number { number_of result ≡ record_refusal table «record».now work }
     ensures fields { IfOk result (λ h. (h.kind ≡ kind_of «record».now) × (h.edges ≡ edges_of «record».now)) }
 {
-    let stands = table_test::check(table);
-    stands?;
+    let bad_table = !table_test::is_loaded(table);
+    if bad_table {
+        return Err(Refusal::BadTable);
+    }
     let head = heads::parse(record)?;
     if work < 32 * head.edges as usize {
         return Err(Refusal::ShortWork);

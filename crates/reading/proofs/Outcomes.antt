@@ -75,13 +75,14 @@ module _ (t : Table) (h : Head) (r : List ℕ) (n : ℕ) (k : Checked t h r n) (
     out_mesh a out' (mesh_planned p has e o) = read clear p has e o
     out_mesh a out' (no_mesh never e o) = unreadable clear never e o
 
-    -- w is the work area that the core leaves
-    pub out_read : (w : List ℕ) (back : ReadBack) (out' : List ℕ) → Planned t r (Ok back) w → out' ≡ front (region 0 (2 * h.edges) w) out → Reads t r n out (Ok back) out'
-    unfolding standard_plan
-    out_read w back out' (planned p has e s) o =
-        read clear p has e (o ∙ ap (λ (j : ℕ). front (region 0 (2 * j) w) out) k.edges ∙ ap (λ (f : List ℕ). front f out) s)
-    out_read w back out' (no_plan never e) o = cc
+    -- w is the work area that the core leaves, and v its answer
+    module _ (w : List ℕ) (v : Result ReadBack Refusal) where
+      pub out_read : (back : ReadBack) (out' : List ℕ) → v ≡ Ok back → Planned t r v w → out' ≡ front (region 0 (2 * h.edges) w) out → Reads t r n out (Ok back) out'
+      unfolding standard_plan
+      out_read back out' was (planned p has e s) o =
+          read clear p has (sym was ∙ e) (o ∙ ap (λ (j : ℕ). front (region 0 (2 * j) w) out) k.edges ∙ ap (λ (f : List ℕ). front f out) s)
+      out_read back out' was (no_plan never e) o = cc (sym was ∙ e)
 
-    pub out_not_read : (w : List ℕ) (e : Refusal) (a : Result ReadBack Refusal) → Planned t r (Err e) w → a ≡ Err e → Reads t r n out a out
-    out_not_read w e a (planned p has q s) is = cc
-    out_not_read w e a (no_plan never q) is = unreadable clear never (is ∙ q) refl
+      pub out_not_read : (e : Refusal) (a : Result ReadBack Refusal) → v ≡ Err e → Planned t r v w → a ≡ Err e → Reads t r n out a out
+      out_not_read e a was (planned p has q s) is = cc (sym was ∙ q)
+      out_not_read e a was (no_plan never q) is = unreadable clear never (is ∙ sym was ∙ q) refl
