@@ -6,7 +6,7 @@ ghost use Rattle.std.specs.Prelude.{IsOk};
 use std::fmt::Display;
 use std::io;
 
-// Prints as what it holds does, and goes on where a write fails, which is no failure.
+// Prints as what it holds does, and goes on where a write fails, which is no failure but in `write_some`.
 #[derive(Drop)]
 pub struct GoesOn<'a, R>(pub &'a R);
 
@@ -32,7 +32,7 @@ impl<R: Print> Print for GoesOn<'_, R> {
         Ok(())
     }
 
-    // How many bytes are written is not made up.
+    // Of some bytes it is told how many were written, or that none were.
     fn write_some(&self, bytes: &[u8]) -> io::Result<usize> {
         self.0.write_some(bytes)
     }
